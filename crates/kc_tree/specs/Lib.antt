@@ -1,0 +1,9 @@
+pub mod Tristate
+pub mod SymbolValue
+pub mod TreeValue
+pub mod Nodes
+pub mod Uses
+pub mod Order
+pub mod Accepted
+pub mod Fits
+pub mod Inside

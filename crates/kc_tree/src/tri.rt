@@ -1,0 +1,46 @@
+ghost use Rattle.std.specs.Prelude.{◌≡◌};
+ghost use Rattle.kc_tree.specs.Tristate.{least, greatest, is_no};
+
+/// A tristate value, in the order n, m, y (kconfig-language.rst, "Menu dependencies").
+#[derive(Clone, Copy, Debug, PartialEq, Eq)]
+pub enum Tri {
+    /// `n`
+    No,
+    /// `m`
+    Module,
+    /// `y`
+    Yes,
+}
+
+impl Tri {
+    /// The lesser of two, which `&&` gives.
+    pub fn and(self, other: Tri) -> Tri
+        ensures { result ≡ least self other }
+    {
+        match (self, other) {
+            (Tri::No, _) | (_, Tri::No) => Tri::No,
+            (Tri::Module, _) | (_, Tri::Module) => Tri::Module,
+            (Tri::Yes, Tri::Yes) => Tri::Yes,
+        }
+    }
+
+    /// The greater of two, which `||` gives.
+    pub fn or(self, other: Tri) -> Tri
+        ensures { result ≡ greatest self other }
+    {
+        match (self, other) {
+            (Tri::Yes, _) | (_, Tri::Yes) => Tri::Yes,
+            (Tri::Module, _) | (_, Tri::Module) => Tri::Module,
+            (Tri::No, Tri::No) => Tri::No,
+        }
+    }
+
+    pub fn is_no(self) -> bool
+        ensures { result ≡ is_no self }
+    {
+        match self {
+            Tri::No => true,
+            Tri::Module | Tri::Yes => false,
+        }
+    }
+}

@@ -1,0 +1,11 @@
+use crate::tri::Tri;
+use kc_text::Text;
+
+/// A value that a user gives to a symbol.
+#[derive(Debug, Drop)]
+pub enum UserVal {
+    /// That of a bool or tristate symbol.
+    Tri(Tri),
+    /// That of a symbol of another type, as it is spelt.
+    Text(Text),
+}
