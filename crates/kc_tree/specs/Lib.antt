@@ -7,3 +7,4 @@ pub mod Order
 pub mod Accepted
 pub mod Fits
 pub mod Inside
+pub mod Reached

@@ -1,0 +1,40 @@
+-- Which values a user can give a symbol with an effect: Kconfiglib, "assignable", stated by the values shown.
+use Rattle.std.specs.Prelude.{Bool, true, false, ◌||◌, List, [], ◌∷◌, Some, filter, if◌then◌else◌}
+use Rattle.kc_tree.specs.declared.tri.Tri.{Tri}
+use Rattle.kc_tree.specs.declared.tri.Tri.TheVariants.{No, Module, Yes}
+use Rattle.kc_tree.specs.declared.symbol.SymId.{SymId}
+use Rattle.kc_tree.specs.declared.node.Node.TheVariants.{Vis, Val}
+use Rattle.kc_tree.specs.declared.user_value.UserVal.TheVariants.{Tri as TriVal}
+use Rattle.kc_tree.specs.TreeValue.{TreeValue}
+use Rattle.kc_tree.specs.Tristate.{is_no}
+use Rattle.kc_value.specs.Assignment.{Assignment, as_tri}
+use Rattle.kc_value.specs.UserValues.{UserValues, with_value}
+use Rattle.kc_value.specs.Rule.{rule}
+use Rattle.kc_value.specs.Solution.{solution}
+
+abbrev pub same_tri : Tri → Tri → Bool
+same_tri No No = true
+same_tri No Module = false
+same_tri No Yes = false
+same_tri Module No = false
+same_tri Module Module = true
+same_tri Module Yes = false
+same_tri Yes No = false
+same_tri Yes Module = false
+same_tri Yes Yes = true
+
+-- what the symbol would show with this user value, all else as it is
+abbrev pub shown_with : TreeValue → UserValues → Assignment → SymId → Tri → Tri
+shown_with t u a s v = as_tri (rule t (with_value u s (Some (TriVal v))) a (Val s))
+
+-- whether some value of a bool, n or y, would show this one
+abbrev pub is_shown_with_some : TreeValue → UserValues → Assignment → SymId → Tri → Bool
+is_shown_with_some t u a s w = same_tri (shown_with t u a s No) w || same_tri (shown_with t u a s Yes) w
+
+-- of a visible symbol, the values that it shows for some user value of its type; else none
+abbrev pub assignable_in : TreeValue → UserValues → Assignment → SymId → List Tri
+assignable_in t u a s =
+    if is_no (as_tri (a (Vis s))) then [] else filter (is_shown_with_some t u a s) (No ∷ Module ∷ Yes ∷ [])
+
+unfoldable pub assignable_values : TreeValue → UserValues → SymId → List Tri
+assignable_values t u s = assignable_in t u (solution t u) s

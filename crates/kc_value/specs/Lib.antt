@@ -1,0 +1,7 @@
+pub mod Assignment
+pub mod UserValues
+pub mod ExprValue
+pub mod Rule
+pub mod Solution
+pub mod Assignable
+pub mod Counting

@@ -1,0 +1,30 @@
+-- The solution: the assignment in which every node has the value that its rule gives. This project's own.
+use Rattle.std.specs.Prelude.{◌≡◌, ℕ, zero, suc}
+use Rattle.kc_tree.specs.declared.tri.Tri.TheVariants.{No}
+use Rattle.kc_tree.specs.declared.node.Node.{Node}
+use Rattle.kc_tree.specs.TreeValue.{TreeValue}
+use Rattle.kc_tree.specs.Nodes.{IsNodeOf, node_count}
+use Rattle.kc_value.specs.declared.value.Value.{Value}
+use Rattle.kc_value.specs.declared.value.Value.TheVariants.{Tri as Level}
+use Rattle.kc_value.specs.Assignment.{Assignment}
+use Rattle.kc_value.specs.UserValues.{UserValues}
+use Rattle.kc_value.specs.Rule.{rule}
+
+-- the equation that all nodes meet at once
+abbrev pub IsSolution : TreeValue → UserValues → Assignment → Type 0
+IsSolution t u a = (n : Node) → IsNodeOf t n → a n ≡ rule t u a n
+
+-- there is a solution, and each one gives every node the value that the other gives it
+pub record HasOneSolution (t : TreeValue) (u : UserValues) (a : Assignment) : Type 0 where
+  pub solves : IsSolution t u a
+  pub only : (b : Assignment) → IsSolution t u b → (n : Node) → IsNodeOf t n → b n ≡ a n
+
+-- the rule applied to all nodes at once, k times
+unfoldable pub applied : TreeValue → UserValues → ℕ → Assignment
+applied t u zero n = Level No
+applied t u (suc k) n = rule t u (applied t u k) n
+
+-- A name for the one solution of a tree without loop: no value changes any more once the rule was
+-- applied as often as there are nodes. That it is the one solution is a law, and a clause of `Fresh::node`.
+unfoldable pub solution : TreeValue → UserValues → Assignment
+solution t u = applied t u (node_count t)

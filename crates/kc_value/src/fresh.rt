@@ -1,0 +1,85 @@
+ghost use Rattle.std.specs.Prelude.{◌≡◌, IfOk};
+ghost use Rattle.kc_tree.specs.Nodes.{IsNodeOf};
+ghost use Rattle.kc_value.specs.Solution.{solution, HasOneSolution};
+
+use std::alloc::{AllocError, Global};
+
+use kc_tree::{Node, Tree, Tri};
+
+use crate::evaluation::apply_rule;
+use crate::resolver::Resolver;
+use crate::slots::empty_slots;
+use crate::user::User;
+use crate::value::Value;
+
+/// The value of a node: all nodes before it in the tree's order are evaluated, and nothing is kept.
+pub fn solve(alloc: Global, tree: &Tree, user: &User, node: Node) -> Result<Value, AllocError>
+    requires { IsNodeOf tree.now node }
+    ensures value { IfOk result (λ v. v ≡ solution tree.now user.now node) }
+    ensures solved { HasOneSolution tree.now user.now (solution tree.now user.now) }
+{
+    let count = tree.node_count();
+    let mut env = empty_slots(alloc, count)?;
+    for next in tree.order() {
+        let value = apply_rule(tree, user, env.as_slice(), *next);
+        if next.number() == node.number() {
+            return Ok(value);
+        }
+        env[next.number()] = Some(value);
+    }
+    unreachable!()
+}
+
+/// A resolver that keeps nothing from one call to the next.
+#[derive(Drop)]
+pub struct Fresh<'a> {
+    alloc: Global,
+    tree: &'a Tree,
+    user: &'a User,
+    answer: Value,
+}
+
+impl<'a> Fresh<'a> {
+    pub fn new(alloc: Global, tree: &'a Tree, user: &'a User) -> Fresh<'a>
+        ensures tree { result.tree.now ≡ tree.entry.now }
+        ensures user { result.user.now ≡ user.entry.now }
+    {
+        Fresh {
+            alloc,
+            tree,
+            user,
+            answer: Value::Tri(Tri::No),
+        }
+    }
+}
+
+impl<'a> Resolver for Fresh<'a> {
+    ghost tree_of = { λ r. r.tree.now };
+
+    ghost user_of = { λ r. r.user.now };
+
+    ghost grew = { λ _ _ _. Unit {0} };
+
+    ghost knows = { λ _ _. Unit {0} };
+
+    ghost grew_nothing = { λ r. tt };
+
+    ghost grew_then = { λ r s t p q g h. tt };
+
+    ghost grew_wider = { λ r s p q w g. tt };
+
+    ghost knows_after = { λ r s p n at k g. tt };
+
+    fn tree(&self) -> &Tree {
+        self.tree
+    }
+
+    fn user(&self) -> &User {
+        self.user
+    }
+
+    fn node(&mut self, node: Node) -> Result<&Value, AllocError> {
+        self.answer = solve(self.alloc, self.tree, self.user, node)?;
+        Ok(&self.answer)
+    }
+}

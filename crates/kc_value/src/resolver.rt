@@ -1,0 +1,52 @@
+ghost use Rattle.std.specs.Prelude.{◌≡◌, List, [], ◌∷◌, ◌++◌, IfOk, OnOk};
+ghost use Rattle.std.specs.Borrow.{sem};
+ghost use Rattle.std.specs.Io.BufRead.{Rests};
+ghost use Rattle.kc_tree.specs.declared.node.Node.{Node};
+ghost use Rattle.kc_tree.specs.TreeValue.{TreeValue};
+ghost use Rattle.kc_tree.specs.Nodes.{IsNodeOf};
+ghost use Rattle.kc_tree.specs.Reached.{Reached};
+ghost use Rattle.kc_value.specs.UserValues.{UserValues};
+ghost use Rattle.kc_value.specs.Solution.{solution};
+
+use std::alloc::AllocError;
+
+use kc_tree::{Node, Tree};
+
+use crate::user::User;
+use crate::value::Value;
+
+/// What answers with the values of a tree for the values of a user.
+pub trait Resolver {
+    /// The tree, as contracts see it.
+    ghost tree_of: { Self → TreeValue };
+
+    /// The user values, as contracts see them.
+    ghost user_of: { Self → UserValues };
+
+    /// What may have become of the resolver while the nodes of the list were asked.
+    ghost grew: { Self → Self → List Node → Type 0 };
+
+    /// That the value of the node is at hand.
+    ghost knows: { Self → Node → Type 0 };
+
+    fn tree(&self) -> &Tree
+        ensures { result.now ≡ tree_of self.now };
+
+    fn user(&self) -> &User
+        ensures { result.now ≡ user_of self.now };
+
+    /// The value of a node in the one solution. Tree and user values stay; only memory can be refused.
+    fn node(&mut self, node: Node) -> Result<&Value, AllocError>
+        requires { IsNodeOf (tree_of self.old) node }
+        ensures value { IfOk result (λ v. v.now ≡ solution (tree_of self.old) (user_of self.old) node) }
+        ensures* after_borrow { sem 𝓛 (Rests Self.row self.entry (λ new.
+            (tree_of new ≡ tree_of self.old) × (user_of new ≡ user_of self.old) × grew self.old new (node ∷ []) × OnOk result (knows new node))) };
+
+    ghost grew_nothing: { (r : Self) → grew r r [] };
+
+    ghost grew_then: { (r s t : Self) (p q : List Node) → grew r s p → grew s t q → grew r t (p ++ q) };
+
+    ghost grew_wider: { (r s : Self) (p q : List Node) → ((n : Node) → Reached (tree_of r) p n → Reached (tree_of r) q n) → grew r s p → grew r s q };
+
+    ghost knows_after: { (r s : Self) (p : List Node) (n : Node) → IsNodeOf (tree_of r) n → knows r n → grew r s p → knows s n };
+}

@@ -1,0 +1,17 @@
+ghost use Rattle.std.specs.Prelude.{◌≡◌, None, IfOk, replicate};
+
+use std::alloc::{AllocError, Global};
+
+/// A list of so many places with nothing in them.
+pub(crate) fn empty_slots<T: Drop>(
+    alloc: Global,
+    count: usize,
+) -> Result<Vec<Option<T>>, AllocError>
+    ensures { IfOk result (λ v. v.items ≡ replicate count None) }
+{
+    let mut slots = Vec::with_capacity(alloc, count)?;
+    for _ in 0..count {
+        slots.push(None)?;
+    }
+    Ok(slots)
+}
