@@ -1,5 +1,6 @@
 -- The nodes of a tree and their numbers: this project's own.
-use Rattle.std.specs.Prelude.{ℕ, ◌+◌, ◌*◌, ◌/◌, ◌%◌, ◌<◌, ◌==◌, if◌then◌else◌, length}
+use Rattle.std.specs.Prelude.{ℕ, ◌+◌, ◌*◌, ◌/◌, ◌%◌, ◌<◌, ◌==◌, if◌then◌else◌, List, length, map}
+use Rattle.std.specs.List.{range_with_len}
 use Rattle.kc_tree.specs.declared.node.Node.{Node}
 use Rattle.kc_tree.specs.declared.node.Node.TheVariants.{Vis, Val}
 use Rattle.kc_tree.specs.TreeValue.{TreeValue}
@@ -22,3 +23,7 @@ IsNodeOf t n = node_symbol n < length t.symbols
 
 abbrev pub node_count : TreeValue → ℕ
 node_count t = 2 * length t.symbols
+
+-- all nodes, by number
+abbrev pub all_nodes : TreeValue → List Node
+all_nodes t = map node_at (range_with_len 0 (node_count t))

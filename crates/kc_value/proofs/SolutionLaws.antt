@@ -1,13 +1,12 @@
 -- There is one solution, since the nodes have an order in which each stands after all that it uses.
-use Rattle.std.proofs.Common.{◌≡◌, ℕ, zero, suc, ◌+◌, ◌<◌, ◌≤◌, List, [], ◌∷◌, ◌++◌, Some, length, take, get_or, refl, sym, ap, ◌∙◌, subst, inl, inr, ⊎_elim, arith}
+use Rattle.std.proofs.Common.{◌≡◌, ℕ, zero, suc, ◌+◌, ◌<◌, ◌≤◌, List, [], ◌∷◌, ◌++◌, Some, length, take, get_or, refl, sym, ap, ◌∙◌, subst, ⊎_elim, arith}
 use Rattle.std.specs.List.{Contains, slice_get}
 use Rattle.std.proofs.lemmas.List.{take_more, take_all}
 use Rattle.std.proofs.lemmas.List.Elements.{Contains-push_cases, Contains-get_or}
 use Rattle.std.proofs.lemmas.Option.{slice_get-get_or}
 use Rattle.kc_tree.specs.declared.node.Node.{Node}
 use Rattle.kc_tree.specs.TreeValue.{TreeValue}
-use Rattle.kc_tree.specs.Nodes.{IsNodeOf, node_count, number_of}
-use Rattle.kc_tree.specs.Uses.{Uses}
+use Rattle.kc_tree.specs.Nodes.{IsNodeOf, node_count}
 use Rattle.kc_tree.specs.Order.{IsOrder}
 use Rattle.kc_tree.specs.Accepted.{IsAccepted}
 use Rattle.kc_tree.proofs.OrderLaws.{length_order}
@@ -35,13 +34,13 @@ module _ (t : TreeValue) (u : UserValues) where
         let more : take (suc i) order ≡ take i order ++ get_or order i n ∷ [] = ap (λ j. take j order) (sym one) ∙ take_more order i n inside in
         let in_more : Contains (take i order ++ get_or order i n ∷ []) n = subst (λ xs. Contains xs n) more c in
         ⊎_elim
-          (λ before. front n before (suc k) (omega arith))
-          (λ here.
-            let at : slice_get order i ≡ Some n = slice_get-get_or order i n inside ∙ ap Some here in
-            applied-suc k n
-            ∙ rule_agrees t u (applied t u k) (applied t u (suc k)) n (λ m uses. front m (ok.after_used i n m at uses) k (omega arith))
-            ∙ sym (applied-suc (suc k) n))
-          (Contains-push_cases (take i order) (get_or order i n) n in_more)
+        (λ before. front n before (suc k) (omega arith))
+        (λ here.
+        let at : slice_get order i ≡ Some n = slice_get-get_or order i n inside ∙ ap Some here in
+        applied-suc k n
+        ∙ rule_agrees t u (applied t u k) (applied t u (suc k)) n (λ m uses. front m (ok.after_used i n m at uses) k (omega arith))
+        ∙ sym (applied-suc (suc k) n))
+        (Contains-push_cases (take i order) (get_or order i n) n in_more)
 
     -- what meets the equation gives each node the same value
     unique : (a b : Assignment) → IsSolution t u a → IsSolution t u b → (i : ℕ) → i ≤ length order → (n : Node) → Contains (take i order) n → a n ≡ b n
@@ -53,14 +52,14 @@ module _ (t : TreeValue) (u : UserValues) where
         let more : take (suc i) order ≡ take i order ++ get_or order i n ∷ [] = ap (λ j. take j order) (sym one) ∙ take_more order i n inside in
         let in_more : Contains (take i order ++ get_or order i n ∷ []) n = subst (λ xs. Contains xs n) more c in
         ⊎_elim
-          (λ before. front n before)
-          (λ here.
-            let at : slice_get order i ≡ Some n = slice_get-get_or order i n inside ∙ ap Some here in
-            let node : IsNodeOf t n = ok.only n (subst (λ m. Contains order m) here (Contains-get_or order i n inside)) in
-            sa n node
-            ∙ rule_agrees t u a b n (λ m uses. front m (ok.after_used i n m at uses))
-            ∙ sym (sb n node))
-          (Contains-push_cases (take i order) (get_or order i n) n in_more)
+        (λ before. front n before)
+        (λ here.
+        let at : slice_get order i ≡ Some n = slice_get-get_or order i n inside ∙ ap Some here in
+        let node : IsNodeOf t n = ok.only n (subst (λ m. Contains order m) here (Contains-get_or order i n inside)) in
+        sa n node
+        ∙ rule_agrees t u a b n (λ m uses. front m (ok.after_used i n m at uses))
+        ∙ sym (sb n node))
+        (Contains-push_cases (take i order) (get_or order i n) n in_more)
 
     whole : (n : Node) → IsNodeOf t n → Contains (take (length order) order) n
     whole n h = subst (λ xs. Contains xs n) (sym (take_all (length order) order (omega arith))) (ok.all n h)

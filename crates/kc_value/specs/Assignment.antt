@@ -1,5 +1,5 @@
 -- What gives every node a value: this project's own.
-use Rattle.std.specs.Prelude.{ℕ, Bool, true, false, List, Option, Some, None, slice_index_or, unwrap_or}
+use Rattle.std.specs.Prelude.{Bool, false, List, Option, None, slice_index_or, unwrap_or}
 use Rattle.kc_tree.specs.declared.tri.Tri.{Tri}
 use Rattle.kc_tree.specs.declared.tri.Tri.TheVariants.{No}
 use Rattle.kc_tree.specs.declared.user_value.UserVal.TheVariants.{Tri as TriVal, Text}

@@ -1,6 +1,6 @@
 -- What a node gets from the values of the nodes that it uses: kconfig-language.rst, "Menu attributes",
 -- and the computation of Kconfiglib, cut down to bool symbols.
-use Rattle.std.specs.Prelude.{Bool, true, false, not, ◌||◌, List, Option, Some, None, slice_get, find, if◌then◌else◌}
+use Rattle.std.specs.Prelude.{Bool, not, ◌||◌, List, Option, Some, None, slice_get, find}
 use Rattle.std.specs.Option.{option_map_or}
 use Rattle.kc_tree.specs.declared.tri.Tri.{Tri}
 use Rattle.kc_tree.specs.declared.tri.Tri.TheVariants.{No, Module, Yes}

@@ -4,7 +4,6 @@ use Rattle.kc_tree.specs.declared.tri.Tri.TheVariants.{No}
 use Rattle.kc_tree.specs.declared.node.Node.{Node}
 use Rattle.kc_tree.specs.TreeValue.{TreeValue}
 use Rattle.kc_tree.specs.Nodes.{IsNodeOf, node_count}
-use Rattle.kc_value.specs.declared.value.Value.{Value}
 use Rattle.kc_value.specs.declared.value.Value.TheVariants.{Tri as Level}
 use Rattle.kc_value.specs.Assignment.{Assignment}
 use Rattle.kc_value.specs.UserValues.{UserValues}

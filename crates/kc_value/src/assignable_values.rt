@@ -4,12 +4,11 @@ ghost use Rattle.kc_tree.specs.declared.tri.Tri.TheVariants.{No, Yes};
 ghost use Rattle.kc_tree.specs.Tristate.{is_no};
 ghost use Rattle.kc_tree.specs.Nodes.{IsNodeOf};
 ghost use Rattle.kc_value.specs.Assignable.{assignable_values};
-
-use std::alloc::{AllocError, Global};
-
-use kc_tree::{Node, SymId, Tri};
+ghost use Rattle.kc_value.specs.UserValues.{IsUserFor};
 
 use crate::resolver::Resolver;
+use kc_tree::{Node, SymId, Tri};
+use std::alloc::{AllocError, Global};
 
 /// The values that a user can give a symbol with an effect, in the order n, m, y: none where it is not
 /// visible (Kconfiglib, "assignable").
@@ -18,7 +17,8 @@ pub fn assignable<R: Resolver>(
     resolver: &mut R,
     symbol: SymId,
 ) -> Result<Vec<Tri>, AllocError>
-    requires { IsNodeOf (R.tree_of resolver.old) (Vis symbol) }
+    requires inside { IsNodeOf (R.tree_of resolver.old) (Vis symbol) }
+    requires sized { IsUserFor (R.tree_of resolver.old) (R.user_of resolver.old) }
     ensures values { IfOk result
         (λ v. v.items ≡ assignable_values (R.tree_of resolver.old) (R.user_of resolver.old) symbol) }
     ensures tree { R.tree_of resolver.new ≡ R.tree_of resolver.old }

@@ -3,13 +3,12 @@ ghost use Rattle.kc_value.specs.Assignment.{assignment_of};
 ghost use Rattle.kc_value.specs.Counting.{raised};
 ghost use Rattle.kc_value.specs.Rule.{rule};
 
-use kc_tree::{Node, Tree, Tri};
-
 use crate::expr_value::node_tri;
 use crate::meter::Meter;
 use crate::symbol_value::{symbol_value, symbol_visibility};
 use crate::user::User;
 use crate::value::Value;
+use kc_tree::{Node, Tree, Tri};
 
 /// What the rule of a node gives over the values of the nodes that it uses, which stand in `env` by number.
 #[tactic(auto, unfolding(crate::specs::Rule::rule))]

@@ -3,9 +3,8 @@ ghost use Rattle.std.specs.Option.{option_copied};
 ghost use Rattle.kc_value.specs.Assignment.{as_tri, value_at, assignment_of};
 ghost use Rattle.kc_value.specs.ExprValue.{term_value, expr_value};
 
-use kc_tree::{Expr, Node, Term, Tri};
-
 use crate::value::Value;
+use kc_tree::{Expr, Node, Term, Tri};
 
 /// What a list by number has for a node.
 pub(crate) fn value_of(env: &[Option<Value>], node: Node) -> Option<&Value>

@@ -2,15 +2,13 @@ ghost use Rattle.std.specs.Prelude.{◌≡◌, IfOk};
 ghost use Rattle.kc_tree.specs.Nodes.{IsNodeOf};
 ghost use Rattle.kc_value.specs.Solution.{solution, HasOneSolution};
 
-use std::alloc::{AllocError, Global};
-
-use kc_tree::{Node, Tree, Tri};
-
 use crate::evaluation::apply_rule;
 use crate::resolver::Resolver;
 use crate::slots::empty_slots;
 use crate::user::User;
 use crate::value::Value;
+use kc_tree::{Node, Tree, Tri};
+use std::alloc::{AllocError, Global};
 
 /// The value of a node: all nodes before it in the tree's order are evaluated, and nothing is kept.
 pub fn solve(alloc: Global, tree: &Tree, user: &User, node: Node) -> Result<Value, AllocError>

@@ -15,7 +15,7 @@ mod value;
 pub use assignable_values::assignable;
 pub use evaluation::eval;
 pub use expr_value::tri;
-pub use fresh::Fresh;
+pub use fresh::{Fresh, solve};
 pub use meter::Meter;
 pub use resolver::Resolver;
 pub use user::User;

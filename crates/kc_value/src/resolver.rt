@@ -8,12 +8,10 @@ ghost use Rattle.kc_tree.specs.Reached.{Reached};
 ghost use Rattle.kc_value.specs.UserValues.{UserValues};
 ghost use Rattle.kc_value.specs.Solution.{solution};
 
-use std::alloc::AllocError;
-
-use kc_tree::{Node, Tree};
-
 use crate::user::User;
 use crate::value::Value;
+use kc_tree::{Node, Tree};
+use std::alloc::AllocError;
 
 /// What answers with the values of a tree for the values of a user.
 pub trait Resolver {

@@ -4,11 +4,10 @@ ghost use Rattle.kc_tree.specs.Tristate.{is_no};
 ghost use Rattle.kc_value.specs.Assignment.{assignment_of};
 ghost use Rattle.kc_value.specs.Rule.{in_bool, visibility, default_value, user_part, symbol_rule};
 
-use itertools::Itertools;
-use kc_tree::{Expr, Symbol, Tri, UserVal};
-
 use crate::expr_value::tri;
 use crate::value::Value;
+use itertools::Itertools;
+use kc_tree::{Expr, Symbol, Tri, UserVal};
 
 /// A bool knows no m: it stands for y.
 fn bool_value(value: Tri) -> Tri

@@ -2,12 +2,10 @@ ghost use Rattle.std.specs.Prelude.{◌≡◌, ◌<◌, length, None, Some, IfOk
 ghost use Rattle.std.specs.Option.{option_copied};
 ghost use Rattle.kc_value.specs.UserValues.{no_values, with_value, user_value};
 
+use crate::slots::empty_slots;
+use kc_tree::{SymId, Tree, UserVal};
 use std::alloc::{AllocError, Global};
 use std::marker::Model;
-
-use kc_tree::{SymId, Tree, UserVal};
-
-use crate::slots::empty_slots;
 
 /// The values that a user gave to the symbols of a tree. Contracts see a value or none for each symbol.
 #[derive(Debug, Drop)]

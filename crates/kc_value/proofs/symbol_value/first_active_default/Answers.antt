@@ -1,4 +1,4 @@
-use Rattle.std.proofs.Common.{◌≡◌, ℕ, not, Bool, List, Option, find, sym, ap, ◌∙◌, rules, Bor}
+use Rattle.std.proofs.Common.{ℕ, not, Bool, List, sym, ap, ◌∙◌, rules, Bor}
 use Rattle.std.specs.Option.{option_map}
 use Rattle.std.proofs.lemmas.Iterator.{YieldsList-from_slice}
 use Rattle.kc_tree.specs.declared.symbol.Term.{Term}

@@ -1,0 +1,68 @@
+-- Going along the order with a list of the values so far.
+use Rattle.std.proofs.Common.{◌≡◌, ℕ, ◌+◌, ◌<◌, List, Option, Some, None, unwrap_or, length, take, get_or, set, sym, ap, ◌∙◌, subst, ⊎_elim, get_or-set_same, get_or-set_other}
+use Rattle.std.specs.List.{Contains, slice_get}
+use Rattle.std.proofs.lemmas.Bool.{cases_eq}
+use Rattle.std.proofs.lemmas.List.{take_more}
+use Rattle.std.proofs.lemmas.List.Elements.{Contains-push_cases, Contains-get_or}
+use Rattle.std.proofs.lemmas.Option.{slice_get-get_or}
+use Rattle.kc_tree.specs.declared.node.Node.{Node}
+use Rattle.kc_tree.specs.declared.tri.Tri.TheVariants.{No}
+use Rattle.kc_tree.specs.TreeValue.{TreeValue}
+use Rattle.kc_tree.specs.Nodes.{IsNodeOf, node_count, number_of}
+use Rattle.kc_tree.specs.Order.{IsOrder}
+use Rattle.kc_tree.specs.Accepted.{IsAccepted}
+use Rattle.kc_tree.proofs.OrderLaws.{number_of-injective, number_of-below}
+use Rattle.kc_value.specs.declared.value.Value.{Value}
+use Rattle.kc_value.specs.declared.value.Value.TheVariants.{Tri as Level}
+use Rattle.kc_value.specs.Assignment.{assignment_of}
+use Rattle.kc_value.specs.UserValues.{UserValues}
+use Rattle.kc_value.specs.Rule.{rule}
+use Rattle.kc_value.specs.Solution.{solution}
+use Rattle.kc_value.proofs.Agreement.{rule_agrees}
+use Rattle.kc_value.proofs.SolutionLaws.{one_solution}
+
+module _ (t : TreeValue) (u : UserValues) (accepted : IsAccepted t) (order : List Node) (ok : IsOrder t order) (i : ℕ) (d : Node) (within : i < length order) where
+  abbrev next : Node
+  next = get_or order i d
+
+  at : slice_get order i ≡ Some next
+  at = slice_get-get_or order i d within
+
+  pub next_node : IsNodeOf t next
+  next_node = ok.only next (Contains-get_or order i d within)
+
+  abbrev Right : List (Option Value) → ℕ → Type 0
+  Right env k = (m : Node) → Contains (take k order) m → assignment_of env m ≡ solution t u m
+
+  -- the rule over the values of the nodes before gives the node its value
+  pub rule_next : (env : List (Option Value)) → Right env i → rule t u (assignment_of env) next ≡ solution t u next
+  rule_next env right =
+      rule_agrees t u (assignment_of env) (solution t u) next (λ m uses. right m (ok.after_used i next m at uses))
+      ∙ sym ((one_solution t u accepted).solves next next_node)
+
+  -- one more value that is right
+  pub right_next : (env : List (Option Value)) (v : Value) → length env ≡ node_count t → v ≡ solution t u next → Right env i → Right (set env (number_of next) (Some v)) (i + 1)
+  right_next env v long is right m c =
+      ⊎_elim same other (cases_eq (number_of m) (number_of next))
+    where
+      room : number_of next < length env
+      room = subst (λ k. number_of next < k) (sym long) (number_of-below t next next_node)
+
+      same : number_of m ≡ number_of next → assignment_of (set env (number_of next) (Some v)) m ≡ solution t u m
+      same e =
+          let one : m ≡ next = number_of-injective m next e in
+          ap (λ k. unwrap_or (get_or (set env (number_of next) (Some v)) k None) (Level No)) e
+          ∙ ap (λ o. unwrap_or o (Level No)) (get_or-set_same env (number_of next) (Some v) None room)
+          ∙ is ∙ ap (solution t u) (sym one)
+
+      other : (number_of m ≡ number_of next → ⊥) → assignment_of (set env (number_of next) (Some v)) m ≡ solution t u m
+      other differs =
+          ap (λ o. unwrap_or o (Level No)) (get_or-set_other env (number_of next) (number_of m) (Some v) None differs)
+          ∙ ⊎_elim (λ before. right m before) (λ here. absurd (differs (ap number_of (sym here))))
+          (Contains-push_cases (take i order) next m (subst (λ xs. Contains xs m) (take_more order i d within) c))
+
+  -- a node that is neither among the first places nor the next
+  pub not_next : (n : Node) → (Contains (take i order) n → ⊥) → (number_of next ≡ number_of n → ⊥) → Contains (take (i + 1) order) n → ⊥
+  not_next n before differs c =
+      ⊎_elim before (λ here. differs (ap number_of here))
+      (Contains-push_cases (take i order) next n (subst (λ xs. Contains xs n) (take_more order i d within) c))
