@@ -1,4 +1,4 @@
-ghost use Rattle.std.specs.Prelude.{◌≡◌, [], map, slice_index_or, length, Contains, ◌↔◌};
+ghost use Rattle.std.specs.Prelude.{◌≡◌, ◌<◌, IfSome, [], map, slice_index_or, length, Contains, ◌↔◌};
 ghost use Rattle.kc_tree.specs.TreeValue.{symbol_named, name_of};
 ghost use Rattle.kc_tree.specs.Nodes.{node_count, IsNodeOf};
 ghost use Rattle.kc_tree.specs.Uses.{Uses};
@@ -66,7 +66,8 @@ impl Tree {
 
     /// The symbol of a name.
     pub fn find(&self, name: &str) -> Option<SymId>
-        ensures { result ≡ symbol_named self.now name.now }
+        ensures symbol { result ≡ symbol_named self.now name.now }
+        ensures inside { IfSome result (λ s. s.0 < length self.now.symbols) }
     {
         let place = self.names.find(name)?;
         Some(SymId(place as u32))

@@ -1,0 +1,10 @@
+pub mod Commands
+pub mod Effect
+pub mod Held
+pub mod Input
+pub mod Output
+pub mod Reading
+pub mod Session
+pub mod ShowLine
+pub mod Stream
+pub mod Values

@@ -1,0 +1,18 @@
+-- This project's own: a session as contracts see it.
+use Rattle.std.specs.Prelude.{ℕ, List}
+use Rattle.kc_tree.specs.TreeValue.{TreeValue}
+use Rattle.kc_value.specs.UserValues.{UserValues, no_values}
+
+-- the tree, the user values, and the prefix of the names in files
+pub record SessionValue : Type 0 where
+  pub tree : TreeValue
+  pub user : UserValues
+  pub prefix : List ℕ
+
+-- a session of a tree without user values
+abbrev pub new_session : TreeValue → List ℕ → SessionValue
+new_session t prefix = record { tree = t; user = no_values t; prefix = prefix }
+
+-- the same but for the user values
+abbrev pub with_user : SessionValue → UserValues → SessionValue
+with_user s u = record { tree = s.tree; user = u; prefix = s.prefix }

@@ -1,0 +1,122 @@
+//! The bytes of a stream, one at a time, read in chunks.
+ghost use Rattle.std.specs.Prelude.{◌≡◌, ◌<◌, ◌≤◌, [], ◌++◌, option_to_list, IsSome, IsNone, IfOk, IfErr, OnErr, OnOk, OnSome};
+ghost use Rattle.std.specs.Io.KnownBytes.{prepend_known, Consumes, IsAtEnd};
+
+use crate::fault::IoFault;
+use std::io::Read;
+use std::marker::Model;
+
+/// The most reads that are made from one stream.
+pub(crate) const READ_LIMIT: u64 = 1 << 63;
+
+/// The bytes that one read may give.
+pub(crate) const CHUNK_LENGTH: usize = 4096;
+
+/// The bytes that were read from a stream and not yet taken.
+///
+/// To contracts it is those bytes, and a number that falls with each byte that is taken.
+#[derive(Drop)]
+pub(crate) struct Input {
+    chunk: [u8; CHUNK_LENGTH],
+    start: usize,
+    end: usize,
+    reads: u64,
+}
+
+impl Model for Input {
+    ghost use Rattle.std.specs.Prelude.{◌-◌, ◌≤◌, slice_range};
+    ghost use Rattle.kc_session.specs.Input.{Unread, budget_of, chunk_length, read_limit};
+
+    ghost Value = { Unread };
+
+    ghost view = { λ input. record {
+      bytes = slice_range input.chunk input.start input.end;
+      budget = budget_of input.reads (input.end - input.start);
+    } };
+
+    ghost invariant = { λ input. (input.start ≤ input.end) × (input.end ≤ chunk_length) × (input.reads ≤ read_limit) };
+}
+
+impl Input {
+    /// An input from which nothing was read yet.
+    pub(crate) fn new() -> Self
+        ensures { result.bytes ≡ [] }
+    {
+        Input {
+            chunk: [0; CHUNK_LENGTH],
+            start: 0,
+            end: 0,
+            reads: 0,
+        }
+    }
+
+    /// Takes the next byte of the stream, `None` at its end.
+    ///
+    /// # Errors
+    ///
+    /// `IoFault::Read` where the next chunk was wanted and could not be read, or would be past the last of 2^63 reads.
+    /// Nothing is taken then.
+    pub(crate) fn next_byte<R: Read>(&mut self, reader: &mut R) -> Result<Option<u8>, IoFault>
+        ensures taken { IfOk result (λ byte. Consumes
+            (prepend_known self.old.bytes (R.remaining reader.old))
+            (prepend_known self.new.bytes (R.remaining reader.new))
+            (option_to_list byte)) }
+        ensures end { IfOk result (λ byte. IsNone byte → IsAtEnd (prepend_known self.new.bytes (R.remaining reader.new))) }
+        ensures err { OnErr result (Consumes
+            (prepend_known self.old.bytes (R.remaining reader.old))
+            (prepend_known self.new.bytes (R.remaining reader.new))
+            []) }
+        ensures used_up { OnErr result (self.new.bytes ≡ []) }
+        ensures fault { IfErr result (λ fault. fault ≡ IoFault.Read) }
+        ensures budget { self.new.budget ≤ self.old.budget }
+        ensures progress { IfOk result (λ byte. IsSome byte → self.new.budget < self.old.budget) }
+    {
+        self.refill(reader)?;
+        Ok(self.pop())
+    }
+
+    // Reads the next chunk where the last one is used up.
+    fn refill<R: Read>(&mut self, reader: &mut R) -> Result<(), IoFault>
+        ensures kept { Consumes
+            (prepend_known self.old.bytes (R.remaining reader.old))
+            (prepend_known self.new.bytes (R.remaining reader.new))
+            [] }
+        ensures end { OnOk result (self.new.bytes ≡ [] → IsAtEnd (R.remaining reader.new)) }
+        ensures used_up { OnErr result (self.new.bytes ≡ []) }
+        ensures fault { IfErr result (λ fault. fault ≡ IoFault.Read) }
+        ensures budget { self.new.budget ≤ self.old.budget }
+    {
+        if self.start < self.end {
+            return Ok(());
+        }
+        if self.reads == READ_LIMIT {
+            return Err(IoFault::Read);
+        }
+        self.reads += 1;
+        self.start = 0;
+        self.end = 0;
+        match reader.read(&mut self.chunk) {
+            Ok(count) => {
+                self.end = count;
+                Ok(())
+            }
+            Err(_) => Err(IoFault::Read),
+        }
+    }
+
+    // Takes the first byte of the chunk, where one is left.
+    fn pop(&mut self) -> Option<u8>
+        ensures taken { self.old.bytes ≡ option_to_list result ++ self.new.bytes }
+        ensures end { IsNone result → (self.old.bytes ≡ []) × (self.new.bytes ≡ []) }
+        ensures budget { self.new.budget ≤ self.old.budget }
+        ensures progress { OnSome result (self.new.budget < self.old.budget) }
+    {
+        if self.start < self.end {
+            let byte = self.chunk[self.start];
+            self.start += 1;
+            Some(byte)
+        } else {
+            None
+        }
+    }
+}

@@ -1,0 +1,22 @@
+//! A session over a Kconfig tree, and the stream of commands that drives it.
+//!
+//! A stream is cut into lines, and each line is a command. Nothing is allocated once the line buffer is there, so a
+//! line is read, or refused as too long, with the memory that was reserved at the start.
+#![tactic(auto)]
+
+mod command;
+mod command_line;
+mod fault;
+mod input;
+mod line;
+mod reading;
+mod session;
+mod show;
+mod writing;
+
+pub use command::{Command, Refusal, Reply};
+pub use fault::IoFault;
+pub use session::Session;
+
+#[cfg(test)]
+mod tests;
