@@ -34,3 +34,27 @@ WritesPart-all old mid new bytes all kept =
 pub WritesPart-kept : (old mid new : Option (List ℕ)) (bytes rest : List ℕ) → WritesBefore old mid bytes rest → Keeps mid new → WritesPart old new bytes
 WritesPart-kept old mid new bytes rest before kept =
     record { rest = rest; writes = record { part = before.part; split = before.split; appends = Appends-kept old mid new before.part before.appends kept } }
+
+-- a beginning of the first of two pieces is one of both
+pub WritesPart-first : (old new : Option (List ℕ)) (first second : List ℕ) → WritesPart old new first → WritesPart old new (first ++ second)
+WritesPart-first old new first second w =
+    record {
+      rest = w.rest ++ second;
+      writes = record {
+        part = w.writes.part;
+        split = ap (λ bytes. bytes ++ second) w.writes.split ∙ append_assoc w.writes.part w.rest second;
+        appends = w.writes.appends;
+      };
+    }
+
+-- the first of two pieces, and a beginning of the second
+pub WritesPart-second : (old mid new : Option (List ℕ)) (first second : List ℕ) → Appends old mid first → WritesPart mid new second → WritesPart old new (first ++ second)
+WritesPart-second old mid new first second a w =
+    record {
+      rest = w.rest;
+      writes = record {
+        part = first ++ w.writes.part;
+        split = ap (λ bytes. first ++ bytes) w.writes.split ∙ sym (append_assoc first w.writes.part w.rest);
+        appends = Appends-trans old mid new first w.writes.part a w.writes.appends;
+      };
+    }

@@ -6,3 +6,5 @@ pub mod Lines
 pub mod Taking
 pub mod Unread
 pub mod Texts
+pub mod Serving
+pub mod RunSteps

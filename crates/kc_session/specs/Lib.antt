@@ -8,3 +8,6 @@ pub mod Session
 pub mod ShowLine
 pub mod Stream
 pub mod Values
+pub mod Replies
+pub mod Serving
+pub mod LineReply

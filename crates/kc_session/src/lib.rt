@@ -10,6 +10,8 @@ mod fault;
 mod input;
 mod line;
 mod reading;
+mod replies;
+mod run;
 mod session;
 mod show;
 mod writing;

@@ -24,8 +24,8 @@ pub(crate) fn write_all_of<W: Write>(writer: &mut W, bytes: &[u8]) -> Result<(),
     }
 }
 
-// Writes all the bytes, and does not flush.
-fn append_all<W: Write>(writer: &mut W, bytes: &[u8]) -> Result<(), IoFault>
+/// Writes all the bytes, and does not flush.
+pub(crate) fn append_all<W: Write>(writer: &mut W, bytes: &[u8]) -> Result<(), IoFault>
     ensures ok { OnOk result (Appends (W.contents writer.old) (W.contents writer.new) bytes.now) }
     ensures err { OnErr result (WritesPart (W.contents writer.old) (W.contents writer.new) bytes.now) }
     ensures fault { IfErr result (λ fault. fault ≡ IoFault.Write) }

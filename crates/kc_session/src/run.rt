@@ -1,0 +1,64 @@
+//! The serving of a whole stream of commands.
+ghost use Rattle.std.specs.Prelude.{◌≡◌, [], OnOk, IsErrOf};
+ghost use Rattle.kc_session.specs.Serving.{Serves, ServesAll, StopsReading, StopsWriting};
+
+use std::alloc::Global;
+use std::io::{Read, Write};
+
+use crate::fault::IoFault;
+use crate::input::Input;
+use crate::line::LineBuffer;
+use crate::reading::{LineRead, read_line};
+use crate::replies::answer_line;
+use crate::session::Session;
+
+/// Serves a stream of commands, each line one, until the stream ends. Each reply is written and flushed before
+/// the next line is read. After a read of no bytes nothing more is read.
+///
+/// # Errors
+///
+/// - `IoFault::Memory` where the line buffer was refused its memory. Nothing was read, written or done.
+/// - `IoFault::Read` where a read failed, or after 2^63 reads. All commands that were read completely were done,
+///   and their replies are written; a line that was cut is not run.
+/// - `IoFault::Write` where a write or flush failed, or a write took no byte. The commands up to and including
+///   that of the failed reply were done, and the replies before it and a beginning of its own are written.
+pub fn run<R: Read, W: Write>(
+    alloc: Global,
+    reader: &mut R,
+    writer: &mut W,
+    session: &mut Session,
+) -> Result<(), IoFault>
+    ensures ok { OnOk result (ServesAll (R.remaining reader.old) (R.remaining reader.new)
+        (W.contents writer.old) (W.contents writer.new) session.old session.new) }
+    ensures read { IsErrOf result IoFault.Read → StopsReading (R.remaining reader.old) (R.remaining reader.new)
+        (W.contents writer.old) (W.contents writer.new) session.old session.new }
+    ensures write { IsErrOf result IoFault.Write → StopsWriting (R.remaining reader.old)
+        (W.contents writer.old) (W.contents writer.new) session.old session.new }
+    ensures memory { IsErrOf result IoFault.Memory →
+        (reader.new ≡ reader.old) × (writer.new ≡ writer.old) × (session.new ≡ session.old) }
+{
+    let mut line = LineBuffer::new(alloc)?;
+    let mut input = Input::new();
+    serve(reader, writer, session, &mut input, &mut line)
+}
+
+/// Serves a stream with a line buffer, from an input of which nothing is unread.
+fn serve<R: Read, W: Write>(
+    reader: &mut R,
+    writer: &mut W,
+    session: &mut Session,
+    input: &mut Input,
+    line: &mut LineBuffer,
+) -> Result<(), IoFault>
+    requires { input.old.bytes ≡ [] }
+    ensures { Serves result (R.remaining reader.old) (R.remaining reader.new)
+        (W.contents writer.old) (W.contents writer.new) session.old session.new }
+{
+    loop {
+        match read_line(reader, input, line)? {
+            LineRead::Ended => answer_line(line.text(), writer, session)?,
+            LineRead::Unended => return answer_line(line.text(), writer, session),
+            LineRead::Nothing => return Ok(()),
+        }
+    }
+}
