@@ -1,3 +1,10 @@
 pub mod NamesLemmas
 pub mod OrderLaws
 pub mod ReachedLaws
+pub mod TermsLemmas
+pub mod StatementLemmas
+pub mod FaultLemmas
+pub mod ResultLemmas
+pub mod EntryLemmas
+pub mod SymbolLemmas
+pub mod Examples

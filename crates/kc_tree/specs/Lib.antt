@@ -1,4 +1,6 @@
 pub mod Tristate
+pub mod Terms
+pub mod Statements
 pub mod SymbolValue
 pub mod TreeValue
 pub mod Nodes
@@ -8,3 +10,5 @@ pub mod Accepted
 pub mod Fits
 pub mod Inside
 pub mod Reached
+pub mod TreeOf
+pub mod Faults

@@ -1,3 +1,6 @@
+ghost use Rattle.std.specs.Prelude.{◌≡◌};
+ghost use Rattle.kc_tree.specs.Faults.{problem_number};
+
 use crate::node::Node;
 use kc_text::Text;
 use thiserror::Error;
@@ -48,7 +51,9 @@ pub enum TreeFault {
 
 impl TreeProblem {
     /// The number that is printed, as 5 in `K05`.
-    pub fn number(self) -> u8 {
+    pub fn number(self) -> u8
+        ensures { result ≡ problem_number self }
+    {
         match self {
             TreeProblem::Limit => 1,
             TreeProblem::Malformed => 5,

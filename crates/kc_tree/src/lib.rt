@@ -1,10 +1,15 @@
 //! From logical lines to the tree of a Kconfig: its symbols, its nodes, and their order or a loop.
 #![tactic(auto)]
 
+mod entry_lines;
 mod fault;
+mod line_faults;
+mod lines;
 mod names;
 mod node;
+mod statement;
 mod symbol;
+mod symbols;
 mod tree;
 mod tri;
 mod user_value;

@@ -1,0 +1,115 @@
+use Rattle.std.proofs.Common.{◌≡◌, ◌<◌, ◌≤◌, length, slice_index, sym, ap, ◌∙◌, arith}
+use Rattle.std.proofs.lemmas.List.{get_or_read}
+use Rattle.kc_tree.specs.Graph.{row, Uses}
+use Rattle.kc_tree.specs.Search.{mark_of}
+use Rattle.kc_tree.specs.declared.graph.search.Mark.TheVariants.{New, Open}
+use Rattle.kc_tree.proofs.MarkLaws.{open-within}
+use Rattle.kc_tree.proofs.SearchSteps.{IsLoop-from_path, IsSound-enter, IsSound-finish, IsSound-pass, mark_read, steps_left-enter, steps_left-finish, steps_left-pass, top_open}
+use Rattle.kc_tree.proofs.graph.search.Search.step.Goals as goal
+use Rattle.kc_tree.proofs.graph.search.Search.step.Goals.{In-Open, In-Some, in-New+in_ok-enter-in-New, in-Done}
+
+-- the last of the path has a place in the marks
+inside : (c : In-Open) → c.args.top < length c.args.self.now.marks.items
+inside c =
+    let s = c.args.self.now in
+    let top = top_open c.args.graph.now s.marks.items s.path.items s.order.items c.args.top c.requires.sound c.requires.some c.requires.last in
+    open-within s.marks.items c.args.top _ top.0 top.1
+
+-- the last of the path is open, as its mark was read
+opened : (c : In-Open) → mark_of c.args.self.now.marks.items c.args.top ≡ Open c.in-Open.place c.in-Open.next
+opened c =
+    mark_read c.args.self.now.marks.items c.args.top c.index.result.now _ (inside c) c.index.ensures c.in-Open.is
+
+-- there is a use that was not passed
+more : (c : In-Some) → c.in-Open.next < length (row c.args.graph.now c.args.top)
+more c = omega (arith, c.in-Some.ensures.lookup.3.0, ap length c.row.ensures.nodes)
+
+use_at : (c : In-Some) → slice_index (row c.args.graph.now c.args.top) c.in-Open.next ≡ c.in-Some.field-0.now
+use_at c = rw c.row.ensures.nodes at (sym (c.in-Some.ensures.lookup.3.1 0))
+
+uses : (c : In-Some) → Uses c.args.graph.now c.args.top c.in-Some.field-0.now
+uses c =
+    (c.in-Open.next, more c, rw c.row.ensures.nodes at (sym (c.in-Some.ensures.lookup.3.1 c.in-Some.field-0.now)))
+
+used_within : (c : In-Some) → c.in-Some.field-0.now < length c.args.graph.now
+used_within c =
+    omega (arith, c.in-Some.ensures.lookup.3.1 0, c.row.ensures.within c.in-Open.next 0 c.in-Some.ensures.lookup.3.0)
+
+pub index-requires : goal.index-requires
+index-requires c =
+    let s = c.args.self.now in
+    let top = top_open c.args.graph.now s.marks.items s.path.items s.order.items c.args.top c.requires.sound c.requires.some c.requires.last in
+    omega (arith, open-within s.marks.items c.args.top _ top.0 top.1, s.marks.ok.0)
+
+pub unreachable-requires : goal.unreachable-requires
+unreachable-requires c =
+    let s = c.args.self.now in
+    let top = top_open c.args.graph.now s.marks.items s.path.items s.order.items c.args.top c.requires.sound c.requires.some c.requires.last in
+    let inside = open-within s.marks.items c.args.top _ top.0 top.1 in
+    c.in_default.not-Open _ _ (get_or_read s.marks.items c.args.top c.index.result.now inside c.index.ensures New ∙ top.1)
+
+pub row-requires : goal.row-requires
+row-requires c = omega (arith, inside (goal.at.row-requires c).In-Open, c.requires.sound.sized)
+
+pub finish-requires : goal.finish-requires
+finish-requires c = inside (goal.at.finish-requires c).In-Open
+
+pub returns-in_default-get-clause-sound : goal.returns-in_default-get-clause-sound
+returns-in_default-get-clause-sound c =
+    let s = c.args.self.now in
+    let h = (goal.at.returns-in_default-get-clause-sound c).In-Open in
+    let none : length (row c.args.graph.now c.args.top) ≤ c.in-Open.next = omega (arith, c.in_default-get.ensures.lookup.3, ap length c.row.ensures.nodes) in
+    rw (c.in_ok-finish.ensures.marks, c.in_ok-finish.ensures.path, c.in_ok-finish.ensures.order) (IsSound-finish c.args.graph.now s.marks.items s.path.items s.order.items c.args.top _ _ c.requires.sound c.requires.some c.requires.last (opened h) none)
+
+pub returns-in_default-get-clause-nearer : goal.returns-in_default-get-clause-nearer
+returns-in_default-get-clause-nearer c =
+    let s = c.args.self.now in
+    let h = (goal.at.returns-in_default-get-clause-nearer c).In-Open in
+    rw c.in_ok-finish.ensures.marks (steps_left-finish c.args.graph.now s.marks.items c.args.top _ _ _ (omega (arith, inside h, c.requires.sound.sized)) (inside h) (opened h))
+
+pub path_from-requires : goal.path_from-requires
+path_from-requires c =
+    let s = c.args.self.now in
+    let h = (goal.at.path_from-requires c).In-Some in
+    let m = mark_read s.marks.items c.in-Some.field-0.now c.index-2.result.now _ (omega (arith, used_within h, c.requires.sound.sized)) c.index-2.ensures c.in-Open-index.is in
+    omega (arith, (c.requires.sound.on_path c.in-Some.field-0.now _ _ m).0)
+
+pub returns-in-Open-index-clause-err : goal.returns-in-Open-index-clause-err
+returns-in-Open-index-clause-err c =
+    let s = c.args.self.now in
+    let h = (goal.at.returns-in-Open-index-clause-err c).In-Some in
+    let m = mark_read s.marks.items c.in-Some.field-0.now c.index-2.result.now _ (omega (arith, used_within h, c.requires.sound.sized)) c.index-2.ensures c.in-Open-index.is in
+    rw c.in_ok-path_from-in-Open-index.ensures (IsLoop-from_path c.args.graph.now s.marks.items s.path.items s.order.items c.args.top c.in-Some.field-0.now _ _ c.requires.sound c.requires.some c.requires.last (uses h) m)
+
+pub returns-clause-sound : goal.returns-clause-sound
+returns-clause-sound c =
+    let s = c.args.self.now in
+    let g = c.args.graph.now in
+    let h = (goal.at.returns-clause-sound c).In-Some in
+    let o = (goal.at.returns-clause-sound c).In-Open in
+    let used = c.in-Some.field-0.now in
+    let used_inside : used < length s.marks.items = omega (arith, used_within h, c.requires.sound.sized) in
+    elim c.match-index-2.branch [
+      | in-New+in_ok-enter-in-New w ↦
+          let new = mark_read s.marks.items used c.index-2.result.now New used_inside c.index-2.ensures w.in-New.is in
+          rw (w.self-is, w.in_ok-enter-in-New.ensures.marks, w.in_ok-enter-in-New.ensures.path, w.in_ok-enter-in-New.ensures.order) (IsSound-enter g s.marks.items s.path.items s.order.items used c.requires.sound (used_within h) new (λ _. rw c.requires.last (uses h)))
+      | in-Done w ↦
+          let done = mark_read s.marks.items used c.index-2.result.now _ used_inside c.index-2.ensures w.in-Done.is in
+          rw w.self-is (IsSound-pass g s.marks.items s.path.items s.order.items c.args.top _ _ w.in-Done.place c.requires.sound (opened o) (more h) (rw (use_at h) done))
+    ]
+
+pub returns-clause-nearer : goal.returns-clause-nearer
+returns-clause-nearer c =
+    let s = c.args.self.now in
+    let g = c.args.graph.now in
+    let h = (goal.at.returns-clause-nearer c).In-Some in
+    let o = (goal.at.returns-clause-nearer c).In-Open in
+    let used = c.in-Some.field-0.now in
+    let used_inside : used < length s.marks.items = omega (arith, used_within h, c.requires.sound.sized) in
+    elim c.match-index-2.branch [
+      | in-New+in_ok-enter-in-New w ↦
+          let new = mark_read s.marks.items used c.index-2.result.now New used_inside c.index-2.ensures w.in-New.is in
+          rw (w.self-is, w.in_ok-enter-in-New.ensures.marks) (steps_left-enter g s.marks.items used _ (used_within h) used_inside new)
+      | in-Done w ↦
+          rw w.self-is (steps_left-pass g s.marks.items c.args.top _ _ (omega (arith, inside o, c.requires.sound.sized)) (inside o) (opened o) (more h))
+    ]

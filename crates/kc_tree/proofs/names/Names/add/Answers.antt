@@ -1,0 +1,13 @@
+use Rattle.std.proofs.Common.{ℕ, List, [], ◌∷◌, ◌++◌, cond, map, ◌∙◌, ap}
+use Rattle.std.specs.List.{list_any}
+use Rattle.std.specs.Str.{bytes_eq}
+use Rattle.std.specs.String.{string_bytes}
+use Rattle.kc_tree.proofs.NamesLemmas.{names-insert_key}
+use Rattle.kc_tree.proofs.names.Names.add.Goals as goal
+
+pub returns-clause-added : goal.returns-clause-added
+returns-clause-added c =
+    ap (map string_bytes) c.in_ok-insert.ensures.keys
+    ∙ names-insert_key c.self.inside.set.keys c.in_ok-name.name
+    ∙ ap (λ (w : List ℕ). cond (list_any (bytes_eq w) (map string_bytes c.self.inside.set.keys)) (map string_bytes c.self.inside.set.keys) (map string_bytes c.self.inside.set.keys ++ w ∷ [])) c.in_ok-name.ensures.ok
+    ∙ ap (λ (names : List (List ℕ)). cond (list_any (bytes_eq c.args.name.now) names) names (names ++ c.args.name.now ∷ [])) c.self.view_is

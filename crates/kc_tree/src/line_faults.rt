@@ -1,0 +1,125 @@
+ghost use Rattle.std.specs.Prelude.{◌≡◌, ◌≤◌, [], ◌∷◌, ◌++◌, false, None, ◌&&◌, ◌||◌, if◌then◌else◌, length, OnOk, IfOk, IfErr};
+ghost use Rattle.kc_tree.specs.TreeOf.{config_name, is_attribute, is_config, is_type_line, names_of};
+ghost use Rattle.kc_tree.specs.Faults.{is_malformed, is_past_limit, problem_in, HasNoLineFault, IsLineFault, IsReadFault};
+
+use crate::entry_lines::{config_name, is_attribute, is_config, is_type_line};
+use crate::fault::{TreeFault, TreeProblem};
+use crate::names::Names;
+use crate::statement::{Keyword, read_keyword, read_statement};
+use kc_text::{Line, LineKind, Text};
+use std::alloc::{AllocError, Global};
+
+/// The number of symbols that a tree may have.
+const MOST_SYMBOLS: usize = 65_535;
+
+/// What is known of the lines so far.
+#[derive(Drop)]
+struct LinesSoFar {
+    names: Names,
+    /// Whether an attribute that came next would belong to an entry.
+    in_entry: bool,
+    /// Whether that entry has its `bool` line.
+    typed: bool,
+}
+
+impl LinesSoFar {
+    /// Before the first line.
+    fn new(alloc: Global) -> LinesSoFar
+        ensures names { result.names ≡ [] }
+        ensures in_entry { result.in_entry ≡ false }
+        ensures typed { result.typed ≡ false }
+    {
+        LinesSoFar {
+            names: Names::new(alloc),
+            in_entry: false,
+            typed: false,
+        }
+    }
+
+    /// Whether a line has no form, defines a name again or gives its entry a second type.
+    fn is_malformed(&self, line: &Line<'_>) -> bool
+        ensures { result ≡ is_malformed self.now.names self.now.typed line.now }
+    {
+        read_statement(line).is_none()
+            || is_config(line) && self.names.contains(config_name(line).as_str())
+            || is_type_line(line) && self.typed
+    }
+
+    /// Whether a line defines one symbol more than there may be.
+    fn is_past_limit(&self, line: &Line<'_>) -> bool
+        ensures { result ≡ is_past_limit self.now.names line.now }
+    {
+        is_config(line) && self.names.len() >= MOST_SYMBOLS
+    }
+
+    /// The problem of the line that comes next.
+    fn problem(&self, line: &Line<'_>) -> Option<TreeProblem>
+        ensures { result ≡ problem_in self.now.names self.now.in_entry self.now.typed line.now }
+    {
+        if line.kind() == LineKind::EndOfFile {
+            None
+        } else if is_attribute(line) && !self.in_entry {
+            Some(TreeProblem::StrayAttribute)
+        } else if self.is_malformed(line) {
+            Some(TreeProblem::Malformed)
+        } else if self.is_past_limit(line) {
+            Some(TreeProblem::Limit)
+        } else {
+            None
+        }
+    }
+
+    /// Goes past a line that has no problem.
+    fn take(&mut self, alloc: Global, line: &Line<'_>) -> Result<(), AllocError>
+        requires { problem_in self.old.names self.old.in_entry self.old.typed line.now ≡ None }
+        ensures names { OnOk result (self.new.names ≡ (if is_config line.now then self.old.names ++ config_name line.now ∷ [] else self.old.names)) }
+        ensures in_entry { OnOk result (self.new.in_entry ≡ (if is_attribute line.now then self.old.in_entry else is_config line.now)) }
+        ensures typed { OnOk result (self.new.typed ≡ (is_attribute line.now && (is_type_line line.now || self.old.typed))) }
+    {
+        match read_keyword(line) {
+            Some(Keyword::Config) => {
+                self.names.add(alloc, config_name(line).as_str())?;
+                self.in_entry = true;
+                self.typed = false;
+            }
+            Some(Keyword::Bool) => self.typed = true,
+            Some(Keyword::Default | Keyword::Depends) => {}
+            None => {
+                self.in_entry = false;
+                self.typed = false;
+            }
+        }
+        Ok(())
+    }
+}
+
+/// The fault of a line with a problem, or that its path could not be copied.
+fn line_fault(alloc: Global, problem: TreeProblem, line: &Line<'_>) -> TreeFault
+    ensures { IsLineFault problem line.now result }
+{
+    match Text::copy_of(alloc, line.path()) {
+        Ok(path) => TreeFault::Line {
+            problem,
+            path,
+            line: line.number(),
+        },
+        Err(_) => TreeFault::NoMemory,
+    }
+}
+
+/// The names of the symbols that lines define, or the fault of the first line with a problem.
+pub(crate) fn read_names(alloc: Global, lines: &[Line<'_>]) -> Result<Names, TreeFault>
+    ensures names { IfOk result (λ names. names ≡ names_of lines.now) }
+    ensures few { IfOk result (λ names. length names ≤ 65535) }
+    ensures faultless { OnOk result (HasNoLineFault lines.now) }
+    ensures fault { IfErr result (IsReadFault lines.now) }
+{
+    let mut so_far = LinesSoFar::new(alloc);
+    for line in lines {
+        if let Some(problem) = so_far.problem(line) {
+            return Err(line_fault(alloc, problem, line));
+        }
+        so_far.take(alloc, line).map_err(|_| TreeFault::NoMemory)?;
+    }
+    Ok(so_far.names)
+}

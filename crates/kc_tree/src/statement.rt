@@ -1,0 +1,216 @@
+ghost use Rattle.std.specs.Prelude.{◌≡◌, is_some};
+ghost use Rattle.std.specs.List.{list_all};
+ghost use Rattle.kc_tree.specs.Terms.{is_term, joined_terms, token_fits, words_of};
+ghost use Rattle.kc_tree.specs.Statements.{first_keyword, is_name, is_name_byte, is_reserved, keyword_named, keyword_of, statement_of, statement_after};
+
+use kc_text::{Line, LineKind, Operator, TextRef, Token};
+use std::marker::Model;
+
+/// What a line is by its first word.
+#[derive(Clone, Copy, Debug, PartialEq, Eq)]
+pub(crate) enum Keyword {
+    Config,
+    Bool,
+    Default,
+    Depends,
+}
+
+/// What a line says that has the form of a statement.
+#[derive(Drop)]
+pub(crate) enum Statement<'a> {
+    /// `config` and the name of a symbol.
+    Definition(TextRef<'a>),
+    /// `bool` and a prompt.
+    Prompt(TextRef<'a>),
+    /// `default` and a term.
+    DefaultValue(TextRef<'a>),
+    /// `depends on` and terms.
+    DependsOn(Terms<'a>),
+}
+
+/// Terms that `&&` joins, as the tokens of a line. Contracts see the list of their words.
+#[derive(Drop)]
+pub(crate) struct Terms<'a> {
+    tokens: &'a [Token<'a>],
+}
+
+impl<'a> Model for Terms<'a> {
+    ghost use Rattle.std.specs.Prelude.{List, ℕ};
+    ghost use Rattle.kc_tree.specs.Terms.{words_of};
+
+    ghost Value = { List (List ℕ) };
+
+    ghost view = { λ t. words_of t.tokens.now };
+}
+
+impl<'a> Terms<'a> {
+    /// The tokens, of which the words are the terms.
+    pub(crate) fn tokens(&self) -> &[Token<'a>]
+        ensures { words_of result.now ≡ self.now }
+    {
+        self.tokens
+    }
+}
+
+/// Whether a word names a symbol: one or more ASCII letters, digits and `_`, and not n, m, y or if.
+pub(crate) fn is_name(word: &str) -> bool
+    ensures { result ≡ is_name word.now }
+{
+    word != "" && are_name_bytes(word.as_bytes()) && !is_reserved(word)
+}
+
+/// Whether each byte may stand in a name.
+fn are_name_bytes(bytes: &[u8]) -> bool
+    ensures { result ≡ list_all is_name_byte bytes.now }
+{
+    bytes
+        .iter()
+        .all(|b| b.is_ascii_alphanumeric() || *b == b'_')
+}
+
+/// Whether a word that could name a symbol stands for something else.
+fn is_reserved(word: &str) -> bool
+    ensures { result ≡ is_reserved word.now }
+{
+    word == "n" || word == "m" || word == "y" || word == "if"
+}
+
+/// Whether a word is a term. `m` is refused until tristate values are read.
+fn is_term(word: &str) -> bool
+    ensures { result ≡ is_term word.now }
+{
+    !(word == "m" || word == "if")
+}
+
+fn keyword_named(word: &str) -> Option<Keyword>
+    ensures { result ≡ keyword_named word.now }
+{
+    if word == "config" {
+        Some(Keyword::Config)
+    } else if word == "bool" {
+        Some(Keyword::Bool)
+    } else if word == "default" {
+        Some(Keyword::Default)
+    } else if word == "depends" {
+        Some(Keyword::Depends)
+    } else {
+        None
+    }
+}
+
+/// What a line is by its first word; an end of file is nothing.
+pub(crate) fn read_keyword(line: &Line<'_>) -> Option<Keyword>
+    ensures { result ≡ keyword_of line.now }
+{
+    match line.kind() {
+        LineKind::Statement => first_keyword(line.tokens()),
+        LineKind::EndOfFile => None,
+    }
+}
+
+fn first_keyword(tokens: &[Token<'_>]) -> Option<Keyword>
+    ensures { result ≡ first_keyword tokens.now }
+{
+    match tokens.first()? {
+        Token::Word(word) => keyword_named(word.as_str()),
+        Token::Quoted(_) | Token::Operator(_) => None,
+    }
+}
+
+/// Whether a token may stand where a term is wanted, or where an operator is.
+fn token_fits(token: &Token<'_>, wants_term: bool) -> bool
+    ensures { result ≡ token_fits wants_term token.now }
+{
+    match token {
+        Token::Word(word) => wants_term && is_term(word.as_str()),
+        Token::Quoted(_) => false,
+        Token::Operator(Operator::And) => !wants_term,
+    }
+}
+
+/// Whether tokens are terms that `&&` joins.
+fn are_joined_terms(tokens: &[Token<'_>]) -> bool
+    ensures { result ≡ is_some (joined_terms tokens.now) }
+{
+    let mut wants_term = true;
+    for token in tokens {
+        if !token_fits(token, wants_term) {
+            return false;
+        }
+        wants_term = !wants_term;
+    }
+    !wants_term
+}
+
+/// What a line says, if it has the form of a statement.
+pub(crate) fn read_statement<'a>(line: &'a Line<'a>) -> Option<Statement<'a>>
+    ensures { result ≡ statement_of line.now }
+{
+    let keyword = read_keyword(line)?;
+    let (_, rest) = line.tokens().split_first()?;
+    read_after(keyword, rest)
+}
+
+/// What the tokens after a keyword say.
+fn read_after<'a>(keyword: Keyword, rest: &'a [Token<'a>]) -> Option<Statement<'a>>
+    ensures { result ≡ statement_after keyword rest.now }
+{
+    match keyword {
+        Keyword::Config => read_definition(rest),
+        Keyword::Bool => read_prompt(rest),
+        Keyword::Default => read_default(rest),
+        Keyword::Depends => read_depends(rest),
+    }
+}
+
+fn read_definition<'a>(rest: &'a [Token<'a>]) -> Option<Statement<'a>>
+    ensures { result ≡ statement_after Keyword.Config rest.now }
+{
+    let [token] = rest else {
+        return None;
+    };
+    match token {
+        Token::Word(name) if is_name(name.as_str()) => {
+            Some(Statement::Definition(TextRef::new(name.as_str())))
+        }
+        _ => None,
+    }
+}
+
+fn read_prompt<'a>(rest: &'a [Token<'a>]) -> Option<Statement<'a>>
+    ensures { result ≡ statement_after Keyword.Bool rest.now }
+{
+    let [token] = rest else {
+        return None;
+    };
+    match token {
+        Token::Quoted(prompt) => Some(Statement::Prompt(TextRef::new(prompt.as_str()))),
+        _ => None,
+    }
+}
+
+fn read_default<'a>(rest: &'a [Token<'a>]) -> Option<Statement<'a>>
+    ensures { result ≡ statement_after Keyword.Default rest.now }
+{
+    let [token] = rest else {
+        return None;
+    };
+    match token {
+        Token::Word(term) if is_term(term.as_str()) => {
+            Some(Statement::DefaultValue(TextRef::new(term.as_str())))
+        }
+        _ => None,
+    }
+}
+
+fn read_depends<'a>(rest: &'a [Token<'a>]) -> Option<Statement<'a>>
+    ensures { result ≡ statement_after Keyword.Depends rest.now }
+{
+    let (on, tokens) = rest.split_first()?;
+    match on {
+        Token::Word(on) if on.as_str() == "on" && are_joined_terms(tokens) => {
+            Some(Statement::DependsOn(Terms { tokens }))
+        }
+        _ => None,
+    }
+}
