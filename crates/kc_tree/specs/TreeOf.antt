@@ -1,5 +1,5 @@
 -- What logical lines define: kconfig-language.rst, "Menu entries", "Menu attributes" and "Menu dependencies", cut down to bool symbols.
-use Rattle.std.specs.Prelude.{ℕ, ◌<◌, Bool, true, false, List, [], ◌∷◌, Option, Some, None, option_and_then, unwrap_or, if◌then◌else◌, map, filter, filter_map, flat_map, take_while, position, slice_get, All, codes}
+use Rattle.std.specs.Prelude.{ℕ, Bool, true, false, List, [], ◌∷◌, Option, Some, None, option_and_then, unwrap_or, if◌then◌else◌, map, filter, filter_map, flat_map, take_while, position, slice_get, codes}
 use Rattle.std.specs.Option.{option_map_or}
 use Rattle.std.specs.Str.{bytes_eq}
 use Rattle.kc_text.specs.LineValue.{LineValue}
@@ -109,17 +109,3 @@ symbol_of names e = record {
 -- the symbols by number, with the terms of all the names
 abbrev pub symbols_of : List LineValue → List SymbolValue
 symbols_of lines = map (symbol_of (names_of lines)) (entries_of lines)
-
--- ---- terms by number
-abbrev pub IsKnown : ℕ → Term → Type 0
-IsKnown n (Tri v) = Unit {0}
-IsKnown n (Symbol s) = s.0 < n
-IsKnown n (Undefined w) = Unit {0}
-
--- the terms of a symbol name none but the first n symbols
-pub record HasTermsBelow (n : ℕ) (x : SymbolValue) : Type 0 where
-  pub defaults : All (All (IsKnown n)) x.defaults
-  pub dependencies : All (IsKnown n) x.dependencies
-
-abbrev pub HasKnownTerms : ℕ → List SymbolValue → Type 0
-HasKnownTerms n symbols = All (HasTermsBelow n) symbols

@@ -3,6 +3,7 @@ ghost use Rattle.kc_tree.specs.Faults.{problem_number};
 
 use crate::node::Node;
 use kc_text::Text;
+use std::alloc::AllocError;
 use thiserror::Error;
 
 /// What is wrong with a line or a symbol.
@@ -47,6 +48,17 @@ pub enum TreeFault {
     /// Memory was refused.
     #[error("memory")]
     NoMemory,
+}
+
+impl From<AllocError> for TreeFault {
+    ghost use Rattle.std.specs.Prelude.{◌≡◌};
+    ghost use Rattle.kc_tree.specs.declared.fault.TreeFault.TheVariants.{NoMemory};
+
+    ghost from_gives = { λ _ e. e ≡ NoMemory };
+
+    fn from(_error: AllocError) -> TreeFault {
+        TreeFault::NoMemory
+    }
 }
 
 impl TreeProblem {

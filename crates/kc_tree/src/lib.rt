@@ -3,8 +3,10 @@
 
 mod entry_lines;
 mod fault;
+mod graph;
 mod line_faults;
 mod lines;
+mod link;
 mod names;
 mod node;
 mod statement;
@@ -13,6 +15,7 @@ mod symbols;
 mod tree;
 mod tri;
 mod user_value;
+mod uses;
 
 pub use fault::{NamedNode, TreeFault, TreeProblem};
 pub use node::Node;

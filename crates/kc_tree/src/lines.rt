@@ -1,5 +1,6 @@
 ghost use Rattle.std.specs.Prelude.{◌≡◌, ◌≤◌, None, length, OnOk, IfOk, IfErr};
-ghost use Rattle.kc_tree.specs.TreeOf.{names_of, symbols_of, HasKnownTerms};
+ghost use Rattle.kc_tree.specs.TreeOf.{names_of, symbols_of};
+ghost use Rattle.kc_tree.specs.Known.{HasKnownTerms};
 ghost use Rattle.kc_tree.specs.Faults.{first_untyped, HasNoLineFault, IsReadFault};
 
 use crate::fault::TreeFault;
@@ -24,7 +25,7 @@ pub(crate) fn read_symbols(
     // What the nodes are made from.
     ensures few { IfOk result (λ r. length r.1.items ≤ 65535) }
     ensures named { IfOk result (λ r. length r.0 ≡ length r.1.items) }
-    ensures known { IfOk result (λ r. HasKnownTerms (length r.1.items) r.1.items) }
+    ensures known { IfOk result (λ r. HasKnownTerms r.1.items) }
 
     ensures fault { IfErr result (IsReadFault lines.now) }
 {

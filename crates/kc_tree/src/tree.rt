@@ -1,4 +1,4 @@
-ghost use Rattle.std.specs.Prelude.{◌≡◌, ◌<◌, IfSome, [], map, slice_index_or, length, Contains, ◌↔◌};
+ghost use Rattle.std.specs.Prelude.{◌≡◌, ◌<◌, IfSome, IfOk, IfErr, [], map, slice_index_or, length, Contains, ◌↔◌};
 ghost use Rattle.kc_tree.specs.TreeValue.{symbol_named, name_of};
 ghost use Rattle.kc_tree.specs.Nodes.{node_count, IsNodeOf};
 ghost use Rattle.kc_tree.specs.Uses.{Uses};
@@ -7,6 +7,8 @@ ghost use Rattle.kc_tree.specs.Accepted.{IsAccepted, HasEachEntry};
 ghost use Rattle.kc_tree.specs.Fits.{fits_bool};
 
 use crate::fault::TreeFault;
+use crate::lines::read_symbols;
+use crate::link::link;
 use crate::names::Names;
 use crate::node::Node;
 use crate::symbol::{SymId, Symbol};
@@ -27,12 +29,12 @@ pub enum Entry {
 /// order. Contracts see the names, the symbols and the entries.
 #[derive(Drop)]
 pub struct Tree {
-    names: Names,
-    symbols: Vec<Symbol>,
-    entries: Vec<Entry>,
-    order: Vec<Node>,
-    uses: Vec<Vec<Node>>,
-    used_by: Vec<Vec<Node>>,
+    pub(crate) names: Names,
+    pub(crate) symbols: Vec<Symbol>,
+    pub(crate) entries: Vec<Entry>,
+    pub(crate) order: Vec<Node>,
+    pub(crate) uses: Vec<Vec<Node>>,
+    pub(crate) used_by: Vec<Vec<Node>>,
 }
 
 impl Model for Tree {
@@ -58,10 +60,22 @@ fn row(table: &[Vec<Node>], number: usize) -> &[Node]
 }
 
 impl Tree {
-    /// Reads the tree of the logical lines.
-    pub fn parse(alloc: Global, lines: &[Line<'_>]) -> Result<Tree, TreeFault> {
-        let _ = (alloc, lines.len());
-        Err(TreeFault::NoMemory)
+    ghost use Rattle.kc_tree.specs.Parsed.{IsTreeOf, IsFaultOf};
+
+    /// Reads the tree of logical lines (kconfig-language.rst, "Menu entries").
+    ///
+    /// # Errors
+    ///
+    /// - `TreeFault::Line` with the first line that has not the form of a statement, or is at fault otherwise.
+    /// - `TreeFault::Symbol` where no line is at fault, with the first symbol that has no type.
+    /// - `TreeFault::Loop` where there is no other fault, with nodes that form a loop.
+    /// - `TreeFault::NoMemory` where memory was refused.
+    pub fn parse(alloc: Global, lines: &[Line<'_>]) -> Result<Tree, TreeFault>
+        ensures tree { IfOk result (IsTreeOf lines.now) }
+        ensures fault { IfErr result (IsFaultOf lines.now) }
+    {
+        let (names, symbols) = read_symbols(alloc, lines)?;
+        link(alloc, names, symbols)
     }
 
     /// The symbol of a name.
