@@ -1,1 +1,2 @@
+pub mod PrefixForm
 pub mod ConfigText

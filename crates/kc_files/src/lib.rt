@@ -1,8 +1,8 @@
-//! Stub.
+//! The texts that are made of a tree and its values: the `.config`.
 #![tactic(auto)]
 
-mod config_lines;
+mod config_file;
 mod prefix;
 
-pub use config_lines::config_text;
+pub use config_file::config_text;
 pub use prefix::{Prefix, PrefixFault};

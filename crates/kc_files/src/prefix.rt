@@ -1,35 +1,69 @@
-ghost use Rattle.std.specs.Prelude.{◌≡◌, IfOk};
+ghost use Rattle.std.specs.Prelude.{◌≡◌, ◌↔◌, false, IsTrue, IfOk};
+ghost use Rattle.std.specs.List.{list_all};
+ghost use Rattle.kc_files.specs.PrefixForm.{is_prefix_byte, is_prefix};
 
+use kc_text::Text;
 use std::alloc::Global;
 use std::marker::Model;
 
-use kc_text::Text;
+/// The most bytes that a prefix has.
+const MAX_BYTES: usize = 64;
 
-/// What stands before the names.
+/// What stands before the name of each symbol in the files, mostly `CONFIG_`. It has at most 64 bytes, each
+/// an ASCII letter, a digit or `_`. Contracts see its bytes.
 #[derive(Debug, Drop)]
 pub struct Prefix {
     text: Text,
 }
 
 impl Model for Prefix {
-    ghost use Rattle.std.specs.Prelude.{List, ℕ};
+    ghost use Rattle.std.specs.Prelude.{List, ℕ, IsTrue};
+    ghost use Rattle.kc_files.specs.PrefixForm.{is_prefix};
 
     ghost Value = { List ℕ };
 
     ghost view = { λ p. p.text };
+
+    ghost invariant = { λ p. IsTrue (is_prefix p.text) };
 }
 
 /// Why a text is no prefix.
-#[derive(Debug, Drop)]
+#[derive(Clone, Copy, Debug, PartialEq, Eq)]
 pub enum PrefixFault {
+    /// It is too long, or has a byte other than a letter, a digit and `_`.
     Malformed,
+    /// Memory was refused.
     NoMemory,
 }
 
+fn is_prefix_byte(byte: u8) -> bool
+    ensures { result ≡ is_prefix_byte byte }
+{
+    byte.is_ascii_alphanumeric() || byte == b'_'
+}
+
+fn has_prefix_bytes(text: &str) -> bool
+    ensures { result ≡ list_all is_prefix_byte text.now }
+{
+    text.as_bytes().iter().all(|byte| is_prefix_byte(*byte))
+}
+
+fn is_well_formed(text: &str) -> bool
+    ensures { result ≡ is_prefix text.now }
+{
+    text.len() <= MAX_BYTES && has_prefix_bytes(text)
+}
+
 impl Prefix {
+    /// The prefix of a text, which may be empty.
     pub fn new(alloc: Global, text: &str) -> Result<Prefix, PrefixFault>
-        ensures { IfOk result (λ p. p ≡ text.now) }
+        ensures prefix { IfOk result (λ p. p ≡ text.now) }
+        ensures malformed { (result ≡ Err PrefixFault.Malformed) ↔ (is_prefix text.now ≡ false) }
+        ensures no_memory { result ≡ Err PrefixFault.NoMemory → IsTrue (is_prefix text.now) }
     {
+        if !is_well_formed(text) {
+            return Err(PrefixFault::Malformed);
+        }
         match Text::copy_of(alloc, text) {
             Ok(text) => Ok(Prefix { text }),
             Err(_) => Err(PrefixFault::NoMemory),
@@ -37,8 +71,42 @@ impl Prefix {
     }
 
     pub fn as_str(&self) -> &str
-        ensures { result.now ≡ self.now }
+        ensures text { result.now ≡ self.now }
+        ensures valid { IsTrue (is_prefix self.now) }
     {
         self.text.as_str()
+    }
+}
+
+#[cfg(test)]
+mod tests {
+    use super::*;
+    use std::test::Fail;
+
+    #[test]
+    fn takes_letters_digits_and_underscores(rt: HostRuntime) -> Result<(), Fail> {
+        let longest = "A123456789B123456789C123456789D123456789E123456789F123456789_abc";
+        let too_long = "A123456789B123456789C123456789D123456789E123456789F123456789_abcd";
+        let cases = [
+            ("", true),
+            ("CONFIG_", true),
+            (longest, true),
+            (too_long, false),
+            ("A-B", false),
+            ("é", false),
+        ];
+        for (text, well_formed) in cases {
+            match Prefix::new(rt.alloc(), text) {
+                Ok(prefix) => {
+                    assert!(rt; well_formed, "{text}");
+                    assert_eq!(rt; prefix.as_str(), text);
+                }
+                Err(fault) => {
+                    assert!(rt; !well_formed, "{text}");
+                    assert!(rt; fault == PrefixFault::Malformed, "{text}");
+                }
+            }
+        }
+        Ok(())
     }
 }

@@ -1,13 +1,9 @@
 -- What a writer took of some bytes, write after write.
-use Rattle.std.proofs.Common.{◌≡◌, ℕ, ◌-◌, List, [], ◌++◌, length, take, drop, Option, refl, sym, ap, ◌∙◌, subst, append_assoc, append-nil, arith, length-drop, take-append-drop}
-use Rattle.std.specs.Io.KnownBytes.{Appends, Keeps}
-use Rattle.std.proofs.KnownBytes.{Appends-trans, Appends-nil, Appends-kept}
+use Rattle.std.proofs.Common.{◌≡◌, ℕ, ◌-◌, List, ◌++◌, length, take, drop, Option, sym, ap, ◌∙◌, append_assoc, arith, length-drop, take-append-drop}
+use Rattle.std.specs.Io.KnownBytes.{Appends}
+use Rattle.std.proofs.KnownBytes.{Appends-trans}
 use Rattle.std.proofs.lemmas.List.{take_all}
-use Rattle.kc_session.specs.Output.{WritesBefore, WritesPart}
-
--- nothing was taken yet
-pub WritesBefore-none : (at : Option (List ℕ)) (bytes : List ℕ) → WritesBefore at at bytes bytes
-WritesBefore-none at bytes = record { part = []; split = refl; appends = Appends-nil at }
+use Rattle.kc_session.specs.Output.{WritesBefore}
 
 -- a write took the first n bytes of the rest
 pub WritesBefore-more : (old mid new : Option (List ℕ)) (bytes rest : List ℕ) (n : ℕ) → WritesBefore old mid bytes rest → Appends mid new (take n rest)
@@ -19,21 +15,6 @@ WritesBefore-more old mid new bytes rest n before more =
       split = before.split ∙ ap (λ r. before.part ++ r) (sym (take-append-drop n rest) ∙ ap (λ r. take n rest ++ r) (sym all)) ∙ sym (append_assoc before.part (take n rest) _);
       appends = Appends-trans old mid new _ _ before.appends more;
     }
-
--- nothing is left to take
-pub Appends-from_before : (old new : Option (List ℕ)) (bytes rest : List ℕ) → WritesBefore old new bytes rest → rest ≡ [] → Appends old new bytes
-Appends-from_before old new bytes rest before none =
-    subst (Appends old new) (sym (before.split ∙ ap (λ r. before.part ++ r) none ∙ append-nil before.part)) before.appends
-
--- all was taken, and then nothing more
-pub WritesPart-all : (old mid new : Option (List ℕ)) (bytes : List ℕ) → Appends old mid bytes → Keeps mid new → WritesPart old new bytes
-WritesPart-all old mid new bytes all kept =
-    record { rest = []; writes = record { part = bytes; split = sym (append-nil bytes); appends = Appends-kept old mid new bytes all kept } }
-
--- a write that took nothing
-pub WritesPart-kept : (old mid new : Option (List ℕ)) (bytes rest : List ℕ) → WritesBefore old mid bytes rest → Keeps mid new → WritesPart old new bytes
-WritesPart-kept old mid new bytes rest before kept =
-    record { rest = rest; writes = record { part = before.part; split = before.split; appends = Appends-kept old mid new before.part before.appends kept } }
 
 -- a beginning of the first of two pieces is one of both
 pub WritesPart-first : (old new : Option (List ℕ)) (first second : List ℕ) → WritesPart old new first → WritesPart old new (first ++ second)

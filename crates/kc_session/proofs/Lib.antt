@@ -3,8 +3,8 @@ pub mod Cutting
 mod Examples
 pub mod Holding
 pub mod Lines
-pub mod Taking
-pub mod Unread
-pub mod Texts
-pub mod Serving
 pub mod RunSteps
+pub mod Serving
+pub mod Taking
+pub mod Texts
+pub mod Unread

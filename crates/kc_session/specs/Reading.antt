@@ -48,7 +48,7 @@ pub record StopsInLine (left after : Option (List ℕ)) : Type 0 where
   pub taken : Consumes left after part
   pub has_no_feed : has_feed part ≡ false
 
--- a line or the end of the stream was found
+-- a line was found, and not the end of the stream alone
 abbrev pub is_line : LineRead → Bool
 is_line Ended = true
 is_line Unended = true

@@ -1,7 +1,5 @@
-ghost use Rattle.std.specs.Prelude.{◌≡◌};
-
 use crate::text::Text;
-use std::alloc::AllocError;
+use std::alloc::{AllocError, AllocFailed, Global};
 
 /// What is wrong with a text.
 #[derive(Debug, Drop)]
@@ -26,13 +24,55 @@ pub enum TextFault {
 }
 
 impl TextProblem {
+    ghost use Rattle.std.specs.Prelude.{◌≡◌};
+    ghost use Rattle.kc_text.specs.Faults.{number_of};
+
     /// The number that is printed, as 3 in `K03`.
-    pub fn number(&self) -> u8 {
+    pub fn number(&self) -> u8
+        ensures { result ≡ number_of self.now }
+    {
         match self {
             TextProblem::Limit => 1,
             TextProblem::BadCharacter => 2,
             TextProblem::UnclosedQuote => 3,
             TextProblem::MissingSource(_) => 8,
         }
+    }
+}
+
+impl TextFault {
+    ghost use Rattle.std.specs.Prelude.{◌≡◌};
+    ghost use Rattle.kc_text.specs.Faults.{IsFaultAt};
+
+    /// A problem at a line of a file, with a copy of the file's path: `NoMemory` where that is refused.
+    pub(crate) fn at(alloc: Global, problem: TextProblem, path: &str, line: usize) -> TextFault
+        ensures { IsFaultAt result problem path.now line }
+    {
+        match Text::copy_of(alloc, path) {
+            Ok(path) => TextFault::At(problem, path, line),
+            Err(_) => TextFault::NoMemory,
+        }
+    }
+}
+
+impl From<AllocError> for TextFault {
+    ghost use Rattle.std.specs.Prelude.{◌≡◌};
+    ghost use Rattle.kc_text.specs.declared.fault.TextFault.TheVariants.{NoMemory};
+
+    ghost from_gives = { λ _ fault. fault ≡ NoMemory };
+
+    fn from(_refused: AllocError) -> TextFault {
+        TextFault::NoMemory
+    }
+}
+
+impl<T: Drop> From<AllocFailed<T>> for TextFault {
+    ghost use Rattle.std.specs.Prelude.{◌≡◌};
+    ghost use Rattle.kc_text.specs.declared.fault.TextFault.TheVariants.{NoMemory};
+
+    ghost from_gives = { λ _ fault. fault ≡ NoMemory };
+
+    fn from(_refused: AllocFailed<T>) -> TextFault {
+        TextFault::NoMemory
     }
 }

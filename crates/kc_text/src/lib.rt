@@ -4,8 +4,10 @@
 mod fault;
 mod line;
 mod lines;
+mod scan;
 mod sources;
 mod text;
+mod tokens;
 mod vars;
 
 pub use fault::{TextFault, TextProblem};
@@ -14,3 +16,6 @@ pub use lines::logical_lines;
 pub use sources::Sources;
 pub use text::{Text, TextRef};
 pub use vars::Vars;
+
+#[cfg(test)]
+mod tests;

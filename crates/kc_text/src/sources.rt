@@ -1,17 +1,108 @@
+//! The files that lines are read from.
+
+ghost use Rattle.std.specs.Prelude.{◌≡◌, ◌+◌, ℕ, List, [], length, nat_le, if◌then◌else◌, MatchOption, OnOk, OnErr};
+ghost use Rattle.std.specs.Str.{bytes_eq};
+ghost use Rattle.kc_text.specs.FileList.{file_list};
+ghost use Rattle.kc_text.specs.Faults.{GivesAfter};
+ghost use Rattle.kc_text.specs.Sources.{added, count_with, other_bytes, keeps_limits, text_of};
+
+use crate::fault::{TextFault, TextProblem};
 use std::alloc::Global;
 use std::collections::BTreeMap;
+use std::marker::Model;
 
-/// The texts of the files, by their paths.
+/// The most bytes of all texts together.
+const MAX_BYTES: usize = 16_777_216;
+
+/// The most files.
+const MAX_FILES: usize = 4_096;
+
+/// The texts of the files, by their paths. Contracts see the list of the files in the order of their paths'
+/// bytes, each as the bytes of its path and of its text.
 #[derive(Drop)]
 pub struct Sources {
     files: BTreeMap<String, String>,
+    alloc: Global,
+}
+
+impl Model for Sources {
+    ghost use Rattle.std.specs.Prelude.{List};
+    ghost use Rattle.kc_text.specs.FileList.{File, file_list};
+
+    ghost Value = { List File };
+
+    ghost view = { λ s. file_list s.files };
 }
 
 impl Sources {
     /// No files.
-    pub fn new(alloc: Global) -> Sources {
+    pub fn new(alloc: Global) -> Sources
+        ensures { result ≡ [] }
+    {
         Sources {
             files: BTreeMap::new(alloc),
+            alloc,
         }
     }
+
+    /// Adds the text of a file. The text of a path that was added before is replaced.
+    ///
+    /// All texts together have at most 16,777,216 bytes, and there are at most 4,096 files: else this is K01
+    /// with the path, at line 0. `NoMemory` comes where memory is refused. After an error the files are as
+    /// before.
+    pub fn add(&mut self, path: &str, text: &str) -> Result<(), TextFault>
+        ensures adds { GivesAfter result self.new (added path.now text.now self.old) }
+        ensures texts { OnOk result ((q : List ℕ) → text_of q self.new ≡ (if bytes_eq path.now q then Some text.now else text_of q self.old)) }
+        ensures unchanged { OnErr result (self.new ≡ self.old) }
+    {
+        if !keeps_limits(&self.files, path, text) {
+            return Err(TextFault::at(self.alloc, TextProblem::Limit, path, 0));
+        }
+        let key = String::from_str(self.alloc, path)?;
+        let content = String::from_str(self.alloc, text)?;
+        self.files.insert(key, content)?;
+        Ok(())
+    }
+
+    /// The path and the text of the file of a path.
+    pub(crate) fn file(&self, path: &str) -> Option<(&str, &str)>
+        ensures { MatchOption result (text_of path.now self.now ≡ None) (λ f. (f.0.now ≡ path.now) × (text_of path.now self.now ≡ Some f.1.now)) }
+    {
+        let (path, text) = self.files.get_key_value(path)?;
+        Some((path.as_str(), text.as_str()))
+    }
+}
+
+/// Whether the files keep their limits with a text for a path.
+fn keeps_limits(files: &BTreeMap<String, String>, path: &str, text: &str) -> bool
+    ensures { result ≡ keeps_limits path.now text.now (file_list files.now) }
+{
+    count_with(files, path) <= MAX_FILES && text_fits(files, path, text)
+}
+
+/// How many files there are with one of a path.
+fn count_with(files: &BTreeMap<String, String>, path: &str) -> usize
+    ensures { result ≡ count_with path.now (file_list files.now) }
+{
+    if files.contains_key(path) {
+        files.len()
+    } else {
+        files.len() + 1
+    }
+}
+
+/// Whether the texts have room for one of a path, in place of the text that the path had.
+fn text_fits(files: &BTreeMap<String, String>, path: &str, text: &str) -> bool
+    ensures { result ≡ nat_le (other_bytes path.now (file_list files.now) + length text.now) 16777216 }
+{
+    let mut total = text.len();
+    for (other, content) in files {
+        if total > MAX_BYTES {
+            return false;
+        }
+        if path != other.as_str() {
+            total += content.len();
+        }
+    }
+    total <= MAX_BYTES
 }

@@ -9,6 +9,7 @@ pub mod ListLaws
 pub mod MarkLaws
 pub mod NamesLemmas
 pub mod NodeGraphLaws
+pub mod NodeLaws
 pub mod NodeNumbers
 pub mod OrderLaws
 pub mod ReachedLaws

@@ -1,5 +1,6 @@
-pub mod FirstLemmas
 pub mod Agreement
-pub mod SolutionLaws
-pub mod FillLemmas
 pub mod AssignableLemmas
+pub mod Examples
+pub mod FillLemmas
+pub mod FirstLemmas
+pub mod SolutionLaws

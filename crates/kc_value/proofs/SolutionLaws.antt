@@ -13,7 +13,7 @@ use Rattle.kc_tree.proofs.OrderLaws.{length_order}
 use Rattle.kc_value.specs.Assignment.{Assignment}
 use Rattle.kc_value.specs.UserValues.{UserValues}
 use Rattle.kc_value.specs.Rule.{rule}
-use Rattle.kc_value.specs.Solution.{applied, solution, IsSolution, HasOneSolution}
+use Rattle.kc_value.specs.Solution.{applied, solution, IsSolution, IsOnlySolution}
 use Rattle.kc_value.proofs.Agreement.{rule_agrees}
 
 module _ (t : TreeValue) (u : UserValues) where
@@ -70,12 +70,12 @@ module _ (t : TreeValue) (u : UserValues) where
         settled (length order) (omega arith) n (whole n h) (node_count t) (length_order t order ok)
         ∙ applied-suc (node_count t) n
 
-    one_by_order : HasOneSolution t u (solution t u)
+    one_by_order : IsOnlySolution t u (solution t u)
     one_by_order = record {
       solves = solves;
       only = λ b sb n h. unique b (solution t u) sb solves (length order) (omega arith) n (whole n h);
     }
 
--- the solution of a tree that was read is the one that there is
-pub one_solution : (t : TreeValue) (u : UserValues) → IsAccepted t → HasOneSolution t u (solution t u)
+-- the solution of a tree that was read is the only one
+pub one_solution : (t : TreeValue) (u : UserValues) → IsAccepted t → IsOnlySolution t u (solution t u)
 one_solution t u accepted = one_by_order t u accepted.ordered.0 accepted.ordered.1

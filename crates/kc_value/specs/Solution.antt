@@ -9,12 +9,13 @@ use Rattle.kc_value.specs.Assignment.{Assignment}
 use Rattle.kc_value.specs.UserValues.{UserValues}
 use Rattle.kc_value.specs.Rule.{rule}
 
--- the equation that all nodes meet at once
+-- the equation that all nodes of the tree meet at once
 abbrev pub IsSolution : TreeValue → UserValues → Assignment → Type 0
 IsSolution t u a = (n : Node) → IsNodeOf t n → a n ≡ rule t u a n
 
--- there is a solution, and each one gives every node the value that the other gives it
-pub record HasOneSolution (t : TreeValue) (u : UserValues) (a : Assignment) : Type 0 where
+-- The assignment is a solution, so that there is one; and it is the only one: each solution gives every
+-- node of the tree the value that this one gives it.
+pub record IsOnlySolution (t : TreeValue) (u : UserValues) (a : Assignment) : Type 0 where
   pub solves : IsSolution t u a
   pub only : (b : Assignment) → IsSolution t u b → (n : Node) → IsNodeOf t n → b n ≡ a n
 
@@ -23,7 +24,7 @@ unfoldable pub applied : TreeValue → UserValues → ℕ → Assignment
 applied t u zero n = Level No
 applied t u (suc k) n = rule t u (applied t u k) n
 
--- A name for the one solution of a tree without loop: no value changes any more once the rule was
--- applied as often as there are nodes. That it is the one solution is a law, and a clause of `Fresh::node`.
+-- A name for the only solution of a tree without loop: no value changes any more once the rule was
+-- applied as often as there are nodes. That it is the only solution is a clause of `solve`.
 unfoldable pub solution : TreeValue → UserValues → Assignment
 solution t u = applied t u (node_count t)

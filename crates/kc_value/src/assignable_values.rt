@@ -10,8 +10,11 @@ use crate::resolver::Resolver;
 use kc_tree::{Node, SymId, Tri};
 use std::alloc::{AllocError, Global};
 
-/// The values that a user can give a symbol with an effect, in the order n, m, y: none where it is not
-/// visible (Kconfiglib, "assignable").
+/// The values that a user can give a symbol with an effect, in the order n, m, y (Kconfiglib,
+/// "assignable"): of a visible symbol those that it would show for some user value of its type, all else
+/// as it is, and none of an invisible one. The resolver is asked for the symbol's nodes alone.
+///
+/// The error is want of memory.
 pub fn assignable<R: Resolver>(
     alloc: Global,
     resolver: &mut R,
@@ -29,7 +32,7 @@ pub fn assignable<R: Resolver>(
     values_under(alloc, visibility)
 }
 
-/// The values that a bool shows under a visibility.
+/// The values that a bool shows for its user values n and y under a visibility.
 fn values_under(alloc: Global, visibility: Tri) -> Result<Vec<Tri>, AllocError>
     ensures { IfOk result (λ v. v.items ≡ (if is_no visibility then [] else No ∷ Yes ∷ [])) }
 {

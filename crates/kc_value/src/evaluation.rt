@@ -10,7 +10,8 @@ use crate::user::User;
 use crate::value::Value;
 use kc_tree::{Node, Tree, Tri};
 
-/// What the rule of a node gives over the values of the nodes that it uses, which stand in `env` by number.
+/// What the rule of a node gives over the values of the nodes that it uses, which stand in `env` by
+/// number; n for a symbol that the tree doesn't have.
 #[tactic(auto, unfolding(crate::specs::Rule::rule))]
 pub(crate) fn apply_rule(tree: &Tree, user: &User, env: &[Option<Value>], node: Node) -> Value
     ensures { result ≡ rule tree.now user.now (assignment_of env.now) node }
@@ -24,7 +25,9 @@ pub(crate) fn apply_rule(tree: &Tree, user: &User, env: &[Option<Value>], node: 
     }
 }
 
-/// Evaluates a node, and raises the meter by one. The nodes that it uses have their values in `env`.
+/// Evaluates a node, and raises the meter by one: what the node's rule gives (kconfig-language.rst, "Menu
+/// attributes") over the values of the nodes that it uses, which stand in `env` by number. A node whose
+/// place in `env` is empty or missing counts as n.
 pub fn eval(tree: &Tree, user: &User, env: &[Option<Value>], node: Node, meter: &mut Meter) -> Value
     ensures value { result ≡ rule tree.now user.now (assignment_of env.now) node }
     ensures counted { meter.new ≡ raised meter.old 1 }

@@ -6,7 +6,7 @@ ghost use Rattle.kc_value.specs.ExprValue.{term_value, expr_value};
 use crate::value::Value;
 use kc_tree::{Expr, Node, Term, Tri};
 
-/// What a list by number has for a node.
+/// What a list by number has for a node, nothing past its end.
 pub(crate) fn value_of(env: &[Option<Value>], node: Node) -> Option<&Value>
     ensures { option_copied result ≡ value_at env.now node }
 {
@@ -26,6 +26,7 @@ pub(crate) fn node_tri(env: &[Option<Value>], node: Node) -> Tri
     }
 }
 
+/// The value of a term: of a symbol that of its `Val` node, whatever its visibility.
 fn term_tri(env: &[Option<Value>], term: &Term) -> Tri
     ensures { result ≡ term_value (assignment_of env.now) term.now }
 {
@@ -36,8 +37,9 @@ fn term_tri(env: &[Option<Value>], term: &Term) -> Tri
     }
 }
 
-/// The value of an expression over the values of the nodes, which stand in `env` by number
-/// (kconfig-language.rst, "Menu dependencies").
+/// The value of an expression, the least of its terms' and y without terms (kconfig-language.rst, "Menu
+/// dependencies"). A constant stands for itself, an undefined word for n, and a symbol for its value in
+/// `env`, where nodes stand by number; a symbol whose place is empty or missing counts as n.
 pub fn tri(expr: &Expr, env: &[Option<Value>]) -> Tri
     ensures { result ≡ expr_value (assignment_of env.now) expr.now }
 {

@@ -1,6 +1,6 @@
 ghost use Rattle.std.specs.Prelude.{◌≡◌, IfOk};
 ghost use Rattle.kc_tree.specs.Nodes.{IsNodeOf};
-ghost use Rattle.kc_value.specs.Solution.{solution, HasOneSolution};
+ghost use Rattle.kc_value.specs.Solution.{solution, IsOnlySolution};
 
 use crate::evaluation::apply_rule;
 use crate::resolver::Resolver;
@@ -10,11 +10,15 @@ use crate::value::Value;
 use kc_tree::{Node, Tree, Tri};
 use std::alloc::{AllocError, Global};
 
-/// The value of a node: all nodes before it in the tree's order are evaluated, and nothing is kept.
+/// The value of a node in the only solution: the assignment in which each node of the tree has the value
+/// that its rule gives. All nodes before it in the tree's order are evaluated, and nothing is kept.
+///
+/// That there is a solution, and no other, holds whatever the call returns. The error is want of memory
+/// for a place for each node.
 pub fn solve(alloc: Global, tree: &Tree, user: &User, node: Node) -> Result<Value, AllocError>
     requires { IsNodeOf tree.now node }
     ensures value { IfOk result (λ v. v ≡ solution tree.now user.now node) }
-    ensures solved { HasOneSolution tree.now user.now (solution tree.now user.now) }
+    ensures solved { IsOnlySolution tree.now user.now (solution tree.now user.now) }
 {
     let count = tree.node_count();
     let mut env = empty_slots(alloc, count)?;
@@ -28,7 +32,7 @@ pub fn solve(alloc: Global, tree: &Tree, user: &User, node: Node) -> Result<Valu
     unreachable!()
 }
 
-/// A resolver that keeps nothing from one call to the next.
+/// A resolver that keeps nothing from one call to the next: each `node` is a [`solve`].
 #[derive(Drop)]
 pub struct Fresh<'a> {
     alloc: Global,
@@ -38,9 +42,10 @@ pub struct Fresh<'a> {
 }
 
 impl<'a> Fresh<'a> {
+    /// A resolver for the values of this user over this tree.
     pub fn new(alloc: Global, tree: &'a Tree, user: &'a User) -> Fresh<'a>
-        ensures tree { result.tree.now ≡ tree.entry.now }
-        ensures user { result.user.now ≡ user.entry.now }
+        ensures tree { ⟦<Fresh<'a> as Resolver>⟧.tree_of result ≡ tree.entry.now }
+        ensures user { ⟦<Fresh<'a> as Resolver>⟧.user_of result ≡ user.entry.now }
     {
         Fresh {
             alloc,

@@ -3,7 +3,7 @@ ghost use Rattle.kc_value.specs.Counting.{raised};
 
 use std::marker::Model;
 
-/// A count of evaluations, which stays at its greatest value. Contracts see the number.
+/// A count of evaluations. Contracts see the number.
 #[derive(Debug, Drop)]
 pub struct Meter {
     count: u64,
@@ -25,13 +25,14 @@ impl Meter {
         Meter { count: 0 }
     }
 
+    /// How many evaluations were counted.
     pub fn count(&self) -> u64
         ensures { result ≡ self.now }
     {
         self.count
     }
 
-    /// One more evaluation.
+    /// One more evaluation; at 2^64 - 1 the count stays.
     pub fn raise(&mut self)
         ensures { self.new ≡ raised self.old 1 }
     {

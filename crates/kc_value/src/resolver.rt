@@ -13,7 +13,8 @@ use crate::value::Value;
 use kc_tree::{Node, Tree};
 use std::alloc::AllocError;
 
-/// What answers with the values of a tree for the values of a user.
+/// What answers with the values of a tree for the values of a user. What a resolver keeps between calls is
+/// its own; `grew` and `knows` are what callers may say of it.
 pub trait Resolver {
     /// The tree, as contracts see it.
     ghost tree_of: { Self → TreeValue };
@@ -21,30 +22,41 @@ pub trait Resolver {
     /// The user values, as contracts see them.
     ghost user_of: { Self → UserValues };
 
-    /// What may have become of the resolver while the nodes of the list were asked.
+    /// What may have become of the resolver, from the first to the second, while the nodes were asked.
     ghost grew: { Self → Self → List Node → Type 0 };
 
     /// That the value of the node is at hand.
     ghost knows: { Self → Node → Type 0 };
 
+    /// The tree that is answered for.
     fn tree(&self) -> &Tree
         ensures { result.now ≡ tree_of self.now };
 
+    /// The user values that are answered for.
     fn user(&self) -> &User
         ensures { result.now ≡ user_of self.now };
 
-    /// The value of a node in the one solution. Tree and user values stay; only memory can be refused.
+    /// The value of a node of the tree in the only solution. Tree and user values stay, whatever the call
+    /// returns. The error is want of memory.
     fn node(&mut self, node: Node) -> Result<&Value, AllocError>
         requires { IsNodeOf (tree_of self.old) node }
         ensures value { IfOk result (λ v. v.now ≡ solution (tree_of self.old) (user_of self.old) node) }
         ensures* after_borrow { sem 𝓛 (Rests Self.row self.entry (λ new.
-            (tree_of new ≡ tree_of self.old) × (user_of new ≡ user_of self.old) × grew self.old new (node ∷ []) × OnOk result (knows new node))) };
+            (tree_of new ≡ tree_of self.old) × (user_of new ≡ user_of self.old)
+            × grew self.old new (node ∷ []) × OnOk result (knows new node))) };
 
+    /// A resolver that was left alone was asked no node.
     ghost grew_nothing: { (r : Self) → grew r r [] };
 
-    ghost grew_then: { (r s t : Self) (p q : List Node) → grew r s p → grew s t q → grew r t (p ++ q) };
+    /// Asking some nodes and then others is asking all of them.
+    ghost grew_then: { (r s t : Self) (p q : List Node)
+        → grew r s p → grew s t q → grew r t (p ++ q) };
 
-    ghost grew_wider: { (r s : Self) (p q : List Node) → ((n : Node) → Reached (tree_of r) p n → Reached (tree_of r) q n) → grew r s p → grew r s q };
+    /// Asking some nodes is a case of asking others from which at least as many nodes are reached.
+    ghost grew_wider: { (r s : Self) (p q : List Node)
+        → ((n : Node) → Reached (tree_of r) p n → Reached (tree_of r) q n) → grew r s p → grew r s q };
 
-    ghost knows_after: { (r s : Self) (p : List Node) (n : Node) → IsNodeOf (tree_of r) n → knows r n → grew r s p → knows s n };
+    /// What is at hand stays so, whatever is asked.
+    ghost knows_after: { (r s : Self) (p : List Node) (n : Node)
+        → IsNodeOf (tree_of r) n → knows r n → grew r s p → knows s n };
 }

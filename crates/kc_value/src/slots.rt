@@ -2,7 +2,7 @@ ghost use Rattle.std.specs.Prelude.{◌≡◌, None, IfOk, replicate};
 
 use std::alloc::{AllocError, Global};
 
-/// A list of so many places with nothing in them.
+/// A list of so many places with nothing in them. The error is want of memory.
 pub(crate) fn empty_slots<T: Drop>(
     alloc: Global,
     count: usize,

@@ -67,7 +67,8 @@ pub(crate) fn symbol_value(
     user: Option<&UserVal>,
     env: &[Option<Value>],
 ) -> Value
-    ensures { result ≡ symbol_rule (assignment_of env.now) symbol.now visibility (option_copied user.entry) }
+    ensures { result
+        ≡ symbol_rule (assignment_of env.now) symbol.now visibility (option_copied user.entry) }
 {
     let default = default_tri(symbol, env);
     let within = default.and(tri(symbol.dependencies(), env));

@@ -23,6 +23,8 @@ impl Model for User {
 
 impl User {
     /// No values, with room for one of each symbol, so that setting one takes no memory.
+    ///
+    /// The error is want of memory for that room.
     pub fn empty(alloc: Global, tree: &Tree) -> Result<User, AllocError>
         ensures { IfOk result (λ u. u ≡ no_values tree.now) }
     {
@@ -31,7 +33,8 @@ impl User {
         })
     }
 
-    /// Gives a symbol a value.
+    /// Gives a symbol of the tree a value, in place of the one that it has; those of all others stay. It
+    /// is kept, whether the symbol is visible or not, until it is set again or taken away.
     pub fn set(&mut self, symbol: SymId, value: UserVal)
         requires { symbol.0 < length self.old.values }
         ensures { self.new ≡ with_value self.old symbol (Some value) }
@@ -39,7 +42,7 @@ impl User {
         self.values[symbol.0 as usize] = Some(value);
     }
 
-    /// Takes the value of a symbol away.
+    /// Takes the value of a symbol of the tree away, if it has one; those of all others stay.
     pub fn unset(&mut self, symbol: SymId)
         requires { symbol.0 < length self.old.values }
         ensures { self.new ≡ with_value self.old symbol None }
@@ -47,7 +50,7 @@ impl User {
         self.values[symbol.0 as usize] = None;
     }
 
-    /// The value of a symbol.
+    /// The value that the user gave to a symbol, none for one that the tree doesn't have.
     pub fn get(&self, symbol: SymId) -> Option<&UserVal>
         ensures { option_copied result ≡ user_value self.now symbol }
     {

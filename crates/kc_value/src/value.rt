@@ -3,7 +3,7 @@ ghost use Rattle.kc_value.specs.Assignment.{as_tri, is_written};
 
 use kc_tree::{Tri, UserVal};
 
-/// The value of a node.
+/// The value of a node, as its rule gives it.
 #[derive(Debug, Drop)]
 pub enum Value {
     /// That of a visibility.
@@ -13,7 +13,7 @@ pub enum Value {
 }
 
 impl Value {
-    /// The tristate value, n for a symbol that has none.
+    /// The tristate value, n for a symbol whose value is a text.
     pub fn as_tri(&self) -> Tri
         ensures { result ≡ as_tri self.now }
     {
@@ -24,7 +24,7 @@ impl Value {
         }
     }
 
-    /// Whether the `.config` has a line for the symbol.
+    /// Whether the `.config` has a line for the symbol; a visibility has none.
     pub fn is_written(&self) -> bool
         ensures { result ≡ is_written self.now }
     {

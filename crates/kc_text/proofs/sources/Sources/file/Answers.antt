@@ -1,0 +1,20 @@
+use Rattle.std.proofs.Common.{◌≡◌, Some, option_map, string_bytes, bytes_eq, true, ap, sym, ◌∙◌}
+use Rattle.std.specs.Ordering.{is_eq}
+use Rattle.std.proofs.lemmas.Map.Text.{is_eq-slice_cmp}
+use Rattle.std.proofs.lemmas.Slice.Eq.{bytes_eq-Decides}
+use Rattle.kc_text.specs.Sources.{text_of}
+use Rattle.kc_text.proofs.Files.{text_of-file_list}
+use Rattle.kc_text.proofs.sources.Sources.file.Goals as goal
+
+pub returns-in_err-path : goal.returns-in_err-path
+returns-in_err-path c =
+    let path = c.args.path.now in
+    rw c.from_residual.ensures (ap (text_of path) (sym c.self.view_is) ∙ text_of-file_list path c.self.inside.files ∙ ap (option_map string_bytes) (sym c.in_err-path.ensures.value))
+
+pub returns : goal.returns
+returns c =
+    let path = c.args.path.now in
+    let same : bytes_eq path (string_bytes c.in_ok-path.path.now) ≡ true = sym (is_eq-slice_cmp path (string_bytes c.in_ok-path.path.now)) ∙ ap is_eq c.in_ok-path.ensures.same_key in (
+      c.as_str.ensures.value ∙ sym ((bytes_eq-Decides path (string_bytes c.in_ok-path.path.now)).0 same),
+      ap (text_of path) (sym c.self.view_is) ∙ text_of-file_list path c.self.inside.files ∙ ap (option_map string_bytes) (sym c.in_ok-path.ensures.value) ∙ ap Some (sym c.as_str-2.ensures.value),
+    )
