@@ -3,7 +3,7 @@ ghost use Rattle.std.specs.List.{list_all};
 ghost use Rattle.kc_files.specs.PrefixForm.{is_prefix_byte, is_prefix};
 
 use kc_text::Text;
-use std::alloc::Global;
+use std::alloc::{AllocError, Global};
 use std::marker::Model;
 
 /// The most bytes that a prefix has.
@@ -68,6 +68,15 @@ impl Prefix {
             Ok(text) => Ok(Prefix { text }),
             Err(_) => Err(PrefixFault::NoMemory),
         }
+    }
+
+    /// The same prefix once more.
+    pub fn copy(&self, alloc: Global) -> Result<Prefix, AllocError>
+        ensures { IfOk result (λ p. p ≡ self.now) }
+    {
+        Ok(Prefix {
+            text: Text::copy_of(alloc, self.text.as_str())?,
+        })
     }
 
     pub fn as_str(&self) -> &str

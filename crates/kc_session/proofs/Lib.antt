@@ -4,7 +4,7 @@ mod Examples
 pub mod Holding
 pub mod Lines
 pub mod RunSteps
-pub mod Serving
+pub mod Answered
 pub mod Taking
 pub mod Texts
 pub mod Unread

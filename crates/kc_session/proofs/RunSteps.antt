@@ -11,7 +11,7 @@ use Rattle.kc_session.specs.Serving.{Answers, AnswersLine, StopsInReply, ServesA
 use Rattle.kc_session.specs.Session.{SessionValue}
 use Rattle.kc_session.specs.Stream.{StreamCommand, command_of_line, commands_of, complete_commands_of}
 use Rattle.kc_session.proofs.Cutting.{IsCutAfter, IsCutAfter-nil, IsCutAfter-ended, commands_of-cut, commands_of-last, commands_of-ended, complete_commands_of-part}
-use Rattle.kc_session.proofs.Serving.{Answers-nil, Answers-push}
+use Rattle.kc_session.proofs.Answered.{Answers-nil, Answers-push}
 use Rattle.kc_session.proofs.Unread.{Consumes-used_up, Consumes-at_end}
 
 -- what was read, written and done so far: whole commands

@@ -2,12 +2,13 @@ pub mod Commands
 pub mod Effect
 pub mod Held
 pub mod Input
+pub mod LineReply
+pub mod Opened
 pub mod Output
 pub mod Reading
+pub mod Replies
+pub mod Serving
 pub mod Session
 pub mod ShowLine
 pub mod Stream
 pub mod Values
-pub mod Replies
-pub mod Serving
-pub mod LineReply

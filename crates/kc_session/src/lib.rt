@@ -9,15 +9,18 @@ mod command_line;
 mod fault;
 mod input;
 mod line;
+mod opening;
 mod reading;
 mod replies;
-mod run;
+mod serving;
 mod session;
 mod show;
 mod writing;
 
 pub use command::{Command, Refusal, Reply};
 pub use fault::IoFault;
+pub use opening::{OpenFault, open};
+pub use serving::run;
 pub use session::Session;
 
 #[cfg(test)]

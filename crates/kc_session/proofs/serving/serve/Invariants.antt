@@ -1,7 +1,7 @@
 use Rattle.std.proofs.Common.{◌≡◌}
 use Rattle.std.specs.Io.KnownBytes.{prepend_known}
 use Rattle.kc_session.proofs.RunSteps.{HasServed}
-use Rattle.kc_session.proofs.run.serve.Given as goal
+use Rattle.kc_session.proofs.serving.serve.Given as goal
 
 abbrev pub invariant-loop-line : goal.invariant-loop-line
 invariant-loop-line g l =

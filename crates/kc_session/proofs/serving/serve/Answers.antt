@@ -7,7 +7,7 @@ use Rattle.kc_session.specs.declared.fault.IoFault.TheVariants.{Read, Write}
 use Rattle.kc_session.specs.Reading.{TakesEndedLine, TakesLastLine, TakesNothing, TakesLine}
 use Rattle.kc_session.specs.Serving.{AnswersLine, StopsInReply, ServesAll, StopsWriting, Serves}
 use Rattle.kc_session.proofs.RunSteps.{HasServed-nil, HasServed-ended, ServesAll-nothing, StopsReading-part, StopsWriting-ended, Serves-last}
-use Rattle.kc_session.proofs.run.serve.Goals as goal
+use Rattle.kc_session.proofs.serving.serve.Goals as goal
 
 pub loop-line-init : goal.loop-line-init
 loop-line-init g c = HasServed-nil _ _ _ _ c.requires

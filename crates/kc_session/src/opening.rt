@@ -1,0 +1,82 @@
+//! From the texts of a Kconfig to a session.
+ghost use Rattle.std.specs.Prelude.{◌≡◌, IfOk, IfErr, Ok, Err};
+ghost use Rattle.kc_text.specs.Lines.{lines_of_top};
+ghost use Rattle.kc_tree.specs.Parsed.{IsTreeOf, IsFaultOf};
+ghost use Rattle.kc_session.specs.Opened.{IsOpened, IsOpenFault, IsTreeFaultOf};
+
+use std::alloc::Global;
+
+use kc_files::Prefix;
+use kc_text::{Line, Sources, TextFault, Vars, logical_lines};
+use kc_tree::{Tree, TreeFault};
+
+use crate::session::Session;
+
+/// Why texts give no session.
+#[derive(Debug, Drop)]
+pub enum OpenFault {
+    /// A fault of a text, with its number.
+    Text(TextFault),
+    /// A fault of the lines or of the tree, with its number.
+    Tree(TreeFault),
+    /// Memory was refused.
+    NoMemory,
+}
+
+/// The logical lines of the top file.
+fn read_lines<'a>(
+    alloc: Global,
+    sources: &'a Sources,
+    vars: &Vars,
+    top: &str,
+) -> Result<Vec<Line<'a>>, OpenFault>
+    ensures lines { IfOk result (λ lines. lines_of_top sources.now top.now ≡ Ok lines.items) }
+    ensures fault { IfErr result (IsOpenFault sources.now top.now) }
+{
+    match logical_lines(alloc, sources, vars, top) {
+        Ok(lines) => Ok(lines),
+        Err(TextFault::NoMemory) => Err(OpenFault::NoMemory),
+        Err(fault) => Err(OpenFault::Text(fault)),
+    }
+}
+
+/// The tree of logical lines.
+fn read_tree(alloc: Global, lines: &[Line<'_>]) -> Result<Tree, OpenFault>
+    ensures tree { IfOk result (IsTreeOf lines.now) }
+    ensures fault { IfErr result (IsTreeFaultOf lines.now) }
+{
+    match Tree::parse(alloc, lines) {
+        Ok(tree) => Ok(tree),
+        Err(TreeFault::NoMemory) => Err(OpenFault::NoMemory),
+        Err(fault) => Err(OpenFault::Tree(fault)),
+    }
+}
+
+/// The session of the Kconfig that begins with the top file, without user values. It keeps a copy of the
+/// prefix.
+///
+/// # Errors
+///
+/// - `OpenFault::Text` with the first fault of the texts.
+/// - `OpenFault::Tree` where the texts have none, with the first fault of their lines, symbols and nodes.
+/// - `OpenFault::NoMemory` where memory was refused.
+pub fn open(
+    alloc: Global,
+    sources: &Sources,
+    vars: &Vars,
+    top: &str,
+    prefix: &Prefix,
+) -> Result<Session, OpenFault>
+    ensures opened { IfOk result (IsOpened sources.now top.now prefix.now) }
+    ensures fault { IfErr result (IsOpenFault sources.now top.now) }
+{
+    let lines = read_lines(alloc, sources, vars, top)?;
+    let tree = read_tree(alloc, lines.as_slice())?;
+    let Ok(prefix) = prefix.copy(alloc) else {
+        return Err(OpenFault::NoMemory);
+    };
+    match Session::new(alloc, tree, prefix) {
+        Ok(session) => Ok(session),
+        Err(_) => Err(OpenFault::NoMemory),
+    }
+}
