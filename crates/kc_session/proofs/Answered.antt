@@ -1,11 +1,11 @@
 -- Answering one command more.
-use Rattle.std.proofs.Common.{◌≡◌, ℕ, ◌+◌, Bool, true, false, List, [], ◌∷◌, ◌++◌, length, Option, IsTrue, refl, sym, ap, ◌∙◌, subst, append_assoc, append-nil, length-append, arith}
+use Rattle.std.proofs.Common.{◌≡◌, ℕ, ◌+◌, Bool, List, [], ◌∷◌, ◌++◌, length, Option, IsTrue, refl, sym, ap, ◌∙◌, subst, append_assoc, append-nil, length-append, arith}
 use Rattle.std.specs.Io.KnownBytes.{Appends}
 use Rattle.std.proofs.KnownBytes.{Appends-trans, Appends-nil}
-use Rattle.kc_session.specs.Replies.{may_be_refused, outcome, session_after, reply_to, text_of, output_of, session_after_all, MayStarve}
+use Rattle.kc_session.specs.Replies.{may_be_refused, session_after, reply_to, text_of, output_of, session_after_all, MayStarve}
 use Rattle.kc_session.specs.Serving.{Answers, AnswersLine}
 use Rattle.kc_session.specs.Session.{SessionValue}
-use Rattle.kc_session.specs.Stream.{StreamCommand, command_of_line}
+use Rattle.kc_session.specs.Stream.{StreamCommand}
 
 -- no command was answered yet
 pub Answers-nil : (at : Option (List ℕ)) (s : SessionValue) → Answers [] at at s s

@@ -3,7 +3,7 @@ use Rattle.std.proofs.Common.{◌≡◌, ℕ, ◌-◌, List, ◌++◌, length, t
 use Rattle.std.specs.Io.KnownBytes.{Appends}
 use Rattle.std.proofs.KnownBytes.{Appends-trans}
 use Rattle.std.proofs.lemmas.List.{take_all}
-use Rattle.kc_session.specs.Output.{WritesBefore}
+use Rattle.kc_session.specs.Output.{WritesBefore, WritesPart}
 
 -- a write took the first n bytes of the rest
 pub WritesBefore-more : (old mid new : Option (List ℕ)) (bytes rest : List ℕ) (n : ℕ) → WritesBefore old mid bytes rest → Appends mid new (take n rest)

@@ -1,7 +1,7 @@
 -- What the loop over a stream keeps, and how it ends.
-use Rattle.std.proofs.Common.{◌≡◌, ℕ, List, [], ◌∷◌, ◌++◌, Option, Some, None, Result, Ok, Err, IfSome, unwrap_or, refl, sym, ap, ◌∙◌, subst, append-nil, false}
+use Rattle.std.proofs.Common.{◌≡◌, ℕ, List, [], ◌∷◌, ◌++◌, Option, Some, None, Result, Ok, Err, IfSome, unwrap_or, sym, ap, ◌∙◌, subst, append-nil}
 use Rattle.std.specs.Io.KnownBytes.{Consumes, IsAtEnd, prepend_known}
-use Rattle.std.proofs.KnownBytes.{Consumes-nil, Consumes-trans, Appends-nil}
+use Rattle.std.proofs.KnownBytes.{Consumes-trans}
 use Rattle.std.specs.Result.{OnOk, OnErr, IfErr}
 use Rattle.kc_session.specs.declared.fault.IoFault.{IoFault}
 use Rattle.kc_session.specs.declared.fault.IoFault.TheVariants.{Write}
@@ -9,7 +9,7 @@ use Rattle.kc_session.specs.Held.{HeldLine, text_held}
 use Rattle.kc_session.specs.Reading.{IsEndedLine, IsLastLine, TakesEndedLine, TakesLastLine, TakesNothing, StopsInLine}
 use Rattle.kc_session.specs.Serving.{Answers, AnswersLine, StopsInReply, ServesAll, StopsReading, StopsWriting, Serves}
 use Rattle.kc_session.specs.Session.{SessionValue}
-use Rattle.kc_session.specs.Stream.{StreamCommand, command_of_line, commands_of, complete_commands_of}
+use Rattle.kc_session.specs.Stream.{StreamCommand, command_of_line, commands_of}
 use Rattle.kc_session.proofs.Cutting.{IsCutAfter, IsCutAfter-nil, IsCutAfter-ended, commands_of-cut, commands_of-last, commands_of-ended, complete_commands_of-part}
 use Rattle.kc_session.proofs.Answered.{Answers-nil, Answers-push}
 use Rattle.kc_session.proofs.Unread.{Consumes-used_up, Consumes-at_end}

@@ -1,5 +1,4 @@
 -- What is known of text.
-use Rattle.std.proofs.Common.{◌≡◌, List, ℕ}
 use Rattle.std.proofs.lemmas.Str.{is_utf8-from_IsUtf8, IsUtf8-from_is_utf8}
 
 pub ruleset text_facts = (is_utf8-from_IsUtf8, IsUtf8-from_is_utf8)

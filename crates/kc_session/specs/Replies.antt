@@ -1,13 +1,11 @@
 -- This project's own command stream: the replies to its commands.
-use Rattle.std.specs.Prelude.{◌≡◌, ℕ, ◌+◌, Bool, false, List, [], ◌∷◌, ◌++◌, length, Option, Some, None, codes, IsTrue}
-use Rattle.std.specs.Io.KnownBytes.{Appends}
+use Rattle.std.specs.Prelude.{ℕ, ◌+◌, Bool, false, List, [], ◌∷◌, ◌++◌, Option, Some, None, codes, IsTrue}
 use Rattle.kc_session.specs.declared.command.Command.{Command}
 use Rattle.kc_session.specs.declared.command.Refusal.TheVariants.{UnknownCommand, TooLong}
 use Rattle.kc_session.specs.declared.command.Reply.{Reply}
 use Rattle.kc_session.specs.declared.command.Reply.TheVariants.{Done, Refused}
 use Rattle.kc_session.specs.Commands.{command_of}
 use Rattle.kc_session.specs.Effect.{Outcome, refusal_number, refuse, perform, may_starve, starved_or}
-use Rattle.kc_session.specs.Output.{WritesPart}
 use Rattle.kc_session.specs.Session.{SessionValue, with_user}
 use Rattle.kc_session.specs.Stream.{StreamCommand, text_if_fits}
 

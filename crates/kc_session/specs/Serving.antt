@@ -4,7 +4,7 @@ use Rattle.kc_session.specs.declared.fault.IoFault.{IoFault}
 use Rattle.kc_session.specs.declared.fault.IoFault.TheVariants.{Read, Write, Memory}
 use Rattle.std.specs.Io.KnownBytes.{Appends, Consumes, IsAtEnd}
 use Rattle.kc_session.specs.Output.{WritesPart}
-use Rattle.kc_session.specs.Replies.{may_be_refused, outcome, session_after, reply_to, text_of, output_of, session_after_all, MayStarve}
+use Rattle.kc_session.specs.Replies.{may_be_refused, session_after, reply_to, text_of, output_of, session_after_all, MayStarve}
 use Rattle.kc_session.specs.Session.{SessionValue}
 use Rattle.kc_session.specs.Stream.{StreamCommand, commands_of, complete_commands_of}
 

@@ -25,3 +25,6 @@ pub use session::Session;
 
 #[cfg(test)]
 mod tests;
+
+#[cfg(test)]
+mod serving_tests;

@@ -11,18 +11,8 @@ use Rattle.kc_tree.specs.TreeValue.{TreeValue}
 use Rattle.kc_tree.specs.Nodes.{IsNodeOf, node_count, number_of, node_at, all_nodes}
 use Rattle.kc_tree.specs.Accepted.{HasEachEntry}
 use Rattle.kc_tree.specs.Reached.{Reached}
+use Rattle.kc_tree.proofs.NodeNumbers.{node_at-number_of}
 use Rattle.kc_tree.proofs.OrderLaws.{number_of-below}
-
--- the node of a node's number is the node
-pub node_at-number_of : (n : Node) → node_at (number_of n) ≡ n
-node_at-number_of (Vis s) =
-    let half : 2 * s.0 / 2 ≡ s.0 = omega arith in
-    let even : 2 * s.0 % 2 ≡ 0 = omega arith in
-    rw (even, half) refl
-node_at-number_of (Val s) =
-    let half : (2 * s.0 + 1) / 2 ≡ s.0 = omega arith in
-    let odd : (2 * s.0 + 1) % 2 ≡ 1 = omega arith in
-    rw (odd, half) refl
 
 -- each node of the tree is among all nodes
 pub Contains-all_nodes : (t : TreeValue) (n : Node) → IsNodeOf t n → Contains (all_nodes t) n

@@ -9,22 +9,12 @@ use Rattle.std.proofs.lemmas.Option.{slice_get-get_or}
 use Rattle.std.proofs.lemmas.Bool.Decides.{nat_tests}
 use Rattle.indexmap.proofs.CallerLemmas.{Contains-list_any}
 use borrow.Author.Tests.{eqb-true}
-use Rattle.kc_tree.specs.declared.symbol.SymId.{SymId}
 use Rattle.kc_tree.specs.declared.node.Node.{Node}
 use Rattle.kc_tree.specs.declared.node.Node.TheVariants.{Vis, Val}
 use Rattle.kc_tree.specs.TreeValue.{TreeValue}
 use Rattle.kc_tree.specs.Nodes.{IsNodeOf, node_count, number_of}
 use Rattle.kc_tree.specs.Order.{IsOrder}
-
-same_symbol : (r s : SymId) → r.0 ≡ s.0 → r ≡ s
-same_symbol r s e = ap (λ k. record { 0 = k }) e
-
--- nodes of one number are one node
-pub number_of-injective : (m n : Node) → number_of m ≡ number_of n → m ≡ n
-number_of-injective (Vis r) (Vis s) e = ap Vis (same_symbol r s (omega (arith, e)))
-number_of-injective (Vis r) (Val s) e = absurd (omega (arith, e))
-number_of-injective (Val r) (Vis s) e = absurd (omega (arith, e))
-number_of-injective (Val r) (Val s) e = ap Val (same_symbol r s (omega (arith, e)))
+use Rattle.kc_tree.proofs.NodeNumbers.{same_node}
 
 -- the number of a node of the tree
 pub number_of-below : (t : TreeValue) (n : Node) → IsNodeOf t n → number_of n < node_count t
@@ -50,7 +40,7 @@ module _ (t : TreeValue) (order : List Node) (ok : IsOrder t order) where
           let second : j < length order = omega (arith, long, within) in
           let first : i < length order = omega arith in
           let same : number_of (get_or order i n) ≡ number_of (get_or order j n) = sym (number_at i d n first) ∙ eqb-true _ _ e ∙ number_at j d n second in
-          let one = number_of-injective (get_or order i n) (get_or order j n) same in
+          let one = same_node (get_or order i n) (get_or order j n) same in
           let k = ok.once i j (get_or order j n) (slice_get-get_or order i n first ∙ ap Some one) (slice_get-get_or order j n second) in
           absurd (omega (arith, k))
 

@@ -11,7 +11,8 @@ use Rattle.kc_tree.specs.TreeValue.{TreeValue}
 use Rattle.kc_tree.specs.Nodes.{IsNodeOf, node_count, number_of}
 use Rattle.kc_tree.specs.Order.{IsOrder}
 use Rattle.kc_tree.specs.Accepted.{IsAccepted}
-use Rattle.kc_tree.proofs.OrderLaws.{number_of-injective, number_of-below}
+use Rattle.kc_tree.proofs.OrderLaws.{number_of-below}
+use Rattle.kc_tree.proofs.NodeNumbers.{same_node}
 use Rattle.kc_value.specs.declared.value.Value.{Value}
 use Rattle.kc_value.specs.declared.value.Value.TheVariants.{Tri as Level}
 use Rattle.kc_value.specs.Assignment.{assignment_of}
@@ -50,7 +51,7 @@ module _ (t : TreeValue) (u : UserValues) (accepted : IsAccepted t) (order : Lis
 
       same : number_of m ≡ number_of next → assignment_of (set env (number_of next) (Some v)) m ≡ solution t u m
       same e =
-          let one : m ≡ next = number_of-injective m next e in
+          let one : m ≡ next = same_node m next e in
           ap (λ k. unwrap_or (get_or (set env (number_of next) (Some v)) k None) (Level No)) e
           ∙ ap (λ o. unwrap_or o (Level No)) (get_or-set_same env (number_of next) (Some v) None room)
           ∙ is ∙ ap (solution t u) (sym one)

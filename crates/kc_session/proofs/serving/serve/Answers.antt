@@ -1,11 +1,4 @@
-use Rattle.std.proofs.Common.{◌≡◌, Result, Ok, Err, sym, subst}
-use Rattle.std.specs.Result.{IfErr, OnOk, OnErr}
-use Rattle.std.specs.Io.KnownBytes.{prepend_known}
 use Rattle.std.proofs.lemmas.Result.{err_from_is_err_and}
-use Rattle.kc_session.specs.declared.fault.IoFault.{IoFault}
-use Rattle.kc_session.specs.declared.fault.IoFault.TheVariants.{Read, Write}
-use Rattle.kc_session.specs.Reading.{TakesEndedLine, TakesLastLine, TakesNothing, TakesLine}
-use Rattle.kc_session.specs.Serving.{AnswersLine, StopsInReply, ServesAll, StopsWriting, Serves}
 use Rattle.kc_session.proofs.RunSteps.{HasServed-nil, HasServed-ended, ServesAll-nothing, StopsReading-part, StopsWriting-ended, Serves-last}
 use Rattle.kc_session.proofs.serving.serve.Goals as goal
 

@@ -1,4 +1,3 @@
-use Rattle.std.proofs.Common.{◌≡◌}
 use Rattle.std.specs.Io.KnownBytes.{prepend_known}
 use Rattle.kc_session.proofs.RunSteps.{HasServed}
 use Rattle.kc_session.proofs.serving.serve.Given as goal

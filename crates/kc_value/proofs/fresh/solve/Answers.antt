@@ -5,7 +5,8 @@ use Rattle.std.proofs.lemmas.List.{take_all}
 use Rattle.kc_tree.specs.declared.node.Node.{Node}
 use Rattle.kc_tree.specs.declared.node.Node.TheVariants.{Vis}
 use Rattle.kc_tree.specs.Nodes.{number_of}
-use Rattle.kc_tree.proofs.OrderLaws.{number_of-injective, number_of-below}
+use Rattle.kc_tree.proofs.OrderLaws.{number_of-below}
+use Rattle.kc_tree.proofs.NodeNumbers.{same_node}
 use Rattle.kc_value.specs.Assignment.{assignment_of}
 use Rattle.kc_value.specs.Rule.{rule}
 use Rattle.kc_value.specs.Solution.{solution}
@@ -28,7 +29,7 @@ returns-then-number-clause-value c =
     let u = c.args.user.now in
     let o = c.order-next-items in
     let next : Node = get_or o.result.now c.loop-next.next-index any in
-    let same : next ≡ c.args.node = number_of-injective next c.args.node (sym c.number.ensures ∙ c.if-number.true ∙ c.number-in-loop-next.ensures) in
+    let same : next ≡ c.args.node = same_node next c.args.node (sym c.number.ensures ∙ c.if-number.true ∙ c.number-in-loop-next.ensures) in
     c.apply_rule-value.ensures
     ∙ ap (λ env. rule t u (assignment_of env) next) c.as_slice.ensures.value
     ∙ rule_next t u o.ensures.accepted o.result.now o.ensures.order c.loop-next.next-index any c.loop-next-test.true c.loop-next.env.items c.loop-next.invariant.right
