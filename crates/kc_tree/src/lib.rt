@@ -9,6 +9,7 @@ mod lines;
 mod link;
 mod names;
 mod node;
+mod nodes;
 mod statement;
 mod symbol;
 mod symbols;
@@ -19,6 +20,7 @@ mod uses;
 
 pub use fault::{NamedNode, TreeFault, TreeProblem};
 pub use node::Node;
+pub use nodes::Nodes;
 pub use symbol::{Expr, SymId, Symbol, Term};
 pub use tree::{Entry, Tree};
 pub use tri::Tri;

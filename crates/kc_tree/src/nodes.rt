@@ -1,24 +1,52 @@
 //! All nodes of a tree, by number.
 
+ghost use Rattle.std.specs.Prelude.{◌≡◌};
 ghost use Rattle.std.specs.Iterator.{YieldsFirst, item_count};
-ghost use Rattle.kc_tree.specs.NodesLeft.{nodes_left};
+ghost use Rattle.kc_tree.specs.Nodes.{all_nodes};
+
+use std::marker::Model;
 
 use crate::node::Node;
+use crate::tree::Tree;
 
-/// The nodes of a tree in the order of their numbers.
+/// The nodes of a tree in the order of their numbers. Contracts see the list of those that are left.
 #[derive(Drop)]
 pub struct Nodes {
-    pub(crate) next: usize,
-    pub(crate) end: usize,
-    ghost few: { end ≤ 2 ^ 32 },
+    next: usize,
+    end: usize,
+}
+
+impl Model for Nodes {
+    ghost use Rattle.std.specs.Prelude.{◌-◌, ◌≤◌, ◌^◌, List, map};
+    ghost use Rattle.std.specs.List.{range_with_len};
+    ghost use Rattle.kc_tree.specs.declared.node.Node.{Node};
+    ghost use Rattle.kc_tree.specs.Nodes.{node_at};
+
+    ghost Value = { List Node };
+
+    ghost view = { λ a. map node_at (range_with_len a.next (a.end - a.next)) };
+
+    ghost invariant = { λ a. a.end ≤ 2 ^ 32 };
+}
+
+impl Nodes {
+    /// All nodes of a tree.
+    pub(crate) fn of(tree: &Tree) -> Nodes
+        ensures { result ≡ all_nodes tree.now }
+    {
+        Nodes {
+            next: 0,
+            end: tree.node_count(),
+        }
+    }
 }
 
 impl Iterator for Nodes {
     type Item = Node;
 
-    ghost next_gives = { YieldsFirst nodes_left };
+    ghost next_gives = { YieldsFirst (λ left. left) };
 
-    ghost remaining = { item_count nodes_left };
+    ghost remaining = { item_count (λ left. left) };
 
     fn next(&mut self) -> Option<Node> {
         if self.next >= self.end {

@@ -1,6 +1,6 @@
 ghost use Rattle.std.specs.Prelude.{◌≡◌, ◌<◌, IfSome, IfOk, IfErr, [], map, slice_index_or, length, Contains, ◌↔◌};
 ghost use Rattle.kc_tree.specs.TreeValue.{symbol_named, name_of};
-ghost use Rattle.kc_tree.specs.Nodes.{node_count, IsNodeOf};
+ghost use Rattle.kc_tree.specs.Nodes.{all_nodes, node_count, IsNodeOf};
 ghost use Rattle.kc_tree.specs.Uses.{Uses};
 ghost use Rattle.kc_tree.specs.Order.{IsOrder};
 ghost use Rattle.kc_tree.specs.Accepted.{IsAccepted, HasEachEntry};
@@ -11,6 +11,7 @@ use crate::lines::read_symbols;
 use crate::link::link;
 use crate::names::Names;
 use crate::node::Node;
+use crate::nodes::Nodes;
 use crate::symbol::{SymId, Symbol};
 use crate::tri::Tri;
 use crate::user_value::UserVal;
@@ -117,6 +118,13 @@ impl Tree {
         ensures accepted { IsAccepted self.now }
     {
         2 * self.symbols.len()
+    }
+
+    /// All nodes, by number.
+    pub fn nodes(&self) -> Nodes
+        ensures { result ≡ all_nodes self.now }
+    {
+        Nodes::of(self)
     }
 
     /// Each node once, after all that it uses.
