@@ -1,10 +1,8 @@
 -- A worked example of the text of a `.config`.
-use Rattle.std.proofs.Common.{◌≡◌, List, ℕ, zero, suc, [], ◌∷◌, true, false, refl}
+use Rattle.std.proofs.Common.{◌≡◌, ℕ, zero, suc, [], ◌∷◌, true, false, refl}
 use Rattle.std.specs.Prelude.{codes}
 use Rattle.kc_tree.specs.declared.tri.Tri.TheVariants.{No, Yes}
-use Rattle.kc_tree.specs.declared.node.Node.{Node}
 use Rattle.kc_tree.specs.declared.node.Node.TheVariants.{Vis, Val}
-use Rattle.kc_tree.specs.declared.symbol.SymId.{SymId}
 use Rattle.kc_tree.specs.declared.tree.Entry.TheVariants.{Symbol}
 use Rattle.kc_tree.specs.declared.user_value.UserVal.TheVariants.{Tri as TriVal}
 use Rattle.kc_tree.specs.TreeValue.{TreeValue}

@@ -1,6 +1,5 @@
 -- The nodes that are asked for a text are nodes of the tree.
-use Rattle.std.proofs.Common.{◌≡◌, List, [], ◌∷◌, ◌++◌, subst, sym, ⊎_elim, arith}
-use Rattle.std.specs.List.{Contains}
+use Rattle.std.proofs.Common.{[], ◌∷◌, ◌++◌, subst, ⊎_elim, arith}
 use Rattle.std.proofs.lemmas.List.Elements.{Contains-push_cases, Contains-append_cases}
 use Rattle.kc_tree.specs.declared.node.Node.{Node}
 use Rattle.kc_tree.specs.TreeValue.{TreeValue}

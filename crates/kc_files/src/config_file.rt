@@ -32,13 +32,9 @@ fn line_end(value: Tri) -> &'static str
 }
 
 /// Appends the line of a symbol.
-fn push_line(
-    text: &mut String,
-    prefix: &Prefix,
-    name: &str,
-    value: Tri,
-) -> Result<(), AllocError>
-    ensures { OnOk result (string_bytes text.new ≡ string_bytes text.old ++ symbol_line prefix.now name.now value) }
+fn push_line(text: &mut String, prefix: &Prefix, name: &str, value: Tri) -> Result<(), AllocError>
+    ensures { OnOk result
+        (string_bytes text.new ≡ string_bytes text.old ++ symbol_line prefix.now name.now value) }
 {
     text.push_str(line_start(value))?;
     text.push_str(prefix.as_str())?;
@@ -48,12 +44,10 @@ fn push_line(
 }
 
 /// The value of a symbol that has a line.
-fn written_value<R: Resolver>(
-    resolver: &mut R,
-    symbol: SymId,
-) -> Result<Option<Tri>, AllocError>
+fn written_value<R: Resolver>(resolver: &mut R, symbol: SymId) -> Result<Option<Tri>, AllocError>
     requires { IsNodeOf (R.tree_of resolver.old) (Val symbol) }
-    ensures value { IfOk result (λ v. v ≡ written_value (solution (R.tree_of resolver.old) (R.user_of resolver.old)) symbol) }
+    ensures value { IfOk result (λ v. v ≡ written_value
+        (solution (R.tree_of resolver.old) (R.user_of resolver.old)) symbol) }
     ensures tree { R.tree_of resolver.new ≡ R.tree_of resolver.old }
     ensures user { R.user_of resolver.new ≡ R.user_of resolver.old }
     ensures grew { R.grew resolver.old resolver.new (all_nodes (R.tree_of resolver.old)) }
@@ -73,8 +67,9 @@ fn push_symbol<R: Resolver>(
     symbol: SymId,
 ) -> Result<(), AllocError>
     requires { IsNodeOf (R.tree_of resolver.old) (Val symbol) }
-    ensures block { OnOk result (string_bytes text.new ≡ string_bytes text.old ++ symbol_block (R.tree_of resolver.old)
-        prefix.now (solution (R.tree_of resolver.old) (R.user_of resolver.old)) symbol) }
+    ensures block { OnOk result (string_bytes text.new ≡ string_bytes text.old
+        ++ symbol_block (R.tree_of resolver.old) prefix.now
+        (solution (R.tree_of resolver.old) (R.user_of resolver.old)) symbol) }
     ensures tree { R.tree_of resolver.new ≡ R.tree_of resolver.old }
     ensures user { R.user_of resolver.new ≡ R.user_of resolver.old }
     ensures grew { R.grew resolver.old resolver.new (all_nodes (R.tree_of resolver.old)) }
@@ -93,8 +88,9 @@ fn push_block<R: Resolver>(
     entry: Entry,
 ) -> Result<(), AllocError>
     requires { IsEntryOf (R.tree_of resolver.old) entry }
-    ensures block { OnOk result (string_bytes text.new ≡ string_bytes text.old ++ entry_block (R.tree_of resolver.old)
-        prefix.now (solution (R.tree_of resolver.old) (R.user_of resolver.old)) entry) }
+    ensures block { OnOk result (string_bytes text.new ≡ string_bytes text.old
+        ++ entry_block (R.tree_of resolver.old) prefix.now
+        (solution (R.tree_of resolver.old) (R.user_of resolver.old)) entry) }
     ensures tree { R.tree_of resolver.new ≡ R.tree_of resolver.old }
     ensures user { R.user_of resolver.new ≡ R.user_of resolver.old }
     ensures grew { R.grew resolver.old resolver.new (all_nodes (R.tree_of resolver.old)) }
@@ -105,14 +101,16 @@ fn push_block<R: Resolver>(
 }
 
 /// The text of the `.config`: the header as it is, then the lines of the symbols that are written, in the
-/// order of the tree's entries (the kernel's scripts/kconfig/confdata.c, and `write_config` of Kconfiglib).
+/// order of the tree's entries (`conf_write` of the kernel's scripts/kconfig/confdata.c, and `write_config`
+/// of Kconfiglib). The resolver keeps its tree and its user values. Only memory can be refused.
 pub fn config_text<R: Resolver>(
     alloc: Global,
     resolver: &mut R,
     prefix: &Prefix,
     header: &str,
 ) -> Result<String, AllocError>
-    ensures text { IfOk result (λ text. string_bytes text ≡ config_text_of (R.tree_of resolver.old) prefix.now header.now
+    ensures text { IfOk result (λ text. string_bytes text
+        ≡ config_text_of (R.tree_of resolver.old) prefix.now header.now
         (solution (R.tree_of resolver.old) (R.user_of resolver.old))) }
     ensures tree { R.tree_of resolver.new ≡ R.tree_of resolver.old }
     ensures user { R.user_of resolver.new ≡ R.user_of resolver.old }

@@ -55,7 +55,7 @@ fn is_well_formed(text: &str) -> bool
 }
 
 impl Prefix {
-    /// The prefix of a text, which may be empty.
+    /// The prefix of a text, which may be empty. `Malformed` comes before memory is asked for.
     pub fn new(alloc: Global, text: &str) -> Result<Prefix, PrefixFault>
         ensures prefix { IfOk result (λ p. p ≡ text.now) }
         ensures malformed { (result ≡ Err PrefixFault.Malformed) ↔ (is_prefix text.now ≡ false) }
@@ -79,6 +79,7 @@ impl Prefix {
         })
     }
 
+    /// The text of the prefix.
     pub fn as_str(&self) -> &str
         ensures text { result.now ≡ self.now }
         ensures valid { IsTrue (is_prefix self.now) }

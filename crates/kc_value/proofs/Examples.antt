@@ -118,7 +118,7 @@ inactive_default : solution (one (bool_a ((Constant Yes ∷ []) ∷ []) (Constan
 unfolding solution applied rule
 inactive_default = refl
 
--- `default y`, `depends on m`: the default is cut to m, and m is y in a bool
+-- `default y` under dependencies of value m: the default is cut to m, and m is y in a bool
 module_seen : solution (one (bool_a ((Constant Yes ∷ []) ∷ []) (Constant Module ∷ []))) nothing (Vis A) ≡ Level Yes
 unfolding solution applied rule
 module_seen = refl

@@ -5,3 +5,4 @@ pub mod Rule
 pub mod Solution
 pub mod Assignable
 pub mod Counting
+pub mod Fresh

@@ -39,7 +39,8 @@ is_active a x e = not (is_no (condition a x))
 abbrev pub default_value : Assignment → SymbolValue → Tri
 default_value a x = option_map_or (λ e. least (expr_value a e) (condition a x)) (find (is_active a x) x.defaults) No
 
--- what the user chose, as far as the visibility allows
+-- what the user chose, as far as the visibility allows: nothing where the symbol is invisible, whose
+-- user value is kept and waits, and nothing for a text, which no bool takes
 abbrev pub user_part : Tri → Option UserVal → Option Tri
 user_part No u = None
 user_part Module (Some (TriVal v)) = Some (least v Module)

@@ -57,9 +57,11 @@ impl<'a> Fresh<'a> {
 }
 
 impl<'a> Resolver for Fresh<'a> {
-    ghost tree_of = { λ r. r.tree.now };
+    ghost use Rattle.kc_value.specs.Fresh.{tree_in, user_in};
 
-    ghost user_of = { λ r. r.user.now };
+    ghost tree_of = { tree_in };
+
+    ghost user_of = { user_in };
 
     ghost grew = { λ _ _ _. Unit {0} };
 

@@ -19,7 +19,7 @@ fn bool_value(value: Tri) -> Tri
     }
 }
 
-/// The visibility of a symbol: the value of its prompt's condition.
+/// The visibility of a symbol: the value of its prompt's condition, as a bool.
 pub(crate) fn symbol_visibility(symbol: &Symbol, env: &[Option<Value>]) -> Tri
     ensures { result ≡ visibility (assignment_of env.now) symbol.now }
 {
@@ -48,7 +48,8 @@ fn default_tri(symbol: &Symbol, env: &[Option<Value>]) -> Tri
     }
 }
 
-/// What the user chose, as far as the visibility allows.
+/// What the user chose, as far as the visibility allows: nothing for an invisible symbol, and nothing for a
+/// text, which no bool takes.
 fn user_tri(visibility: Tri, user: Option<&UserVal>) -> Option<Tri>
     ensures { result ≡ user_part visibility (option_copied user.entry) }
 {
@@ -59,8 +60,9 @@ fn user_tri(visibility: Tri, user: Option<&UserVal>) -> Option<Tri>
     }
 }
 
-/// The value of a symbol: the user's where it is visible, else the first active default within the
-/// dependencies; and whether the `.config` has its line (Kconfiglib, "str_value").
+/// The value of a symbol (kconfig-language.rst, "Menu attributes", and Kconfiglib, "str_value"): the user's
+/// where it is visible, else the first active default within the dependencies, and m as y. The `.config`
+/// has its line where it is visible or that default is not n.
 pub(crate) fn symbol_value(
     symbol: &Symbol,
     visibility: Tri,

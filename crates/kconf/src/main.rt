@@ -1,0 +1,48 @@
+//! A program that reads a Kconfig and answers commands on it: `kconf session KCONFIG CONFIG`.
+#![tactic(auto)]
+
+mod arguments;
+mod folder;
+mod messages;
+pub mod program;
+
+use std::io::{self, ErrorKind, Write};
+use std::process::ExitCode;
+use std::rt::Env;
+use std::env;
+
+use folder::SystemFolder;
+use messages::{Fault, Status, write_fault};
+use program::program;
+
+/// The words of the command line.
+fn read_words<R: Env + AllocGlobal>(rt: &R) -> io::Result<Vec<String>> {
+    Ok(env::args(rt)?.collect(rt.alloc())?)
+}
+
+/// Ends the program where its words cannot be read: one that is not UTF-8 is a mistake of usage.
+fn status_without_words<E: Write>(error: &io::Error, errors: &mut E) -> Status {
+    if error.kind() != ErrorKind::OutOfMemory {
+        return Status::Usage;
+    }
+    let _ = write_fault(errors, &Fault::NoMemory);
+    Status::Fault
+}
+
+fn main(rt: HostRuntime) -> ExitCode {
+    let status = match read_words(&rt) {
+        Ok(words) => program(
+            rt.alloc(),
+            words.as_slice(),
+            &SystemFolder::new(&rt),
+            &mut rt.stdin(),
+            &mut rt.stdout(),
+            &mut rt.stderr(),
+        ),
+        Err(error) => status_without_words(&error, &mut rt.stderr()).code(),
+    };
+    ExitCode::from(status)
+}
+
+#[cfg(test)]
+mod tests;
