@@ -47,7 +47,7 @@ pub ServesAll-nothing : (from left rest w0 w1 : Option (List ℕ)) (unread : Lis
     → HasServed from left w0 w1 s t → TakesNothing left (prepend_known unread rest) → ServesAll from rest w0 w1 s t
 ServesAll-nothing from left rest w0 w1 unread s t so_far takes =
     let whole : Consumes from (prepend_known unread rest) so_far.front =
-        subst (Consumes from (prepend_known unread rest)) (append-nil so_far.front) (Consumes-trans from left (prepend_known unread rest) so_far.front [] so_far.read takes.taken) in
+    subst (Consumes from (prepend_known unread rest)) (append-nil so_far.front) (Consumes-trans from left (prepend_known unread rest) so_far.front [] so_far.read takes.taken) in
     let end = Consumes-at_end from rest unread so_far.front whole takes.end in
     record {
       stream = so_far.front;
@@ -134,4 +134,4 @@ Serves-last (Ok u) from left rest w0 w1 w2 unread held text s t v so_far takes s
     ServesAll-last from left rest w0 w1 w2 unread held s t v so_far takes (subst (λ x. AnswersLine x w1 w2 t v) same ok)
 Serves-last (Err e) from left rest w0 w1 w2 unread held text s t v so_far takes same ok err fault =
     subst (λ f. Serves (Err f) from rest w0 w2 s v) (sym fault)
-      (StopsWriting-last from left (prepend_known unread rest) w0 w1 w2 held s t v so_far takes (subst (λ x. StopsInReply x w1 w2 t v) same err))
+    (StopsWriting-last from left (prepend_known unread rest) w0 w1 w2 held s t v so_far takes (subst (λ x. StopsInReply x w1 w2 t v) same err))

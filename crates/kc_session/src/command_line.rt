@@ -2,10 +2,9 @@
 ghost use Rattle.std.specs.Prelude.{◌≡◌, IfNone, IfSome, false, true};
 ghost use Rattle.kc_session.specs.Commands.{command_of, command_in, command_with, is_parted, word_before, rest_after};
 
+use crate::command::Command;
 use kc_text::TextRef;
 use std::str;
-
-use crate::command::Command;
 
 /// The command that the text of a line spells, `None` where it spells none.
 #[tactic(auto, unfolding(crate::specs::Commands::command_of), using(crate::proofs::Texts::text_facts))]

@@ -24,7 +24,6 @@ pub use serving::run;
 pub use session::Session;
 
 #[cfg(test)]
-mod tests;
-
-#[cfg(test)]
 mod serving_tests;
+#[cfg(test)]
+mod tests;

@@ -4,13 +4,11 @@ ghost use Rattle.kc_text.specs.Lines.{lines_of_top};
 ghost use Rattle.kc_tree.specs.Parsed.{IsTreeOf, IsFaultOf};
 ghost use Rattle.kc_session.specs.Opened.{IsOpened, IsOpenFault, IsTreeFaultOf};
 
-use std::alloc::Global;
-
+use crate::session::Session;
 use kc_files::Prefix;
 use kc_text::{Line, Sources, TextFault, Vars, logical_lines};
 use kc_tree::{Tree, TreeFault};
-
-use crate::session::Session;
+use std::alloc::Global;
 
 /// Why texts give no session.
 #[derive(Debug, Drop)]

@@ -7,13 +7,12 @@ ghost use Rattle.kc_session.specs.Replies.{reply_bytes};
 ghost use Rattle.kc_session.specs.Serving.{AnswersLine, StopsInReply};
 ghost use Rattle.kc_session.specs.LineReply.{IsLineReply};
 
-use std::io::Write;
-
 use crate::command::{Refusal, Reply};
 use crate::command_line::read_command;
 use crate::fault::IoFault;
 use crate::session::Session;
 use crate::writing::{append_all, write_all_of};
+use std::io::Write;
 
 /// Does the command of a line, whose text is `None` where the line is too long.
 #[tactic(auto, unfolding(crate::specs::Replies::outcome, crate::specs::Replies::may_be_refused))]
@@ -43,7 +42,11 @@ fn write_reply<W: Write>(writer: &mut W, reply: &Reply) -> Result<(), IoFault>
 {
     match reply {
         Reply::Done(text) => write_two(writer, text.as_str().as_bytes(), b"ok\n"),
-        Reply::Refused(refusal) => write_two(writer, b"refused ", &[b'0' + refusal.number(), b'\n']),
+        Reply::Refused(refusal) => write_two(
+            writer,
+            b"refused ",
+            &[b'0' + refusal.number(), b'\n'],
+        ),
     }
 }
 

@@ -2,15 +2,14 @@
 ghost use Rattle.std.specs.Prelude.{◌≡◌, [], OnOk, IsErrOf};
 ghost use Rattle.kc_session.specs.Serving.{Serves, ServesAll, StopsReading, StopsWriting};
 
-use std::alloc::Global;
-use std::io::{Read, Write};
-
 use crate::fault::IoFault;
 use crate::input::Input;
 use crate::line::LineBuffer;
 use crate::reading::{LineRead, read_line};
 use crate::replies::answer_line;
 use crate::session::Session;
+use std::alloc::Global;
+use std::io::{Read, Write};
 
 /// Serves a stream of commands, each line one, until the stream ends. Each reply is written and flushed before
 /// the next line is read. After a read of no bytes nothing more is read.

@@ -9,8 +9,7 @@ use kc_text::{Sources, Vars};
 use std::alloc::Global;
 use std::test::Fail;
 
-const TWO_SYMBOLS: &str =
-    "config A\nbool \"a\"\ndefault y\nconfig B\nbool \"b\"\ndepends on A\n";
+const TWO_SYMBOLS: &str = "config A\nbool \"a\"\ndefault y\nconfig B\nbool \"b\"\ndepends on A\n";
 
 // Commands with their replies.
 const COMMANDS: [(&str, &str); 4] = [
@@ -55,13 +54,25 @@ fn user_value(alloc: Global, session: &mut Session) -> Result<Vec<u8>, Fail> {
 fn values_follow_the_user_and_the_dependencies(rt: HostRuntime) -> Result<(), Fail> {
     let rows = [
         ("", ""),
-        ("set B y\nset A n\nshow B\n", "ok\nok\nB type=bool value=n vis=n can=- user=y\nok\n"),
+        (
+            "set B y\nset A n\nshow B\n",
+            "ok\nok\nB type=bool value=n vis=n can=- user=y\nok\n",
+        ),
         ("config\n", "# CONFIG_A is not set\nok\n"),
-        ("unset A\nshow B\r\n", "ok\nB type=bool value=y vis=y can=n,y user=y\nok\n"),
-        ("set A m\nset A\nset A \nset U y\n", "refused 3\nrefused 1\nrefused 3\nrefused 2\n"),
+        (
+            "unset A\nshow B\r\n",
+            "ok\nB type=bool value=y vis=y can=n,y user=y\nok\n",
+        ),
+        (
+            "set A m\nset A\nset A \nset U y\n",
+            "refused 3\nrefused 1\nrefused 3\nrefused 2\n",
+        ),
         ("show A", "A type=bool value=y vis=y can=n,y user=-\nok\n"),
         ("config", "CONFIG_A=y\nCONFIG_B=y\nok\n"),
-        ("unset \nshow \nconfig \n\nshow A B\n", "refused 2\nrefused 2\nrefused 1\nrefused 1\nrefused 1\n"),
+        (
+            "unset \nshow \nconfig \n\nshow A B\n",
+            "refused 2\nrefused 2\nrefused 1\nrefused 1\nrefused 1\n",
+        ),
     ];
     let mut session = session_of(rt.alloc(), TWO_SYMBOLS)?;
     for (stream, want) in rows {
@@ -98,13 +109,19 @@ fn a_failed_write_leaves_a_beginning_and_the_effect(rt: HostRuntime) -> Result<(
         let result = run(rt.alloc(), &mut reader, &mut writer, &mut session);
         assert_eq!(rt; result, Err(IoFault::Write), "at call {call}");
         assert_eq!(rt; writer.taken.len(), call);
-        assert!(rt; replies.as_bytes().starts_with(writer.taken.as_slice()), "at call {call}");
+        assert!(rt;
+            replies.as_bytes().starts_with(writer.taken.as_slice()),
+            "at call {call}"
+        );
         // The third command is done once a byte past the replies to the first two is asked for.
         let (_, two) = first_commands(rt.alloc(), 2)?;
         let want = if call < two.len() { "n" } else { "-" };
         let shown = user_value(rt.alloc(), &mut session)?;
         let end = format!(in rt.alloc(); "user={want}\nok\n")?;
-        assert!(rt; shown.as_slice().ends_with(end.as_bytes()), "at call {call}");
+        assert!(rt;
+            shown.as_slice().ends_with(end.as_bytes()),
+            "at call {call}"
+        );
     }
     Ok(())
 }

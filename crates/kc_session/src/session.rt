@@ -3,16 +3,14 @@ ghost use Rattle.std.specs.Prelude.{◌≡◌, [], IfOk, IfErr, OnErr};
 ghost use Rattle.std.specs.String.{string_bytes};
 ghost use Rattle.kc_session.specs.Values.{bool_of};
 
-use std::alloc::{AllocError, Global};
-use std::marker::Model;
-
+use crate::command::{Command, Refusal, Reply};
+use crate::show::show_line;
 use kc_files::{Prefix, config_text};
 use kc_text::Text;
 use kc_tree::{Node, SymId, Tree, Tri, UserVal};
 use kc_value::{Fresh, Resolver, User, Value, solve};
-
-use crate::command::{Command, Refusal, Reply};
-use crate::show::show_line;
+use std::alloc::{AllocError, Global};
+use std::marker::Model;
 
 /// A tree with user values. It answers with the values of the one solution, and keeps nothing from one
 /// question to the next. Contracts see the tree, the user values and the prefix.

@@ -7,10 +7,9 @@ ghost use Rattle.kc_tree.specs.Nodes.{IsNodeOf};
 ghost use Rattle.kc_value.specs.UserValues.{IsUserFor};
 ghost use Rattle.kc_session.specs.ShowLine.{show_line_of, line_text, tri_text, values_text, user_text};
 
-use std::alloc::{AllocError, Global};
-
 use kc_tree::{Node, SymId, Tri, UserVal};
 use kc_value::{Resolver, assignable};
+use std::alloc::{AllocError, Global};
 
 /// The line of `show` about a symbol.
 #[tactic(auto, unfolding(crate::specs::ShowLine::show_line_of))]

@@ -45,6 +45,7 @@ impl Names {
         self.set.get_index_of(name)
     }
 
+    /// Whether a name is among them.
     pub fn contains(&self, name: &str) -> bool
         ensures { result ≡ list_any (bytes_eq name.now) self.now }
     {

@@ -4,10 +4,9 @@ ghost use Rattle.std.specs.Prelude.{◌≡◌};
 ghost use Rattle.std.specs.Iterator.{YieldsFirst, item_count};
 ghost use Rattle.kc_tree.specs.Nodes.{all_nodes};
 
-use std::marker::Model;
-
 use crate::node::Node;
 use crate::tree::Tree;
+use std::marker::Model;
 
 /// The nodes of a tree in the order of their numbers. Contracts see the list of those that are left.
 #[derive(Drop)]

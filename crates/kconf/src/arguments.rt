@@ -2,13 +2,12 @@
 //!
 //! Not taken yet: a CONFIG other than `-`, which stands for none, and variables after it, as `NAME=VALUE`.
 
-use std::alloc::{AllocError, Global};
-use std::convert::AsStr;
-
 use clap::builder::ValueParser;
 use clap::error::ErrorKind;
 use clap::{Arg, ArgAction, Command, Error};
 use kc_files::{Prefix, PrefixFault};
+use std::alloc::{AllocError, Global};
+use std::convert::AsStr;
 
 /// What CONFIG may be.
 static NO_CONFIG: [&str; 1] = ["-"];
@@ -36,12 +35,18 @@ impl<'a> Arguments<'a> {
         let kconfig = session.and_then(|found| found.get_str("KCONFIG"));
         let prefix = session.and_then(|found| found.get_str("prefix"));
         let (Some(kconfig), Some(prefix)) = (kconfig, prefix) else {
-            return Err(command.error(ErrorKind::MissingRequiredArgument, "an argument is missing")?);
+            return Err(command.error(
+                ErrorKind::MissingRequiredArgument,
+                "an argument is missing",
+            )?);
         };
         match Prefix::new(alloc, prefix) {
             Ok(prefix) => Ok(Arguments { kconfig, prefix }),
             Err(PrefixFault::NoMemory) => Err(Error::from(AllocError)),
-            Err(PrefixFault::Malformed) => Err(command.error(ErrorKind::ValueValidation, MALFORMED_PREFIX)?),
+            Err(PrefixFault::Malformed) => Err(command.error(
+                ErrorKind::ValueValidation,
+                MALFORMED_PREFIX,
+            )?),
         }
     }
 }
@@ -72,7 +77,9 @@ fn session_command<'a>(alloc: Global) -> Result<Command<'a>, AllocError> {
         .value_name("P")
         .action(ArgAction::Set)
         .default_value("CONFIG_")
-        .help("What stands before the names of symbols in files: at most 64 ASCII letters, digits and _");
+        .help(
+            "What stands before the names of symbols in files: at most 64 ASCII letters, digits and _",
+        );
     Command::new(alloc, "session")
         .about("Reads a Kconfig, and answers the commands of standard input, each line one")
         .arg(kconfig)?

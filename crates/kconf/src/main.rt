@@ -6,14 +6,13 @@ mod folder;
 mod messages;
 pub mod program;
 
-use std::io::{self, ErrorKind, Write};
-use std::process::ExitCode;
-use std::rt::Env;
-use std::env;
-
 use folder::SystemFolder;
 use messages::{Fault, Status, write_fault};
 use program::program;
+use std::env;
+use std::io::{self, ErrorKind, Write};
+use std::process::ExitCode;
+use std::rt::Env;
 
 /// The words of the command line.
 fn read_words<R: Env + AllocGlobal>(rt: &R) -> io::Result<Vec<String>> {

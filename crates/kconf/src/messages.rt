@@ -1,10 +1,9 @@
 //! How the program ended, and what it says of a fault on standard error.
 
-use std::io::{self, Write};
-
 use kc_session::{IoFault, OpenFault};
 use kc_text::TextFault;
 use kc_tree::TreeFault;
+use std::io::{self, Write};
 
 /// How the program ended.
 #[derive(Clone, Copy, Debug, PartialEq, Eq)]

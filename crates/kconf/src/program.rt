@@ -1,18 +1,16 @@
 //! The program over a folder of files and three streams, which a test gives in memory.
 
-use std::alloc::Global;
-use std::convert::AsStr;
-use std::io::{self, Read, Write};
-use std::str;
-
+use crate::arguments::Arguments;
+use crate::folder::{Folder, FolderFault};
+use crate::messages::{Fault, Status, write_fault};
 use clap::Error;
 use clap::error::ErrorKind;
 use kc_session::{IoFault, Session, open, run};
 use kc_text::{Sources, Vars};
-
-use crate::arguments::Arguments;
-use crate::folder::{Folder, FolderFault};
-use crate::messages::{Fault, Status, write_fault};
+use std::alloc::Global;
+use std::convert::AsStr;
+use std::io::{self, Read, Write};
+use std::str;
 
 /// Does what the words of a command line ask for, and gives the exit status: 0 where it was done, 1 after a
 /// fault, which `errors` tells of, and 2 where the words are no command line. The first word is the program's

@@ -68,14 +68,7 @@ pub(crate) fn run_program(
     let mut output = Vec::new(alloc);
     let mut errors = Vec::new(alloc);
     let folder = MemoryFolder { files };
-    let status = program(
-        alloc,
-        words,
-        &folder,
-        &mut input,
-        &mut output,
-        &mut errors,
-    );
+    let status = program(alloc, words, &folder, &mut input, &mut output, &mut errors);
     Outcome {
         status,
         output,

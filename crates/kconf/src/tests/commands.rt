@@ -4,6 +4,7 @@ use std::alloc::{AllocError, Global};
 use std::test::Fail;
 
 const ONE: &str = "config A\nbool \"a\"\n";
+
 const TWO: &str = "config A\nbool \"a\"\ndefault y\nconfig B\nbool \"b\"\ndepends on A\n";
 
 #[test]
@@ -31,8 +32,16 @@ fn commands_are_answered(rt: HostRuntime) -> Result<(), Fail> {
     for (kconfig, commands, want) in rows {
         let outcome = run_session(rt.alloc(), kconfig.as_bytes(), commands.as_bytes());
         assert_eq!(rt; outcome.status, 0, "at {commands:?}");
-        assert_eq!(rt; outcome.output.as_slice(), want.as_bytes(), "at {commands:?}");
-        assert_eq!(rt; outcome.errors.as_slice(), b"".as_slice(), "at {commands:?}");
+        assert_eq!(rt;
+            outcome.output.as_slice(),
+            want.as_bytes(),
+            "at {commands:?}"
+        );
+        assert_eq!(rt;
+            outcome.errors.as_slice(),
+            b"".as_slice(),
+            "at {commands:?}"
+        );
     }
     Ok(())
 }
@@ -46,10 +55,7 @@ fn long_line(alloc: Global, length: usize) -> Result<Vec<u8>, AllocError> {
 
 #[test]
 fn a_long_line_is_one_command(rt: HostRuntime) -> Result<(), Fail> {
-    let rows = [
-        (65_536, "refused 1\nok\n"),
-        (65_537, "refused 6\nok\n"),
-    ];
+    let rows = [(65_536, "refused 1\nok\n"), (65_537, "refused 6\nok\n")];
     for (length, want) in rows {
         let stream = long_line(rt.alloc(), length)?;
         let outcome = run_session(rt.alloc(), ONE.as_bytes(), stream.as_slice());

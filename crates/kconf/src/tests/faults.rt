@@ -4,6 +4,7 @@ use crate::tests::{FailingReader, FailingWriter, MemoryFolder, run_program, run_
 use std::test::Fail;
 
 const SESSION: [&str; 4] = ["kconf", "session", "Kconfig", "-"];
+
 const FILES: [(&str, &[u8]); 1] = [("Kconfig", b"config A\nbool \"a\"\n")];
 
 #[test]
@@ -19,7 +20,11 @@ fn faults_of_a_kconfig_are_told(rt: HostRuntime) -> Result<(), Fail> {
         let outcome = run_session(rt.alloc(), kconfig.as_bytes(), b"config\n");
         assert_eq!(rt; outcome.status, 1, "at {kconfig:?}");
         assert_eq!(rt; outcome.output.as_slice(), b"".as_slice(), "at {kconfig:?}");
-        assert_eq!(rt; outcome.errors.as_slice(), want.as_bytes(), "at {kconfig:?}");
+        assert_eq!(rt;
+            outcome.errors.as_slice(),
+            want.as_bytes(),
+            "at {kconfig:?}"
+        );
     }
     Ok(())
 }

@@ -14,12 +14,7 @@ fn run_line(alloc: Global, line: &str) -> Result<Outcome, AllocError> {
     for word in line.split_whitespace() {
         words.push(word)?;
     }
-    Ok(run_program(
-        alloc,
-        words.as_slice(),
-        FILES.as_slice(),
-        b"config\n",
-    ))
+    Ok(run_program(alloc, words.as_slice(), FILES.as_slice(), b"config\n"))
 }
 
 #[test]
