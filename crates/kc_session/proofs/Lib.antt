@@ -1,6 +1,7 @@
 pub mod Appending
 pub mod Cutting
 mod Examples
+mod ReplyExamples
 pub mod Holding
 pub mod Lines
 pub mod RunSteps

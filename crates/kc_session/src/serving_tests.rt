@@ -19,6 +19,14 @@ const COMMANDS: [(&str, &str); 4] = [
     ("frob\n", "refused 1\n"),
 ];
 
+// What became of a stream.
+#[derive(Drop)]
+struct Served {
+    result: Result<(), IoFault>,
+    taken: Vec<u8>,
+    session: Session,
+}
+
 fn session_of(alloc: Global, kconfig: &str) -> Result<Session, Fail> {
     let mut sources = Sources::new(alloc);
     sources.add("Kconfig", kconfig)?;
@@ -26,15 +34,22 @@ fn session_of(alloc: Global, kconfig: &str) -> Result<Session, Fail> {
     Ok(open(alloc, &sources, &Vars::none(), "Kconfig", &prefix)?)
 }
 
-// The first commands as a stream, and their replies.
-fn first_commands(alloc: Global, count: usize) -> Result<(String, String), Fail> {
+// The commands as a stream.
+fn all_commands(alloc: Global) -> Result<String, Fail> {
     let mut stream = String::new(alloc);
-    let mut replies = String::new(alloc);
-    for (command, reply) in COMMANDS.iter().take(count) {
+    for (command, _) in &COMMANDS {
         stream.push_str(command)?;
+    }
+    Ok(stream)
+}
+
+// The replies to the first commands.
+fn first_replies(alloc: Global, count: usize) -> Result<String, Fail> {
+    let mut replies = String::new(alloc);
+    for (_, reply) in COMMANDS.iter().take(count) {
         replies.push_str(reply)?;
     }
-    Ok((stream, replies))
+    Ok(replies)
 }
 
 // How many line feeds stand in the first bytes of a text.
@@ -42,12 +57,29 @@ fn lines_in(text: &str, count: usize) -> usize {
     text.bytes().take(count).filter(|b| *b == b'\n').count()
 }
 
-// What the session replies to `show A` has for the user value.
-fn user_value(alloc: Global, session: &mut Session) -> Result<Vec<u8>, Fail> {
-    let mut reader = FailingReader::new(b"show A\n", 100, NEVER);
-    let mut writer = FailingWriter::new(alloc, 100, NEVER, NEVER);
+// Serves a stream in a session of two symbols.
+fn serve_stream(
+    alloc: Global,
+    mut reader: FailingReader,
+    mut writer: FailingWriter,
+) -> Result<Served, Fail> {
+    let mut session = session_of(alloc, TWO_SYMBOLS)?;
+    let result = run(alloc, &mut reader, &mut writer, &mut session);
+    let FailingWriter { taken, .. } = writer;
+    Ok(Served {
+        result,
+        taken,
+        session,
+    })
+}
+
+// The replies of a session to a stream.
+fn replies(alloc: Global, stream: &str, session: &mut Session) -> Result<Vec<u8>, Fail> {
+    let mut reader = FailingReader::new(stream.as_bytes(), 3, NEVER);
+    let mut writer = FailingWriter::new(alloc, 5, NEVER, NEVER);
     run(alloc, &mut reader, &mut writer, session)?;
-    Ok(writer.taken)
+    let FailingWriter { taken, .. } = writer;
+    Ok(taken)
 }
 
 #[test]
@@ -76,50 +108,60 @@ fn values_follow_the_user_and_the_dependencies(rt: HostRuntime) -> Result<(), Fa
     ];
     let mut session = session_of(rt.alloc(), TWO_SYMBOLS)?;
     for (stream, want) in rows {
-        let mut reader = FailingReader::new(stream.as_bytes(), 3, NEVER);
-        let mut writer = FailingWriter::new(rt.alloc(), 5, NEVER, NEVER);
-        run(rt.alloc(), &mut reader, &mut writer, &mut session)?;
-        assert_eq!(rt; writer.taken.as_slice(), want.as_bytes(), "at {stream:?}");
+        let taken = replies(rt.alloc(), stream, &mut session)?;
+        assert_eq!(rt; taken.as_slice(), want.as_bytes(), "at {stream:?}");
     }
     Ok(())
 }
 
 #[test]
 fn a_failed_read_leaves_the_replies_to_whole_lines(rt: HostRuntime) -> Result<(), Fail> {
-    let (stream, _) = first_commands(rt.alloc(), COMMANDS.len())?;
+    let stream = all_commands(rt.alloc())?;
     for call in 0..stream.len() {
-        let mut session = session_of(rt.alloc(), TWO_SYMBOLS)?;
-        let mut reader = FailingReader::new(stream.as_bytes(), 1, call as u64);
-        let mut writer = FailingWriter::new(rt.alloc(), 7, NEVER, NEVER);
-        let result = run(rt.alloc(), &mut reader, &mut writer, &mut session);
-        assert_eq!(rt; result, Err(IoFault::Read), "at call {call}");
-        let (_, want) = first_commands(rt.alloc(), lines_in(stream.as_str(), call))?;
-        assert_eq!(rt; writer.taken.as_slice(), want.as_bytes(), "at call {call}");
+        let reader = FailingReader::new(stream.as_bytes(), 1, call as u64);
+        let writer = FailingWriter::new(rt.alloc(), 7, NEVER, NEVER);
+        let served = serve_stream(rt.alloc(), reader, writer)?;
+        let want = first_replies(rt.alloc(), lines_in(stream.as_str(), call))?;
+        assert_eq!(rt; served.result, Err(IoFault::Read), "at call {call}");
+        assert_eq!(rt; served.taken.as_slice(), want.as_bytes(), "at call {call}");
     }
     Ok(())
 }
 
 #[test]
-fn a_failed_write_leaves_a_beginning_and_the_effect(rt: HostRuntime) -> Result<(), Fail> {
-    let (stream, replies) = first_commands(rt.alloc(), COMMANDS.len())?;
-    for call in 0..replies.len() {
-        let mut session = session_of(rt.alloc(), TWO_SYMBOLS)?;
-        let mut reader = FailingReader::new(stream.as_bytes(), 100, NEVER);
-        let mut writer = FailingWriter::new(rt.alloc(), 1, call as u64, NEVER);
-        let result = run(rt.alloc(), &mut reader, &mut writer, &mut session);
-        assert_eq!(rt; result, Err(IoFault::Write), "at call {call}");
-        assert_eq!(rt; writer.taken.len(), call);
-        assert!(rt;
-            replies.as_bytes().starts_with(writer.taken.as_slice()),
+fn a_failed_write_leaves_a_beginning(rt: HostRuntime) -> Result<(), Fail> {
+    let stream = all_commands(rt.alloc())?;
+    let whole = first_replies(rt.alloc(), COMMANDS.len())?;
+    for call in 0..whole.len() {
+        let reader = FailingReader::new(stream.as_bytes(), 100, NEVER);
+        let writer = FailingWriter::new(rt.alloc(), 1, call as u64, NEVER);
+        let served = serve_stream(rt.alloc(), reader, writer)?;
+        assert_eq!(rt; served.result, Err(IoFault::Write), "at call {call}");
+        assert_eq!(rt;
+            served.taken.as_slice(),
+            &whole.as_bytes()[..call],
             "at call {call}"
         );
-        // The third command is done once a byte past the replies to the first two is asked for.
-        let (_, two) = first_commands(rt.alloc(), 2)?;
-        let want = if call < two.len() { "n" } else { "-" };
-        let shown = user_value(rt.alloc(), &mut session)?;
-        let end = format!(in rt.alloc(); "user={want}\nok\n")?;
+    }
+    Ok(())
+}
+
+#[test]
+fn a_failed_write_leaves_the_effect_of_its_command(rt: HostRuntime) -> Result<(), Fail> {
+    let stream = all_commands(rt.alloc())?;
+    // The byte that can't be written, and the user value of A that `show A` then tells.
+    for (call, want) in [
+        (0, "user=n\nok\n"),
+        (24, "user=n\nok\n"),
+        (28, "user=-\nok\n"),
+        (30, "user=-\nok\n"),
+    ] {
+        let reader = FailingReader::new(stream.as_bytes(), 100, NEVER);
+        let writer = FailingWriter::new(rt.alloc(), 1, call, NEVER);
+        let mut served = serve_stream(rt.alloc(), reader, writer)?;
+        let shown = replies(rt.alloc(), "show A\n", &mut served.session)?;
         assert!(rt;
-            shown.as_slice().ends_with(end.as_bytes()),
+            shown.as_slice().ends_with(want.as_bytes()),
             "at call {call}"
         );
     }
@@ -128,15 +170,14 @@ fn a_failed_write_leaves_a_beginning_and_the_effect(rt: HostRuntime) -> Result<(
 
 #[test]
 fn a_failed_flush_leaves_whole_replies(rt: HostRuntime) -> Result<(), Fail> {
-    let (stream, _) = first_commands(rt.alloc(), COMMANDS.len())?;
+    let stream = all_commands(rt.alloc())?;
     for call in 0..COMMANDS.len() {
-        let mut session = session_of(rt.alloc(), TWO_SYMBOLS)?;
-        let mut reader = FailingReader::new(stream.as_bytes(), 100, NEVER);
-        let mut writer = FailingWriter::new(rt.alloc(), 100, NEVER, call as u64);
-        let result = run(rt.alloc(), &mut reader, &mut writer, &mut session);
-        assert_eq!(rt; result, Err(IoFault::Write), "at call {call}");
-        let (_, want) = first_commands(rt.alloc(), call + 1)?;
-        assert_eq!(rt; writer.taken.as_slice(), want.as_bytes(), "at call {call}");
+        let reader = FailingReader::new(stream.as_bytes(), 100, NEVER);
+        let writer = FailingWriter::new(rt.alloc(), 100, NEVER, call as u64);
+        let served = serve_stream(rt.alloc(), reader, writer)?;
+        let want = first_replies(rt.alloc(), call + 1)?;
+        assert_eq!(rt; served.result, Err(IoFault::Write), "at call {call}");
+        assert_eq!(rt; served.taken.as_slice(), want.as_bytes(), "at call {call}");
     }
     Ok(())
 }

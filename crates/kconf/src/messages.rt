@@ -1,4 +1,6 @@
 //! How the program ended, and what it says of a fault on standard error.
+ghost use Rattle.std.specs.Prelude.{◌≡◌};
+ghost use Rattle.kconf.specs.Endings.{code_of};
 
 use kc_session::{IoFault, OpenFault};
 use kc_text::TextFault;
@@ -18,7 +20,9 @@ pub enum Status {
 
 impl Status {
     /// The exit status of the process.
-    pub fn code(self) -> u8 {
+    pub fn code(self) -> u8
+        ensures { result ≡ code_of self }
+    {
         self as u8
     }
 }
@@ -38,6 +42,18 @@ pub enum Fault<'a> {
     Stream(IoFault),
     /// Memory was refused.
     NoMemory,
+}
+
+impl From<TextFault> for Fault<'_> {
+    fn from(fault: TextFault) -> Self {
+        Fault::Text(fault)
+    }
+}
+
+impl From<IoFault> for Fault<'_> {
+    fn from(fault: IoFault) -> Self {
+        Fault::Stream(fault)
+    }
 }
 
 impl From<OpenFault> for Fault<'_> {

@@ -1,4 +1,7 @@
 //! The program over a folder of files and three streams, which a test gives in memory.
+ghost use Rattle.std.specs.Prelude.{◌≡◌, ◌≤◌};
+ghost use Rattle.clap.specs.Words.{kind_of};
+ghost use Rattle.kconf.specs.Endings.{ending_of};
 
 use crate::arguments::Arguments;
 use crate::folder::{Folder, FolderFault};
@@ -25,7 +28,9 @@ pub fn program<S: AsStr, F: Folder, R: Read, W: Write, E: Write>(
     input: &mut R,
     output: &mut W,
     errors: &mut E,
-) -> u8 {
+) -> u8
+    ensures { result ≤ 2 }
+{
     let status = match Arguments::parse(alloc, words) {
         Ok(arguments) => match serve(alloc, &arguments, folder, input, output) {
             Ok(()) => Status::Done,
@@ -45,7 +50,8 @@ fn serve<'a, F: Folder, R: Read, W: Write>(
     output: &mut W,
 ) -> Result<(), Fault<'a>> {
     let mut session = open_session(alloc, arguments, folder)?;
-    run(alloc, input, output, &mut session).map_err(Fault::Stream)
+    run(alloc, input, output, &mut session)?;
+    Ok(())
 }
 
 /// The session of the Kconfig of a folder.
@@ -75,14 +81,14 @@ fn read_sources<'a, F: Folder>(
         return Err(Fault::NotUtf8(path));
     };
     let mut sources = Sources::new(alloc);
-    sources.add(path, text).map_err(Fault::Text)?;
+    sources.add(path, text)?;
     Ok(sources)
 }
 
 /// Shows what a parse of the words gave in place of arguments: help on `output`, and else the mistake on
 /// `errors`.
 fn answer_words<W: Write, E: Write>(error: &Error, output: &mut W, errors: &mut E) -> Status {
-    match status_of(error) {
+    match ending_of(error) {
         Status::Done => match show_help(error, output) {
             Ok(()) => Status::Done,
             Err(_) => tell(&Fault::Stream(IoFault::Write), errors),
@@ -101,7 +107,9 @@ fn show_help<W: Write>(help: &Error, output: &mut W) -> io::Result<()> {
 }
 
 /// How the program ends where the words gave no arguments.
-fn status_of(error: &Error) -> Status {
+fn ending_of(error: &Error) -> Status
+    ensures { result ≡ ending_of (kind_of error.now) }
+{
     match error.kind() {
         ErrorKind::DisplayHelp | ErrorKind::DisplayVersion => Status::Done,
         ErrorKind::OutOfMemory => Status::Fault,
