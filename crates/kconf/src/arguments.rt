@@ -1,5 +1,7 @@
 //! The command line: `kconf session KCONFIG CONFIG`, with `--prefix P` and `--help`.
 //!
+//! A word that begins with `-` is an option, but `-` alone is a value, and so is each word after `--`.
+//!
 //! Not taken yet: a CONFIG other than `-`, which stands for none, and variables after it, as `NAME=VALUE`.
 
 use clap::builder::ValueParser;

@@ -27,6 +27,7 @@ pub struct SystemFolder<'a, R> {
 }
 
 impl<'a, R> SystemFolder<'a, R> {
+    /// The files that the runtime reaches.
     pub fn new(rt: &'a R) -> SystemFolder<'a, R> {
         SystemFolder { rt }
     }
