@@ -1,7 +1,6 @@
 -- Commands with their replies, computed from the definitions. What each reply is was worked out by hand.
-use Rattle.std.proofs.Common.{◌≡◌, List, [], ◌∷◌, Option, Some, None, refl}
+use Rattle.std.proofs.Common.{◌≡◌, [], ◌∷◌, Option, Some, None, refl}
 use Rattle.std.specs.Prelude.{codes}
-use Rattle.kc_tree.specs.declared.symbol.SymId.{SymId}
 use Rattle.kc_tree.specs.declared.symbol.Term.TheVariants.{Tri as Constant, Symbol}
 use Rattle.kc_tree.specs.declared.tree.Entry.TheVariants.{Symbol as SymbolEntry}
 use Rattle.kc_tree.specs.declared.tri.Tri.TheVariants.{No, Yes}

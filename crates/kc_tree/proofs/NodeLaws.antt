@@ -1,10 +1,10 @@
 -- The nodes of a tree, all of them, and those of its entries.
-use Rattle.std.proofs.Common.{◌≡◌, ℕ, ◌+◌, ◌*◌, ◌/◌, ◌%◌, ◌<◌, List, map, length, refl, sym, ap, ◌∙◌, subst, if◌then◌else◌, true, false, eqb, arith}
-use Rattle.std.specs.List.{Contains, range_with_len, slice_index_or}
+use Rattle.std.proofs.Common.{◌≡◌, ℕ, ◌<◌, List, map, length, sym, ap, ◌∙◌, subst, arith}
+use Rattle.std.specs.List.{Contains, range_with_len}
 use Rattle.std.proofs.lemmas.List.FromFn.{get_or-map-range_with_len, length-map-range_with_len}
 use Rattle.kc_tree.specs.declared.symbol.SymId.{SymId}
 use Rattle.kc_tree.specs.declared.node.Node.{Node}
-use Rattle.kc_tree.specs.declared.node.Node.TheVariants.{Vis, Val}
+use Rattle.kc_tree.specs.declared.node.Node.TheVariants.{Val}
 use Rattle.kc_tree.specs.declared.tree.Entry.{Entry}
 use Rattle.kc_tree.specs.declared.tree.Entry.TheVariants.{Symbol}
 use Rattle.kc_tree.specs.TreeValue.{TreeValue}

@@ -1,12 +1,11 @@
 -- What follows from an order of the nodes.
-use Rattle.std.proofs.Common.{◌≡◌, ◌≢◌, ℕ, ◌+◌, ◌*◌, ◌<◌, ◌≤◌, Bool, true, false, List, Some, length, get_or, map, eqb, refl, sym, ap, ◌∙◌, subst, arith}
-use Rattle.std.specs.List.{Contains, slice_get, list_any, IsDistinct}
+use Rattle.std.proofs.Common.{◌≡◌, ℕ, ◌<◌, ◌≤◌, Bool, true, false, List, Some, length, get_or, map, eqb, refl, sym, ap, ◌∙◌, subst, arith}
+use Rattle.std.specs.List.{list_any}
 use Rattle.std.proofs.lemmas.List.{get_or-map, length-map}
 use Rattle.std.proofs.lemmas.List.Elements.{Contains-get_or}
 use Rattle.std.proofs.lemmas.Map.Keys.{IsDistinct-from_apart}
 use Rattle.std.proofs.lemmas.Map.Steps.{length-le_from_distinct_below}
 use Rattle.std.proofs.lemmas.Option.{slice_get-get_or}
-use Rattle.std.proofs.lemmas.Bool.Decides.{nat_tests}
 use Rattle.indexmap.proofs.CallerLemmas.{Contains-list_any}
 use borrow.Author.Tests.{eqb-true}
 use Rattle.kc_tree.specs.declared.node.Node.{Node}

@@ -1,6 +1,6 @@
 -- What is answered for logical lines: their tree, or their first fault. This project's own, after
 -- kconfig-language.rst.
-use Rattle.std.specs.Prelude.{◌≡◌, List, Option, None}
+use Rattle.std.specs.Prelude.{◌≡◌, List, None}
 use Rattle.kc_text.specs.LineValue.{LineValue}
 use Rattle.kc_tree.specs.declared.fault.TreeFault.{TreeFault}
 use Rattle.kc_tree.specs.declared.fault.TreeFault.TheVariants.{Line, Symbol, Loop, NoMemory}
