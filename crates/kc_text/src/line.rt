@@ -88,6 +88,7 @@ impl<'a> Line<'a> {
         self.run
     }
 
+    /// What the line stands for.
     pub fn kind(&self) -> LineKind
         ensures { result ≡ self.now.kind }
     {

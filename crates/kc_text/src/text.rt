@@ -34,6 +34,7 @@ impl Text {
         })
     }
 
+    /// The text, lent.
     pub fn as_str(&self) -> &str
         ensures { result.now ≡ self.now }
     {
@@ -71,12 +72,14 @@ impl<'a> Model for TextRef<'a> {
 }
 
 impl<'a> TextRef<'a> {
+    /// The text that is lent, which takes no memory.
     pub fn new(text: &'a str) -> TextRef<'a>
         ensures { result ≡ text.entry.now }
     {
         TextRef { text }
     }
 
+    /// The text that was lent.
     pub fn as_str(&self) -> &str
         ensures { result.now ≡ self.now }
     {

@@ -35,12 +35,14 @@ impl Model for Expr {
 }
 
 impl Expr {
+    /// The expression of its terms.
     pub fn new(terms: Vec<Term>) -> Expr
         ensures { result ≡ terms.items }
     {
         Expr { terms }
     }
 
+    /// The terms that `&&` joins.
     pub fn terms(&self) -> &[Term]
         ensures { result.now ≡ self.now }
     {
@@ -65,6 +67,7 @@ impl Model for Symbol {
 }
 
 impl Symbol {
+    /// A symbol of its prompt, the values of its defaults and the terms of its `depends on` lines.
     pub fn new(prompt: Text, defaults: Vec<Expr>, dependencies: Expr) -> Symbol
         ensures { result ≡ record { prompt = prompt; defaults = defaults.items; dependencies = dependencies } }
     {

@@ -35,6 +35,7 @@ impl Tri {
         }
     }
 
+    /// Whether the value is n.
     pub fn is_no(self) -> bool
         ensures { result ≡ is_no self }
     {
