@@ -2,7 +2,8 @@
 use Rattle.std.specs.Prelude.{◌≡◌, ℕ, List, Ok, Err}
 use Rattle.kc_text.specs.LineValue.{LineValue}
 use Rattle.kc_text.specs.FileList.{File}
-use Rattle.kc_text.specs.Lines.{lines_of_top}
+use Rattle.kc_text.specs.Expansion.{texts_in}
+use Rattle.kc_text.specs.Reading.{logical_lines_of}
 use Rattle.kc_tree.specs.declared.fault.TreeFault.{TreeFault}
 use Rattle.kc_tree.specs.declared.fault.TreeFault.TheVariants.{Line, Symbol, Loop, NoMemory as NoTreeMemory}
 use Rattle.kc_tree.specs.Parsed.{IsTreeOf, IsFaultOf}
@@ -10,10 +11,10 @@ use Rattle.kc_session.specs.declared.opening.OpenFault.{OpenFault}
 use Rattle.kc_session.specs.declared.opening.OpenFault.TheVariants.{Text, Tree, NoMemory}
 use Rattle.kc_session.specs.Session.{SessionValue, new_session}
 
--- the texts have logical lines, and these have a tree: that of the session, which has no user values
-pub record IsOpened (files : List File) (top prefix : List ℕ) (s : SessionValue) : Type 0 where
+-- the texts have logical lines with the variables that are handed in, and these have a tree: that of the session, which has no user values
+pub record IsOpened (files vars : List File) (top prefix : List ℕ) (s : SessionValue) : Type 0 where
   pub lines : List LineValue
-  pub lines_are : lines_of_top files top ≡ Ok lines
+  pub lines_are : logical_lines_of files (texts_in vars) top ≡ Ok lines
   pub tree : IsTreeOf lines s.tree
   pub session : s ≡ new_session s.tree prefix
 
@@ -25,9 +26,9 @@ IsNumbered (Loop nodes) = Unit {0}
 IsNumbered NoTreeMemory = ⊥
 
 -- the first fault of the lines
-pub record HasTreeFault (files : List File) (top : List ℕ) (fault : TreeFault) : Type 0 where
+pub record HasTreeFault (files vars : List File) (top : List ℕ) (fault : TreeFault) : Type 0 where
   pub lines : List LineValue
-  pub lines_are : lines_of_top files top ≡ Ok lines
+  pub lines_are : logical_lines_of files (texts_in vars) top ≡ Ok lines
   pub fault_is : IsFaultOf lines fault
   pub numbered : IsNumbered fault
 
@@ -38,7 +39,7 @@ IsTreeFaultOf lines (Tree fault) = IsFaultOf lines fault × IsNumbered fault
 IsTreeFaultOf lines NoMemory = Unit {0}
 
 -- the first fault of the texts, or else of their lines; want of memory says nothing of them
-abbrev pub IsOpenFault : List File → List ℕ → OpenFault → Type 0
-IsOpenFault files top (Text fault) = lines_of_top files top ≡ Err fault
-IsOpenFault files top (Tree fault) = HasTreeFault files top fault
-IsOpenFault files top NoMemory = Unit {0}
+abbrev pub IsOpenFault : List File → List File → List ℕ → OpenFault → Type 0
+IsOpenFault files vars top (Text fault) = logical_lines_of files (texts_in vars) top ≡ Err fault
+IsOpenFault files vars top (Tree fault) = HasTreeFault files vars top fault
+IsOpenFault files vars top NoMemory = Unit {0}

@@ -1,6 +1,7 @@
 //! From the texts of a Kconfig to a session.
 ghost use Rattle.std.specs.Prelude.{◌≡◌, IfOk, IfErr, Ok, Err};
-ghost use Rattle.kc_text.specs.Lines.{lines_of_top};
+ghost use Rattle.kc_text.specs.Expansion.{texts_in};
+ghost use Rattle.kc_text.specs.Reading.{logical_lines_of};
 ghost use Rattle.kc_tree.specs.Parsed.{IsTreeOf, IsFaultOf};
 ghost use Rattle.kc_session.specs.Opened.{IsOpened, IsOpenFault, IsTreeFaultOf};
 
@@ -25,11 +26,11 @@ pub enum OpenFault {
 fn read_lines<'a>(
     alloc: Global,
     sources: &'a Sources,
-    vars: &Vars,
+    vars: &'a Vars,
     top: &str,
 ) -> Result<Vec<Line<'a>>, OpenFault>
-    ensures lines { IfOk result (λ lines. lines_of_top sources.now top.now ≡ Ok lines.items) }
-    ensures fault { IfErr result (IsOpenFault sources.now top.now) }
+    ensures lines { IfOk result (λ lines. logical_lines_of sources.now (texts_in vars.now) top.now ≡ Ok lines.items) }
+    ensures fault { IfErr result (IsOpenFault sources.now vars.now top.now) }
 {
     match logical_lines(alloc, sources, vars, top) {
         Ok(lines) => Ok(lines),
@@ -65,8 +66,8 @@ pub fn open(
     top: &str,
     prefix: &Prefix,
 ) -> Result<Session, OpenFault>
-    ensures opened { IfOk result (IsOpened sources.now top.now prefix.now) }
-    ensures fault { IfErr result (IsOpenFault sources.now top.now) }
+    ensures opened { IfOk result (IsOpened sources.now vars.now top.now prefix.now) }
+    ensures fault { IfErr result (IsOpenFault sources.now vars.now top.now) }
 {
     let lines = read_lines(alloc, sources, vars, top)?;
     let tree = read_tree(alloc, lines.as_slice())?;

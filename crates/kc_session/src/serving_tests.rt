@@ -31,7 +31,7 @@ fn session_of(alloc: Global, kconfig: &str) -> Result<Session, Fail> {
     let mut sources = Sources::new(alloc);
     sources.add("Kconfig", kconfig)?;
     let prefix = Prefix::new(alloc, "CONFIG_")?;
-    Ok(open(alloc, &sources, &Vars::none(), "Kconfig", &prefix)?)
+    Ok(open(alloc, &sources, &Vars::none(alloc), "Kconfig", &prefix)?)
 }
 
 // The commands as a stream.

@@ -1,5 +1,5 @@
 -- The list of a map's files.
-use Rattle.std.proofs.Common.{◌≡◌, ℕ, ◌+◌, is_some, Bool, true, false, cond, List, [], ◌∷◌, map, length, Some, None, option_map, Ok, Err, String, string_bytes, bytes_eq, refl, ap, sym, ◌∙◌, if◌then◌else◌}
+use Rattle.std.proofs.Common.{◌≡◌, ℕ, ◌+◌, ◌≤◌, le-leb, is_some, Bool, true, false, cond, List, [], ◌∷◌, map, length, Some, None, option_map, Ok, Err, String, string_bytes, bytes_eq, refl, ap, sym, ◌∙◌, if◌then◌else◌}
 use Rattle.std.specs.BTreeMap.{BTreeMap, btree_map_len, get_by_text, insert_entry}
 use Rattle.std.specs.Cmp.Lexicographic.{slice_cmp}
 use Rattle.std.specs.Ordering.{nat_cmp, is_eq, match_ordering}
@@ -68,5 +68,8 @@ count_with-file_list path m b e =
 pub put-file_list : (path text : List ℕ) (k v : String Global) (m n : BTreeMap (String Global) (String Global)) → string_bytes k ≡ path → string_bytes v ≡ text → n.entries ≡ insert_entry string_cmp m.entries k v → file_list n ≡ put path text (file_list m)
 put-file_list path text k v m n a b e = ap (map file_of) e ∙ put-entries m.entries k v ∙ (λ i. put (a i) (b i) (file_list m))
 
-pub added-ok : (path text : List ℕ) (files after : List File) → keeps_limits path text files ≡ true → after ≡ put path text files → added path text files ≡ Ok after
-added-ok path text files after fits e = ap (λ b. if b then Ok (put path text files) else Err (At Limit path 0)) fits ∙ ap Ok (sym e)
+-- a text that keeps the limits is put
+pub added-ok : (path text : List ℕ) (files after : List File) → count_with path files ≤ 4096 → other_bytes path files + length text ≤ 16777216 → after ≡ put path text files → added path text files ≡ Ok after
+added-ok path text files after count bytes e =
+    let fits : keeps_limits path text files ≡ true = rw (le-leb (count_with path files) 4096 count, le-leb (other_bytes path files + length text) 16777216 bytes) in
+    ap (λ b. if b then Ok (put path text files) else Err (At Limit path 0)) fits ∙ ap Ok (sym e)

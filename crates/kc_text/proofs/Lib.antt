@@ -1,5 +1,14 @@
+pub mod Counting
 pub mod Cuts
 pub mod Examples
+pub mod Expanding
 pub mod Files
+pub mod Joining
 pub mod Lexing
-pub mod Results
+pub mod LineRuns
+pub mod Names
+pub mod Nesting
+pub mod Pairs
+pub mod References
+pub mod Runs
+pub mod TokenLemmas

@@ -1,76 +1,116 @@
--- The tokens of a line, by the rules that this project takes from the line format of kconfig-language.rst.
-use Rattle.std.specs.Prelude.{ℕ, zero, suc, Bool, false, not, List, [], ◌∷◌, ◌++◌, if◌then◌else◌, ◌==◌, ◌||◌, ◌&&◌}
-use Rattle.std.specs.Char.{is_ascii_alphanumeric}
+-- The tokens of a line before references are followed, by the rules that this project takes from the line format of
+-- kconfig-language.rst.
+use Rattle.std.specs.Prelude.{ℕ, zero, suc, Bool, false, not, List, [], ◌∷◌, ◌++◌, if◌then◌else◌, ◌==◌, ◌||◌, ◌&&◌, Some, None}
 use Rattle.kc_text.specs.declared.line.Operator.{Operator}
-use Rattle.kc_text.specs.declared.line.Operator.TheVariants.{And}
-
--- a space or a tab
-abbrev pub is_blank : ℕ → Bool
-is_blank b = b == 32 || b == 9
-
--- an ASCII letter or digit, or one of _ . / -
-abbrev pub is_word : ℕ → Bool
-is_word b = is_ascii_alphanumeric b || (b == 95 || (b == 46 || (b == 47 || b == 45)))
-
--- a byte that stands for itself between quotes: any but the quote, the backslash and the dollar
-abbrev pub is_plain : ℕ → Bool
-is_plain b = not (b == 34 || (b == 92 || b == 36))
-
-abbrev pub begins_with : ℕ → List ℕ → Bool
-begins_with c [] = false
-begins_with c (b ∷ bs) = b == c
+use Rattle.kc_text.specs.declared.line.Operator.TheVariants.{And, Or, Equal, NotEqual, Less, LessOrEqual, Greater, GreaterOrEqual, Not, Open, Close}
+use Rattle.kc_text.specs.Bytes.{is_blank, is_word, begins_with}
+use Rattle.kc_text.specs.References.{Piece, byte, reference, malformed, reference_after_dollar, reference_len}
 
 -- what a line shows from left to right: its tokens, and the fault at which reading stops
 pub data Raw : Type 0 where
-  word : List ℕ → Raw
-  quoted : List ℕ → Raw
+  word : List Piece → Raw
+  quoted : List Piece → Raw
   operator : Operator → Raw
-  -- a quote that the line does not close
-  unclosed : Raw
+  -- a quote that the line does not close, after what stands in it
+  unclosed : List Piece → Raw
   -- a byte that may not stand where it does
   not_allowed : Raw
 
--- where a byte stands: between tokens, or in a word or in quotes, after the bytes that were read there
+-- where a byte stands: between tokens, or in a word or in quotes of a kind, after what was read there
 pub data Mode : Type 0 where
   between : Mode
-  in_word : List ℕ → Mode
-  in_quotes : List ℕ → Mode
+  in_word : List Piece → Mode
+  in_quotes : ℕ → List Piece → Mode
 
 -- what a byte does: it shows tokens, and reading goes on in a mode after so many more bytes, or stops
 pub data Step : Type 0 where
   on : List Raw → ℕ → Mode → Step
   stop : List Raw → Step
 
+-- an operator of one byte, or of two where the second follows
+abbrev pub one_or_two : Operator → Operator → ℕ → List ℕ → Step
+one_or_two one two c bs = if begins_with c bs then on (operator two ∷ []) 1 between else on (operator one ∷ []) 0 between
+
+-- a dollar in a word, after what was read there
+abbrev pub word_dollar : List Piece → List ℕ → Step
+word_dollar ps bs = elim (reference_after_dollar bs) [
+  | Some name ↦ on [] (reference_len name) (in_word (ps ++ reference name ∷ []))
+  | None ↦ stop (word (ps ++ malformed ∷ []) ∷ [])
+]
+
+-- the kinds of quotes
+abbrev pub is_quote : ℕ → Bool
+is_quote b = b == 34 || b == 39
+
+-- a byte that is no blank and in no word, with the bytes after it: a quote, a comment or an operator
+abbrev pub sign_step : ℕ → List ℕ → Step
+sign_step b bs =
+    if is_quote b then on [] 0 (in_quotes b [])
+    else (if b == 35 then stop []
+    else (if b == 38 && begins_with 38 bs then on (operator And ∷ []) 1 between
+    else (if b == 124 && begins_with 124 bs then on (operator Or ∷ []) 1 between
+    else (if b == 33 then one_or_two Not NotEqual 61 bs
+    else (if b == 60 then one_or_two Less LessOrEqual 61 bs
+    else (if b == 62 then one_or_two Greater GreaterOrEqual 61 bs
+    else (if b == 61 then on (operator Equal ∷ []) 0 between
+    else (if b == 40 then on (operator Open ∷ []) 0 between
+    else (if b == 41 then on (operator Close ∷ []) 0 between
+    else stop (not_allowed ∷ []))))))))))
+
+-- whether the bytes begin with a byte of a word, or a dollar
+abbrev pub begins_word : List ℕ → Bool
+begins_word [] = false
+begins_word (b ∷ bs) = is_word b || b == 36
+
 -- a byte between tokens, with the bytes after it
 abbrev pub between_step : ℕ → List ℕ → Step
 between_step b bs =
     if is_blank b then on [] 0 between
-    else (if is_word b then on [] 0 (in_word (b ∷ []))
-    else (if b == 34 then on [] 0 (in_quotes [])
-    else (if b == 35 then stop []
-    else (if b == 38 && begins_with 38 bs then on (operator And ∷ []) 1 between
-    else stop (not_allowed ∷ [])))))
+    else (if is_word b then on [] 0 (in_word (byte b ∷ []))
+    else (if b == 36 then word_dollar [] bs else sign_step b bs))
 
 -- a step that shows one token more before its own
 abbrev pub showing : Raw → Step → Step
 showing t (on ts n m) = on (t ∷ ts) n m
 showing t (stop ts) = stop (t ∷ ts)
 
+-- a dollar in quotes, after what was read there
+abbrev pub quotes_dollar : ℕ → List Piece → List ℕ → Step
+quotes_dollar q ps bs = elim (reference_after_dollar bs) [
+  | Some name ↦ on [] (reference_len name) (in_quotes q (ps ++ reference name ∷ []))
+  | None ↦ stop (unclosed (ps ++ malformed ∷ []) ∷ [])
+]
+
+-- a backslash in quotes: the next byte stands for itself
+abbrev pub quotes_backslash : ℕ → List Piece → List ℕ → Step
+quotes_backslash q ps [] = on [] 0 (in_quotes q ps)
+quotes_backslash q ps (c ∷ bs) = on [] 1 (in_quotes q (ps ++ byte c ∷ []))
+
+-- a byte in quotes that stands for itself
+abbrev pub is_plain : ℕ → ℕ → Bool
+is_plain q b = not (b == q || (b == 92 || b == 36))
+
+abbrev pub quotes_step : ℕ → List Piece → ℕ → List ℕ → Step
+quotes_step q ps b bs =
+    if is_plain q b then on [] 0 (in_quotes q (ps ++ byte b ∷ []))
+    else (if b == q then on (quoted ps ∷ []) 0 between
+    else (if b == 92 then quotes_backslash q ps bs else quotes_dollar q ps bs))
+
 -- a word goes on as far as it can
 abbrev pub step : Mode → ℕ → List ℕ → Step
 step between b bs = between_step b bs
-step (in_word w) b bs = if is_word b then on [] 0 (in_word (w ++ b ∷ [])) else showing (word w) (between_step b bs)
-step (in_quotes q) b bs =
-    if is_plain b then on [] 0 (in_quotes (q ++ b ∷ []))
-    else (if b == 34 then on (quoted q ∷ []) 0 between else stop (not_allowed ∷ []))
+step (in_word ps) b bs =
+    if is_word b then on [] 0 (in_word (ps ++ byte b ∷ []))
+    else (if b == 36 then word_dollar ps bs else showing (word ps) (between_step b bs))
+step (in_quotes q ps) b bs = quotes_step q ps b bs
 
 -- what the end of the line shows
 abbrev pub ends : Mode → List Raw
 ends between = []
-ends (in_word w) = word w ∷ []
-ends (in_quotes q) = unclosed ∷ []
+ends (in_word ps) = word ps ∷ []
+ends (in_quotes q ps) = unclosed ps ∷ []
 
--- what is shown from a byte on, where so many bytes belong to what was shown before
+-- what is shown from a byte on, where so many bytes belong to what was read before
 abbrev pub lexed : ℕ → Mode → List ℕ → List Raw
 lexed n m [] = ends m
 lexed (suc n) m (b ∷ bs) = lexed n m bs

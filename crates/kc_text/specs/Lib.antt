@@ -1,7 +1,16 @@
+pub mod Bytes
+pub mod Definitions
+pub mod Expansion
 pub mod Faults
 pub mod FileList
+pub mod Help
+pub mod Items
 pub mod Lexing
 pub mod LineValue
-pub mod Lines
+pub mod Reading
+pub mod References
 pub mod Scanning
 pub mod Sources
+pub mod Tokens
+pub mod VariableList
+pub mod Vars

@@ -1,33 +1,82 @@
--- What the values of the scanner stand for: this project's own.
-use Rattle.std.specs.Prelude.{◌≡◌, List, Result, Ok, Err, Vec}
-use Rattle.std.specs.declared.alloc.Global.{Global}
-use Rattle.kc_text.specs.declared.line.Token.{Token}
-use Rattle.kc_text.specs.declared.line.Token.TheVariants as token
+-- What the values of the code stand for: this project's own.
+use Rattle.std.specs.Prelude.{ℕ, ◌-◌, List, [], ◌∷◌, ◌++◌, length, map, flat_map}
+use Rattle.std.specs.String.{string_bytes}
+use denote.Ref.{Bor}
+use Rattle.std.specs.Prelude.{◌≡◌}
 use Rattle.kc_text.specs.declared.fault.TextProblem.{TextProblem}
-use Rattle.kc_text.specs.declared.fault.TextProblem.TheVariants.{BadCharacter, UnclosedQuote}
+use Rattle.kc_text.specs.declared.fault.LineFault.{LineFault}
+use Rattle.kc_text.specs.declared.fault.LineFault.TheVariants.{Problem, NoMemory as NoLineMemory}
+use Rattle.kc_text.specs.declared.fault.TextFault.{TextFault}
+use Rattle.kc_text.specs.declared.fault.TextFault.TheVariants.{NoMemory}
+use Rattle.kc_text.specs.declared.items.Joined.{Joined}
+use Rattle.kc_text.specs.declared.items.Joined.TheVariants.{One, Many}
+use Rattle.kc_text.specs.declared.items.Item.{Item}
+use Rattle.kc_text.specs.declared.reading.Reader.{Reader}
+use Rattle.kc_text.specs.declared.state.State.{State}
+use Rattle.kc_text.specs.declared.place.Place.{Place as CodePlace}
+use Rattle.kc_text.specs.Faults.{IsFaultAt}
+use Rattle.kc_text.specs.Items.{ItemValue}
+use Rattle.kc_text.specs.Reading.{ReadState, Place, Placing, placed}
+use Rattle.kc_text.specs.declared.reference.Piece.{Piece as Part}
+use Rattle.kc_text.specs.declared.reference.Piece.TheVariants.{Text, Reference, Malformed}
 use Rattle.kc_text.specs.declared.scan.RawToken.{RawToken}
-use Rattle.kc_text.specs.declared.scan.RawToken.TheVariants.{Word, Quoted, Operator, Unclosed, NotAllowed}
-use Rattle.kc_text.specs.declared.tokens.LineFault.{LineFault}
-use Rattle.kc_text.specs.declared.tokens.LineFault.TheVariants.{Problem, NoMemory}
+use Rattle.kc_text.specs.declared.scan.RawToken.TheVariants.{Word, Spliced, Quoted, QuotedParts, Operator, Unclosed, NotAllowed}
+use Rattle.kc_text.specs.declared.expansion.Expansion.{Expansion}
+use Rattle.kc_text.specs.References.{Piece, byte, reference, malformed}
 use Rattle.kc_text.specs.Lexing.{Raw, word, quoted, operator, unclosed, not_allowed}
+use Rattle.kc_text.specs.Expansion.{Progress, Environment, names_in, texts_in}
+
+abbrev pub bytes_of : List ℕ → List Piece
+bytes_of bs = map byte bs
+
+abbrev pub piece_of : Part → List Piece
+piece_of (Text text) = bytes_of text.now
+piece_of (Reference name) = reference name.now ∷ []
+piece_of Malformed = malformed ∷ []
+
+abbrev pub pieces_of : List Part → List Piece
+pieces_of parts = flat_map piece_of parts
 
 abbrev pub raw_of : RawToken → Raw
-raw_of (Word w) = word w.now
-raw_of (Quoted q) = quoted q.now
+raw_of (Word text) = word (bytes_of text.now)
+raw_of (Spliced parts) = word (pieces_of parts.items)
+raw_of (Quoted text) = quoted (bytes_of text.now)
+raw_of (QuotedParts parts) = quoted (pieces_of parts.items)
 raw_of (Operator o) = operator o
-raw_of Unclosed = unclosed
+raw_of (Unclosed parts) = unclosed (pieces_of parts.items)
 raw_of NotAllowed = not_allowed
 
--- the token, or the fault
-abbrev pub token_of : RawToken → Result Token TextProblem
-token_of (Word w) = Ok (token.Word w.now)
-token_of (Quoted q) = Ok (token.Quoted q.now)
-token_of (Operator o) = Ok (token.Operator o)
-token_of Unclosed = Err UnclosedQuote
-token_of NotAllowed = Err BadCharacter
+abbrev pub progress_of : Expansion → Progress
+progress_of e = record { text = string_bytes e.text; followed = e.followed }
 
--- the call gives the tokens or the problem, or finds no memory left
-abbrev pub GivesTokens : Result (Vec Token Global) LineFault → Result (List Token) TextProblem → Type 0
-GivesTokens (Ok v) given = given ≡ Ok v.items
-GivesTokens (Err (Problem p)) given = given ≡ Err p
-GivesTokens (Err NoMemory) given = Unit {0}
+abbrev pub texts_of : List (Bor (List ℕ)) → List (List ℕ)
+texts_of texts = map (λ t. t.now) texts
+
+abbrev pub names_of : List (Bor (List ℕ)) → List (List ℕ)
+names_of names = texts_of names
+
+abbrev pub joined_text : Joined → List ℕ
+joined_text (One text) = text.now
+joined_text (Many text) = text
+
+abbrev pub item_of : Item → ItemValue
+item_of i = record { text = joined_text i.text; help = i.help; more = i.more }
+
+abbrev pub state_of : State → ReadState
+state_of s = record { lines = s.lines.items; names = names_in s.variables; followed = s.followed; placed = s.placed }
+
+abbrev pub place_of : CodePlace → Place
+place_of p = record { path = p.path.now; run = p.run; number = p.number }
+
+-- the texts that a reader is handed for names
+abbrev pub outside_of : Reader → Environment
+outside_of reader = texts_in reader.vars.now
+
+-- how a reader puts files in place where those of the paths `around` are open, of 64 at most
+abbrev pub placing : Reader → List (Bor (List ℕ)) → Placing
+placing reader around = placed reader.sources.now (outside_of reader) (64 - length around) (names_of around)
+
+-- what could not be read at a place, as its fault
+abbrev pub IsPlacedFault : TextFault → Place → LineFault → Type 0
+IsPlacedFault fault at (Problem problem) = IsFaultAt fault problem at.path at.number
+IsPlacedFault fault at NoLineMemory = fault ≡ NoMemory

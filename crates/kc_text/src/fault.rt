@@ -12,6 +12,52 @@ pub enum TextProblem {
     UnclosedQuote,
     /// A file that is not among the sources (K08), by its path.
     MissingSource(Text),
+    /// A file within itself (K09).
+    RecursiveSource,
+    /// A dollar that begins no reference to a variable, or a function (K10).
+    BadReference,
+    /// A variable that its own expansion needs (K11).
+    RecursiveVariable,
+}
+
+/// Why something that stands in a line could not be read. The line adds its path and number.
+#[derive(Drop)]
+pub(crate) enum LineFault {
+    Problem(TextProblem),
+    NoMemory,
+}
+
+impl From<TextProblem> for LineFault {
+    ghost use Rattle.std.specs.Prelude.{◌≡◌};
+    ghost use Rattle.kc_text.specs.declared.fault.LineFault.TheVariants.{Problem};
+
+    ghost from_gives = { λ problem fault. fault ≡ Problem problem };
+
+    fn from(problem: TextProblem) -> LineFault {
+        LineFault::Problem(problem)
+    }
+}
+
+impl From<AllocError> for LineFault {
+    ghost use Rattle.std.specs.Prelude.{◌≡◌};
+    ghost use Rattle.kc_text.specs.declared.fault.LineFault.TheVariants.{NoMemory};
+
+    ghost from_gives = { λ _ fault. fault ≡ NoMemory };
+
+    fn from(_refused: AllocError) -> LineFault {
+        LineFault::NoMemory
+    }
+}
+
+impl<T: Drop> From<AllocFailed<T>> for LineFault {
+    ghost use Rattle.std.specs.Prelude.{◌≡◌};
+    ghost use Rattle.kc_text.specs.declared.fault.LineFault.TheVariants.{NoMemory};
+
+    ghost from_gives = { λ _ fault. fault ≡ NoMemory };
+
+    fn from(_refused: AllocFailed<T>) -> LineFault {
+        LineFault::NoMemory
+    }
 }
 
 /// Why texts have no logical lines, or could not be added.
@@ -36,6 +82,9 @@ impl TextProblem {
             TextProblem::BadCharacter => 2,
             TextProblem::UnclosedQuote => 3,
             TextProblem::MissingSource(_) => 8,
+            TextProblem::RecursiveSource => 9,
+            TextProblem::BadReference => 10,
+            TextProblem::RecursiveVariable => 11,
         }
     }
 }

@@ -1,20 +1,32 @@
 //! The text layer: from the texts of Kconfig files to their logical lines of tokens.
 #![tactic(auto)]
 
+mod bytes;
+mod defining;
+mod definition;
+mod expansion;
 mod fault;
+mod help;
+mod items;
 mod line;
 mod lines;
+mod place;
+mod quotes;
+mod reading;
+mod reference;
 mod scan;
 mod sources;
+mod state;
 mod text;
 mod tokens;
+mod variables;
 mod vars;
 
 pub use fault::{TextFault, TextProblem};
 pub use line::{Line, LineKind, Operator, Token};
 pub use lines::logical_lines;
 pub use sources::Sources;
-pub use text::{Text, TextRef};
+pub use text::{Text, TextRef, TokenText};
 pub use vars::Vars;
 
 #[cfg(test)]

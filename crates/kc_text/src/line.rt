@@ -1,6 +1,6 @@
-ghost use Rattle.std.specs.Prelude.{◌≡◌};
+ghost use Rattle.std.specs.Prelude.{◌≡◌, None, MatchOption, Some};
 
-use crate::text::TextRef;
+use crate::text::{Text, TextRef, TokenText};
 use std::marker::Model;
 
 /// An operator of an expression.
@@ -8,15 +8,38 @@ use std::marker::Model;
 pub enum Operator {
     /// `&&`
     And,
+    /// `||`
+    Or,
+    /// `=`
+    Equal,
+    /// `!=`
+    NotEqual,
+    /// `<`
+    Less,
+    /// `<=`
+    LessOrEqual,
+    /// `>`
+    Greater,
+    /// `>=`
+    GreaterOrEqual,
+    /// `!`
+    Not,
+    /// `(`
+    Open,
+    /// `)`
+    Close,
 }
 
 /// A token of a logical line.
 #[derive(Debug, Drop)]
 pub enum Token<'a> {
-    /// A word: letters, digits, `_`, `.`, `/` and `-`.
-    Word(TextRef<'a>),
-    /// A text in quotes, without them.
-    Quoted(TextRef<'a>),
+    /// A word without references: letters, digits, `_`, `.`, `/` and `-`.
+    Word(TokenText<'a>),
+    /// A word that holds a reference, as its expanded text, which may be empty or have blanks. It is never a
+    /// keyword.
+    Expanded(TokenText<'a>),
+    /// A text in quotes, without them, expanded.
+    Quoted(TokenText<'a>),
     Operator(Operator),
 }
 
@@ -37,6 +60,7 @@ pub struct Line<'a> {
     run: usize,
     kind: LineKind,
     tokens: Vec<Token<'a>>,
+    help: Option<Text>,
 }
 
 impl<'a> Model for Line<'a> {
@@ -44,7 +68,7 @@ impl<'a> Model for Line<'a> {
 
     ghost Value = { LineValue };
 
-    ghost view = { λ l. record { path = l.path; number = l.number; run = l.run; kind = l.kind; tokens = l.tokens.items } };
+    ghost view = { λ l. record { path = l.path; number = l.number; run = l.run; kind = l.kind; tokens = l.tokens.items; help = l.help } };
 }
 
 impl<'a> Line<'a> {
@@ -55,8 +79,9 @@ impl<'a> Line<'a> {
         run: usize,
         kind: LineKind,
         tokens: Vec<Token<'a>>,
+        help: Option<Text>,
     ) -> Line<'a>
-        ensures { result ≡ record { path = path.entry; number = number; run = run; kind = kind; tokens = tokens.entry.items } }
+        ensures { result ≡ record { path = path.entry; number = number; run = run; kind = kind; tokens = tokens.entry.items; help = help } }
     {
         Line {
             path,
@@ -64,6 +89,7 @@ impl<'a> Line<'a> {
             run,
             kind,
             tokens,
+            help,
         }
     }
 
@@ -74,14 +100,15 @@ impl<'a> Line<'a> {
         self.path.as_str()
     }
 
-    /// The number of the line in its file, counted from 1.
+    /// The number of the line in its file, counted from 1. Of lines that are joined it is that of the first.
     pub fn number(&self) -> usize
         ensures { result ≡ self.now.number }
     {
         self.number
     }
 
-    /// Which putting in place of a file the line belongs to. That of the top file is 0.
+    /// Which putting in place of a file the line belongs to. That of the top file is 0, and each `source` line
+    /// that is followed counts one more.
     pub fn run(&self) -> usize
         ensures { result ≡ self.now.run }
     {
@@ -100,5 +127,15 @@ impl<'a> Line<'a> {
         ensures { result.now ≡ self.now.tokens }
     {
         self.tokens.as_slice()
+    }
+
+    /// The help text after a `help` line, each of its lines with a line feed.
+    pub fn help(&self) -> Option<&str>
+        ensures { MatchOption result (self.now.help ≡ None) (λ text. self.now.help ≡ Some text.now) }
+    {
+        match &self.help {
+            Some(text) => Some(text.as_str()),
+            None => None,
+        }
     }
 }

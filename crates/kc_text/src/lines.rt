@@ -1,104 +1,42 @@
 //! The logical lines of the files.
 
-ghost use Rattle.std.specs.Prelude.{◌≡◌, ◌++◌, OnOk};
-ghost use Rattle.std.specs.Str.Lines.{lines};
-ghost use Rattle.kc_text.specs.Faults.{GivesBy, IsFaultAt};
-ghost use Rattle.kc_text.specs.Lines.{lines_from, lines_of_top, statement, tokens_at};
-ghost use Rattle.kc_text.specs.declared.fault.TextProblem.TheVariants.{MissingSource};
+ghost use Rattle.kc_text.specs.Expansion.{texts_in};
+ghost use Rattle.kc_text.specs.Faults.{GivesBy};
+ghost use Rattle.kc_text.specs.Reading.{logical_lines_of};
 
-use crate::fault::{TextFault, TextProblem};
-use crate::line::{Line, LineKind, Token};
+use crate::fault::TextFault;
+use crate::line::Line;
+use crate::reading::{Reader, read_top};
 use crate::sources::Sources;
-use crate::text::{Text, TextRef};
-use crate::tokens::{LineFault, tokens};
 use crate::vars::Vars;
-use std::alloc::{AllocError, Global};
+use std::alloc::Global;
 
-/// The logical lines of a top file, each with its tokens, and after them the end of the file. A line without
-/// tokens, as one of blanks or a comment, is none. No variable is read yet.
+/// The logical lines of a top file and of all files that it sources, each with its tokens.
 ///
-/// The first fault in the order of lines decides, with the path of the file and the number of the line: a line
-/// of more than 65,536 bytes (K01); a character that may not stand where it does, as one outside words, quotes
-/// and operators, or `$` or a backslash between quotes (K02); a quote that its line does not close (K03). A
-/// path that is not among the sources is K08 at line 0. `NoMemory` comes where memory is refused.
+/// A line that ends in a backslash is joined with the next one. A line without tokens, as one of blanks or a
+/// comment, and one that defines a variable are none. A line `help` has its help text. In place of a `source` line
+/// stand the lines of its file. Behind the lines of each file stands its end.
+///
+/// The first fault in the order of lines decides, with the path of the file and the number of the line: a limit
+/// that is passed (K01), a character that may not stand where it does (K02), a quote that its line does not close
+/// (K03), a file that is not among the sources (K08) or within itself (K09), a dollar that begins no reference to
+/// a variable (K10), a variable that its own expansion needs (K11). On one line the length comes first, then
+/// faults go from left to right. A top file that is not among the sources is K08 at line 0. `NoMemory` comes where
+/// memory is refused.
 pub fn logical_lines<'a>(
     alloc: Global,
     sources: &'a Sources,
-    vars: &Vars,
+    vars: &'a Vars,
     top: &str,
 ) -> Result<Vec<Line<'a>>, TextFault>
-    ensures gives { GivesBy (λ v. v.items) result (lines_of_top sources.now top.now) }
+    ensures gives { GivesBy (λ v. v.items) result (logical_lines_of sources.now (texts_in vars.now) top.now) }
 {
-    match sources.file(top) {
-        Some((path, text)) => lines_of_file(alloc, path, text),
-        None => Err(missing_source(alloc, top)),
-    }
-}
-
-/// The fault that a path is not among the sources.
-fn missing_source(alloc: Global, path: &str) -> TextFault
-    ensures { IsFaultAt result (MissingSource path.now) path.now 0 }
-{
-    match Text::copy_of(alloc, path) {
-        Ok(wanted) => TextFault::at(alloc, TextProblem::MissingSource(wanted), path, 0),
-        Err(_) => TextFault::NoMemory,
-    }
-}
-
-/// The logical lines of one file.
-fn lines_of_file<'a>(
-    alloc: Global,
-    path: &'a str,
-    text: &'a str,
-) -> Result<Vec<Line<'a>>, TextFault>
-    ensures { GivesBy (λ v. v.items) result (lines_from path.now 1 (lines text.now)) }
-{
-    let mut found = Vec::new(alloc);
-    let mut number = 1;
-    for line in text.lines() {
-        let tokens = tokens_at(alloc, path, number, line)?;
-        push_statement(&mut found, path, number, tokens)?;
-        number += 1;
-    }
-    let end = Line::new(
-        TextRef::new(path),
-        number,
-        0,
-        LineKind::EndOfFile,
-        Vec::new(alloc),
-    );
-    found.push(end)?;
-    Ok(found)
-}
-
-/// Pushes the line of the tokens at a number, unless there are none.
-fn push_statement<'a>(
-    found: &mut Vec<Line<'a>>,
-    path: &'a str,
-    number: usize,
-    tokens: Vec<Token<'a>>,
-) -> Result<(), AllocError>
-    ensures { OnOk result (found.new.items ≡ found.old.items ++ statement path.now number tokens.entry.items) }
-{
-    if tokens.is_empty() {
-        return Ok(());
-    }
-    found.push(Line::new(TextRef::new(path), number, 0, LineKind::Statement, tokens))?;
-    Ok(())
-}
-
-/// The tokens of a line of a file.
-fn tokens_at<'a>(
-    alloc: Global,
-    path: &str,
-    number: usize,
-    line: &'a str,
-) -> Result<Vec<Token<'a>>, TextFault>
-    ensures { GivesBy (λ v. v.items) result (tokens_at path.now number line.now) }
-{
-    match tokens(alloc, line) {
-        Ok(tokens) => Ok(tokens),
-        Err(LineFault::Problem(problem)) => Err(TextFault::at(alloc, problem, path, number)),
-        Err(LineFault::NoMemory) => Err(TextFault::NoMemory),
-    }
+    read_top(
+        Reader {
+            alloc,
+            sources,
+            vars,
+        },
+        top,
+    )
 }

@@ -1,12 +1,13 @@
 //! The files that lines are read from.
 
-ghost use Rattle.std.specs.Prelude.{◌≡◌, ◌+◌, ℕ, List, [], length, nat_le, if◌then◌else◌, MatchOption, OnOk, OnErr};
+ghost use Rattle.std.specs.Prelude.{◌≡◌, ◌≤◌, ℕ, List, [], if◌then◌else◌, MatchOption, OnOk, OnErr};
 ghost use Rattle.std.specs.Str.{bytes_eq};
 ghost use Rattle.kc_text.specs.FileList.{file_list};
 ghost use Rattle.kc_text.specs.Faults.{GivesAfter};
-ghost use Rattle.kc_text.specs.Sources.{added, count_with, other_bytes, keeps_limits, text_of};
+ghost use Rattle.kc_text.specs.Sources.{added, count_with, other_bytes, text_of};
 
 use crate::fault::{TextFault, TextProblem};
+use crate::text::Text;
 use std::alloc::Global;
 use std::collections::BTreeMap;
 use std::marker::Model;
@@ -22,16 +23,20 @@ const MAX_FILES: usize = 4_096;
 #[derive(Drop)]
 pub struct Sources {
     files: BTreeMap<String, String>,
+    /// How many bytes all texts have.
+    bytes: usize,
     alloc: Global,
 }
 
 impl Model for Sources {
     ghost use Rattle.std.specs.Prelude.{List};
-    ghost use Rattle.kc_text.specs.FileList.{File, file_list};
+    ghost use Rattle.kc_text.specs.FileList.{File, file_list, IsCounted};
 
     ghost Value = { List File };
 
     ghost view = { λ s. file_list s.files };
+
+    ghost invariant = { λ s. IsCounted s.files s.bytes };
 }
 
 impl Sources {
@@ -41,8 +46,19 @@ impl Sources {
     {
         Sources {
             files: BTreeMap::new(alloc),
+            bytes: 0,
             alloc,
         }
+    }
+
+    /// Adds a copy of the text of a file, as `add_text` does.
+    pub fn add(&mut self, path: &str, text: &str) -> Result<(), TextFault>
+        ensures adds { GivesAfter result self.new (added path.now text.now self.old) }
+        ensures texts { OnOk result ((q : List ℕ) → text_of q self.new ≡ (if bytes_eq path.now q then Some text.now else text_of q self.old)) }
+        ensures unchanged { OnErr result (self.new ≡ self.old) }
+    {
+        let copy = Text::copy_of(self.alloc, text)?;
+        self.add_text(path, copy)
     }
 
     /// Adds the text of a file. The text of a path that was added before is replaced.
@@ -50,18 +66,31 @@ impl Sources {
     /// All texts together have at most 16,777,216 bytes, and there are at most 4,096 files: else this is K01
     /// with the path, at line 0. `NoMemory` comes where memory is refused. After an error the files are as
     /// before.
-    pub fn add(&mut self, path: &str, text: &str) -> Result<(), TextFault>
-        ensures adds { GivesAfter result self.new (added path.now text.now self.old) }
-        ensures texts { OnOk result ((q : List ℕ) → text_of q self.new ≡ (if bytes_eq path.now q then Some text.now else text_of q self.old)) }
+    pub fn add_text(&mut self, path: &str, text: Text) -> Result<(), TextFault>
+        ensures adds { GivesAfter result self.new (added path.now text self.old) }
+        ensures texts { OnOk result ((q : List ℕ) → text_of q self.new ≡ (if bytes_eq path.now q then Some text else text_of q self.old)) }
         ensures unchanged { OnErr result (self.new ≡ self.old) }
     {
-        if !keeps_limits(&self.files, path, text) {
+        let len = text.as_str().len();
+        let others = self.other_bytes(path);
+        if count_with(&self.files, path) > MAX_FILES || len > MAX_BYTES - others {
             return Err(TextFault::at(self.alloc, TextProblem::Limit, path, 0));
         }
         let key = String::from_str(self.alloc, path)?;
-        let content = String::from_str(self.alloc, text)?;
-        self.files.insert(key, content)?;
+        self.files.insert(key, text.into_string())?;
+        self.bytes = others + len;
         Ok(())
+    }
+
+    /// How many bytes the texts have, without that of a path.
+    fn other_bytes(&self, path: &str) -> usize
+        ensures count { result ≡ other_bytes path.now self.now }
+        ensures within { result ≤ 16777216 }
+    {
+        match self.files.get(path) {
+            Some(text) => self.bytes - text.len(),
+            None => self.bytes,
+        }
     }
 
     /// The path and the text of the file of a path.
@@ -73,13 +102,6 @@ impl Sources {
     }
 }
 
-/// Whether the files keep their limits with a text for a path.
-fn keeps_limits(files: &BTreeMap<String, String>, path: &str, text: &str) -> bool
-    ensures { result ≡ keeps_limits path.now text.now (file_list files.now) }
-{
-    count_with(files, path) <= MAX_FILES && text_fits(files, path, text)
-}
-
 /// How many files there are with one of a path.
 fn count_with(files: &BTreeMap<String, String>, path: &str) -> usize
     ensures { result ≡ count_with path.now (file_list files.now) }
@@ -89,20 +111,4 @@ fn count_with(files: &BTreeMap<String, String>, path: &str) -> usize
     } else {
         files.len() + 1
     }
-}
-
-/// Whether the texts have room for one of a path, in place of the text that the path had.
-fn text_fits(files: &BTreeMap<String, String>, path: &str, text: &str) -> bool
-    ensures { result ≡ nat_le (other_bytes path.now (file_list files.now) + length text.now) 16777216 }
-{
-    let mut total = text.len();
-    for (other, content) in files {
-        if total > MAX_BYTES {
-            return false;
-        }
-        if path != other.as_str() {
-            total += content.len();
-        }
-    }
-    total <= MAX_BYTES
 }

@@ -1,22 +1,61 @@
-use crate::{Line, LineKind, Operator, Sources, TextFault, Token, Vars, logical_lines};
+//! Lines of texts and faults, as their definitions and worked examples have them.
+mod limits;
+mod lines;
+mod sources;
+mod variables;
+
+use crate::{
+    Line, LineKind, Operator, Sources, TextFault, TextProblem, Token, Vars, logical_lines,
+};
 use std::alloc::{AllocError, Global};
 use std::test::Fail;
 
-/// A line as `2 bool "a"`, and an end of file as `3 end`.
+fn sign_of(operator: Operator) -> &'static str {
+    match operator {
+        Operator::And => "&&",
+        Operator::Or => "||",
+        Operator::Equal => "=",
+        Operator::NotEqual => "!=",
+        Operator::Less => "<",
+        Operator::LessOrEqual => "<=",
+        Operator::Greater => ">",
+        Operator::GreaterOrEqual => ">=",
+        Operator::Not => "!",
+        Operator::Open => "(",
+        Operator::Close => ")",
+    }
+}
+
+/// A token: a word as it is, one with a reference as `<text>`, a quoted one as `"text"`.
+fn show_token(out: &mut String, token: &Token<'_>) -> Result<(), AllocError> {
+    let (before, text, after) = match token {
+        Token::Word(text) => ("", text.as_str(), ""),
+        Token::Expanded(text) => ("<", text.as_str(), ">"),
+        Token::Quoted(text) => ("\"", text.as_str(), "\""),
+        Token::Operator(operator) => ("", sign_of(*operator), ""),
+    };
+    out.push_str(before)?;
+    out.push_str(text)?;
+    out.push_str(after)
+}
+
+/// A line as `[2 bool "a"]`, an end of file as `[3 end]`, a help text as `[2 help {text}]`. A line of a sourced
+/// file has its path and run, as `[b#1 2 bool "a"]`.
 fn show_line(out: &mut String, line: &Line<'_>, alloc: Global) -> Result<(), AllocError> {
     let number = line.number();
-    out.push_str(format!(in alloc; "[{number}")?.as_str())?;
+    let run = line.run();
+    if run == 0 {
+        out.push_str(format!(in alloc; "[{number}")?.as_str())?;
+    } else {
+        let path = line.path();
+        out.push_str(format!(in alloc; "[{path}#{run} {number}")?.as_str())?;
+    }
     for token in line.tokens() {
         out.push(' ')?;
-        match token {
-            Token::Word(text) => out.push_str(text.as_str())?,
-            Token::Quoted(text) => {
-                out.push('"')?;
-                out.push_str(text.as_str())?;
-                out.push('"')?;
-            }
-            Token::Operator(Operator::And) => out.push_str("&&")?,
-        }
+        show_token(out, token)?;
+    }
+    if let Some(help) = line.help() {
+        out.push_str(format!(in alloc; " {{{help}}}")?.as_str())?;
     }
     if line.kind() == LineKind::EndOfFile {
         out.push_str(" end")?;
@@ -24,20 +63,28 @@ fn show_line(out: &mut String, line: &Line<'_>, alloc: Global) -> Result<(), All
     out.push(']')
 }
 
-/// A fault as `K02 K:1`.
-fn show_fault(alloc: Global, fault: &TextFault) -> Result<String, AllocError> {
-    match fault {
-        TextFault::At(problem, path, line) => {
-            let number = problem.number();
-            format!(in alloc; "K0{number} {path}:{line}")
+/// A fault as `K02 K:1`, and a missing file as `K08 K:1 b`.
+pub(crate) fn show_fault(alloc: Global, fault: &TextFault) -> Result<String, AllocError> {
+    let TextFault::At(problem, path, line) = fault else {
+        return String::from_str(alloc, "no memory");
+    };
+    let number = problem.number();
+    match problem {
+        TextProblem::MissingSource(wanted) => {
+            format!(in alloc; "K{number:02} {path}:{line} {wanted}")
         }
-        TextFault::NoMemory => String::from_str(alloc, "no memory"),
+        _ => format!(in alloc; "K{number:02} {path}:{line}"),
     }
 }
 
 /// The lines of a path, or the fault.
-fn lines_of(alloc: Global, sources: &Sources, path: &str) -> Result<String, AllocError> {
-    match logical_lines(alloc, sources, &Vars::none(), path) {
+pub(crate) fn lines_of(
+    alloc: Global,
+    sources: &Sources,
+    vars: &Vars,
+    path: &str,
+) -> Result<String, AllocError> {
+    match logical_lines(alloc, sources, vars, path) {
         Ok(lines) => {
             let mut out = String::new(alloc);
             for line in &lines {
@@ -50,76 +97,25 @@ fn lines_of(alloc: Global, sources: &Sources, path: &str) -> Result<String, Allo
 }
 
 /// The lines of a file K of this text, or the fault.
-fn shown(alloc: Global, text: &str) -> Result<String, Fail> {
+pub(crate) fn shown(alloc: Global, text: &str) -> Result<String, Fail> {
+    shown_of(alloc, &[("K", text)])
+}
+
+/// The lines of a file K among files, or the fault.
+pub(crate) fn shown_of(alloc: Global, files: &[(&str, &str)]) -> Result<String, Fail> {
     let mut sources = Sources::new(alloc);
-    sources.add("K", text)?;
-    let out = lines_of(alloc, &sources, "K")?;
+    for (path, text) in files {
+        sources.add(path, text)?;
+    }
+    let out = lines_of(alloc, &sources, &Vars::none(alloc), "K")?;
     Ok(out)
 }
 
-#[test]
-fn reads_lines(rt: HostRuntime) -> Result<(), Fail> {
-    let table = [
-        ("config A\nbool \"a\"", "[1 config A][2 bool \"a\"][3 end]"),
-        (
-            "config A\r\nbool \"a\"\r\n",
-            "[1 config A][2 bool \"a\"][3 end]",
-        ),
-        ("config A\nbool \"a", "K03 K:2"),
-        ("config A", "[1 config A][2 end]"),
-        ("", "[1 end]"),
-        ("\n \t# no token @\n\nA", "[4 A][5 end]"),
-        ("a\"b\"c", "[1 a \"b\" c][2 end]"),
-        ("\"é @\" a.b/c-d_1", "[1 \"é @\" a.b/c-d_1][2 end]"),
-        ("a&&b", "[1 a && b][2 end]"),
-        ("a & b", "K02 K:1"),
-        ("A\nx @", "K02 K:2"),
-        ("é", "K02 K:1"),
-        ("'a'", "K02 K:1"),
-        ("\"a\\b\"", "K02 K:1"),
-        ("\"a$", "K02 K:1"),
-        ("A\r", "K02 K:1"),
-    ];
-    for (text, want) in table {
-        let found = shown(rt.alloc(), text)?;
-        assert_eq!(rt; found.as_str(), want, "at {text:?}");
+/// A text as often as this.
+pub(crate) fn repeated(alloc: Global, text: &str, times: usize) -> Result<String, AllocError> {
+    let mut out = String::new(alloc);
+    for _ in 0..times {
+        out.push_str(text)?;
     }
-    Ok(())
-}
-
-#[test]
-fn keeps_the_limit_of_a_line(rt: HostRuntime) -> Result<(), Fail> {
-    let mut text = String::from_str(rt.alloc(), "A\n")?;
-    for _ in 0..65_536 {
-        text.push('#')?;
-    }
-    assert_eq!(rt; shown(rt.alloc(), text.as_str())?.as_str(), "[1 A][3 end]");
-    text.push('#')?;
-    assert_eq!(rt; shown(rt.alloc(), text.as_str())?.as_str(), "K01 K:2");
-    Ok(())
-}
-
-#[test]
-fn keeps_the_limit_of_all_texts(rt: HostRuntime) -> Result<(), Fail> {
-    let mut text = String::from_str(rt.alloc(), "#")?;
-    for _ in 0..23 {
-        let half = text.clone()?;
-        text.push_str(half.as_str())?;
-    }
-    let mut sources = Sources::new(rt.alloc());
-    sources.add("a", text.as_str())?;
-    sources.add("b", text.as_str())?;
-    let refused = match sources.add("c", "#") {
-        Ok(()) => String::from_str(rt.alloc(), "added")?,
-        Err(fault) => show_fault(rt.alloc(), &fault)?,
-    };
-    assert_eq!(rt; refused.as_str(), "K01 c:0");
-    sources.add("a", "A")?;
-    sources.add("c", "#")?;
-    assert_eq!(rt;
-        lines_of(rt.alloc(), &sources, "a")?.as_str(),
-        "[1 A][2 end]"
-    );
-    assert_eq!(rt; lines_of(rt.alloc(), &sources, "d")?.as_str(), "K08 d:0");
-    Ok(())
+    Ok(out)
 }

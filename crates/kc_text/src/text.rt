@@ -2,6 +2,7 @@ ghost use Rattle.std.specs.Prelude.{◌≡◌, List, ℕ, IfOk, Some};
 ghost use Rattle.std.specs.String.{string_bytes};
 
 use std::alloc::{AllocError, Global};
+use std::borrow::CowStr;
 use std::fmt;
 use std::marker::Model;
 
@@ -59,7 +60,7 @@ impl fmt::Display for Text {
     }
 }
 
-/// A text that is lent by what owns it, such as the text of a token. Contracts see its bytes.
+/// A text that is lent by what owns it, such as the path of a line. Contracts see its bytes.
 #[derive(Drop, Debug)]
 pub struct TextRef<'a> {
     text: &'a str,
@@ -84,5 +85,58 @@ impl<'a> TextRef<'a> {
         ensures { result.now ≡ self.now }
     {
         self.text
+    }
+}
+
+/// The text of a token: lent by the sources, or owned where a reference, a backslash or joined lines changed it.
+/// Contracts see its bytes.
+#[derive(Drop, Debug)]
+pub struct TokenText<'a> {
+    content: CowStr<'a, Global>,
+}
+
+impl<'a> Model for TokenText<'a> {
+    ghost use Rattle.std.specs.Prelude.{List, ℕ};
+    ghost use Rattle.std.specs.Cow.{cow_str_bytes};
+
+    ghost Value = { List ℕ };
+
+    ghost view = { λ t. cow_str_bytes t.content };
+}
+
+impl<'a> TokenText<'a> {
+    /// The text that is lent, which takes no memory.
+    pub fn new(text: &'a str) -> TokenText<'a>
+        ensures { result ≡ text.entry.now }
+    {
+        TokenText {
+            content: CowStr::Borrowed(text),
+        }
+    }
+
+    /// The text of a string, which takes no memory.
+    pub fn owned(content: String) -> TokenText<'a>
+        ensures { result ≡ string_bytes content }
+    {
+        TokenText {
+            content: CowStr::Owned(content),
+        }
+    }
+
+    /// A copy that owns its text.
+    pub(crate) fn owned_copy<'b>(&self, alloc: Global) -> Result<TokenText<'b>, AllocError>
+        ensures { IfOk result (λ t. t ≡ self.now) }
+    {
+        let content = String::from_str(alloc, self.content.as_str())?;
+        Ok(TokenText {
+            content: CowStr::Owned(content),
+        })
+    }
+
+    /// The text.
+    pub fn as_str(&self) -> &str
+        ensures { result.now ≡ self.now }
+    {
+        self.content.as_str()
     }
 }

@@ -12,10 +12,10 @@ use Rattle.kc_tree.specs.TreeOf.{names_of, symbols_of}
 use Rattle.kc_tree.specs.Faults.{problem_at, first_untyped}
 
 abbrev line : List Token → LineValue
-line tokens = record { path = codes "Kconfig"; number = 1; run = 0; kind = Statement; tokens = tokens }
+line tokens = record { path = codes "Kconfig"; number = 1; run = 0; kind = Statement; tokens = tokens; help = None }
 
 abbrev end_of_file : LineValue
-end_of_file = record { path = codes "Kconfig"; number = 1; run = 0; kind = EndOfFile; tokens = [] }
+end_of_file = record { path = codes "Kconfig"; number = 1; run = 0; kind = EndOfFile; tokens = []; help = None }
 
 abbrev config : List ℕ → LineValue
 config name = line (Word (codes "config") ∷ Word name ∷ [])

@@ -10,11 +10,11 @@ use Rattle.kc_text.specs.declared.line.LineKind.TheVariants.{Statement as Statem
 use Rattle.kc_text.specs.declared.line.Token.{Token}
 use Rattle.kc_text.specs.declared.line.Token.TheVariants.{Word, Quoted}
 use Rattle.kc_tree.specs.declared.statement.Keyword.{Keyword}
-use Rattle.kc_tree.specs.declared.statement.Keyword.TheVariants.{Config, Default, Depends}
+use Rattle.kc_tree.specs.declared.statement.Keyword.TheVariants.{Config, Default, Depends, Help}
 use Rattle.kc_tree.specs.declared.statement.Keyword.TheVariants.{Bool as BoolWord}
 use Rattle.kc_tree.specs.declared.statement.Statement.{Statement}
-use Rattle.kc_tree.specs.declared.statement.Statement.TheVariants.{Definition, Prompt, DefaultValue, DependsOn}
-use Rattle.kc_tree.specs.Terms.{is_term, joined_terms}
+use Rattle.kc_tree.specs.declared.statement.Statement.TheVariants.{Definition, Prompt, DefaultValue, DependsOn, HelpText}
+use Rattle.kc_tree.specs.Terms.{joined_terms, term_word, token_word}
 
 -- letters, digits and `_`
 abbrev pub is_name_byte : ℕ → Bool
@@ -35,7 +35,8 @@ keyword_named w =
     else (if bytes_eq w (codes "bool") then Some BoolWord
     else (if bytes_eq w (codes "default") then Some Default
     else (if bytes_eq w (codes "depends") then Some Depends
-    else None)))
+    else (if bytes_eq w (codes "help") || bytes_eq w (codes "---help---") then Some Help
+    else None))))
 
 abbrev pub first_keyword : List Token → Option Keyword
 first_keyword (Word w ∷ rest) = keyword_named w
@@ -49,13 +50,18 @@ keyword_at EndOfFile tokens = None
 abbrev pub keyword_of : LineValue → Option Keyword
 keyword_of l = keyword_at l.kind l.tokens
 
--- the four forms, by the keyword and the tokens after it
+-- the name that a token is
+abbrev pub name_word : Token → Option (List ℕ)
+name_word t = option_and_then (λ w. if is_name w then Some w else None) (token_word t)
+
+-- the forms, by the keyword and the tokens after it
 abbrev pub statement_after : Keyword → List Token → Option Statement
-statement_after Config (Word name ∷ []) = if is_name name then Some (Definition name) else None
+statement_after Config (t ∷ []) = option_map Definition (name_word t)
 statement_after BoolWord (Quoted prompt ∷ []) = Some (Prompt prompt)
-statement_after Default (Word term ∷ []) = if is_term term then Some (DefaultValue term) else None
+statement_after Default (t ∷ []) = option_map DefaultValue (term_word t)
 statement_after Depends (Word on ∷ terms) =
     if bytes_eq on (codes "on") then option_map DependsOn (joined_terms terms) else None
+statement_after Help [] = Some HelpText
 statement_after _ _ = None
 
 -- what a line says, if it has one of the forms

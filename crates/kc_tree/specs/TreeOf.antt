@@ -7,7 +7,7 @@ use Rattle.kc_tree.specs.declared.tri.Tri.TheVariants.{No, Yes}
 use Rattle.kc_tree.specs.declared.symbol.Term.{Term}
 use Rattle.kc_tree.specs.declared.symbol.Term.TheVariants.{Tri, Symbol, Undefined}
 use Rattle.kc_tree.specs.declared.statement.Keyword.{Keyword}
-use Rattle.kc_tree.specs.declared.statement.Keyword.TheVariants.{Config, Default, Depends}
+use Rattle.kc_tree.specs.declared.statement.Keyword.TheVariants.{Config, Default, Depends, Help}
 use Rattle.kc_tree.specs.declared.statement.Keyword.TheVariants.{Bool as BoolWord}
 use Rattle.kc_tree.specs.declared.statement.Statement.{Statement}
 use Rattle.kc_tree.specs.declared.statement.Statement.TheVariants.{Definition, Prompt, DefaultValue, DependsOn}
@@ -23,6 +23,7 @@ abbrev pub belongs_to_entry : Option Keyword → Bool
 belongs_to_entry (Some BoolWord) = true
 belongs_to_entry (Some Default) = true
 belongs_to_entry (Some Depends) = true
+belongs_to_entry (Some Help) = true
 belongs_to_entry _ = false
 
 abbrev pub gives_type : Option Keyword → Bool

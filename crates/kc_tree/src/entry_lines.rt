@@ -16,7 +16,7 @@ pub(crate) fn is_attribute(line: &Line<'_>) -> bool
     ensures { result ≡ is_attribute line.now }
 {
     match read_keyword(line) {
-        Some(Keyword::Bool | Keyword::Default | Keyword::Depends) => true,
+        Some(Keyword::Bool | Keyword::Default | Keyword::Depends | Keyword::Help) => true,
         Some(Keyword::Config) | None => false,
     }
 }

@@ -83,7 +83,7 @@ impl LinesSoFar {
                 self.typed = false;
             }
             Some(Keyword::Bool) => self.typed = true,
-            Some(Keyword::Default | Keyword::Depends) => {}
+            Some(Keyword::Default | Keyword::Depends | Keyword::Help) => {}
             None => {
                 self.in_entry = false;
                 self.typed = false;

@@ -37,7 +37,7 @@ pub(crate) fn read_symbols(
 #[cfg(test)]
 mod tests {
     use super::*;
-    use kc_text::{LineKind, Operator, TextRef, Token};
+    use kc_text::{LineKind, Operator, TextRef, Token, TokenText};
     use std::alloc::AllocError;
     use std::test::Fail;
 
@@ -46,9 +46,9 @@ mod tests {
         if text == "&&" {
             Token::Operator(Operator::And)
         } else if text.starts_with('"') {
-            Token::Quoted(TextRef::new(text.trim_matches('"')))
+            Token::Quoted(TokenText::new(text.trim_matches('"')))
         } else {
-            Token::Word(TextRef::new(text))
+            Token::Word(TokenText::new(text))
         }
     }
 
@@ -57,12 +57,12 @@ mod tests {
         let path = TextRef::new("Kconfig");
         let mut tokens = Vec::new(alloc);
         if text == "" {
-            return Ok(Line::new(path, number, 0, LineKind::EndOfFile, tokens));
+            return Ok(Line::new(path, number, 0, LineKind::EndOfFile, tokens, None));
         }
         for word in text.split(' ') {
             tokens.push(token_of(word))?;
         }
-        Ok(Line::new(path, number, 0, LineKind::Statement, tokens))
+        Ok(Line::new(path, number, 0, LineKind::Statement, tokens, None))
     }
 
     fn lines_of<'a>(alloc: Global, text: &'a str) -> Result<Vec<Line<'a>>, AllocError> {

@@ -1,6 +1,6 @@
 ghost use Rattle.std.specs.Prelude.{◌≡◌, is_some};
 ghost use Rattle.std.specs.List.{list_all};
-ghost use Rattle.kc_tree.specs.Terms.{is_term, joined_terms, token_fits, words_of};
+ghost use Rattle.kc_tree.specs.Terms.{is_and, is_module_word, joined_terms, term_word, token_fits, token_word, words_of};
 ghost use Rattle.kc_tree.specs.Statements.{first_keyword, is_name, is_name_byte, is_reserved, keyword_named, keyword_of, statement_of, statement_after};
 
 use kc_text::{Line, LineKind, Operator, TextRef, Token};
@@ -13,6 +13,7 @@ pub(crate) enum Keyword {
     Bool,
     Default,
     Depends,
+    Help,
 }
 
 /// What a line says that has the form of a statement.
@@ -26,6 +27,8 @@ pub(crate) enum Statement<'a> {
     DefaultValue(TextRef<'a>),
     /// `depends on` and terms.
     DependsOn(Terms<'a>),
+    /// `help`, whose text stands beside the line.
+    HelpText,
 }
 
 /// Terms that `&&` joins, as the tokens of a line. Contracts see the list of their words.
@@ -75,11 +78,59 @@ fn is_reserved(word: &str) -> bool
     word == "n" || word == "m" || word == "y" || word == "if"
 }
 
-/// Whether a word is a term. `m` is refused until tristate values are read.
-fn is_term(word: &str) -> bool
-    ensures { result ≡ is_term word.now }
+/// Whether a word is refused until tristate values are read.
+fn is_module_word(word: &str) -> bool
+    ensures { result ≡ is_module_word word.now }
 {
-    !(word == "m" || word == "if")
+    word == "m"
+}
+
+/// The word of a token that is a term: `if` is none, but where it comes from a reference.
+fn term_word<'a>(token: &'a Token<'a>) -> Option<TextRef<'a>>
+    ensures { result ≡ term_word token.now }
+{
+    match token {
+        Token::Word(word) => {
+            if is_module_word(word.as_str()) || word.as_str() == "if" {
+                None
+            } else {
+                Some(TextRef::new(word.as_str()))
+            }
+        }
+        Token::Expanded(word) => {
+            if is_module_word(word.as_str()) {
+                None
+            } else {
+                Some(TextRef::new(word.as_str()))
+            }
+        }
+        Token::Quoted(_) => None,
+        Token::Operator(_) => None,
+    }
+}
+
+/// The word of a token, also one that holds a reference.
+pub(crate) fn token_word<'a>(token: &'a Token<'_>) -> Option<TextRef<'a>>
+    ensures { result ≡ token_word token.now }
+{
+    match token {
+        Token::Word(word) => Some(TextRef::new(word.as_str())),
+        Token::Expanded(word) => Some(TextRef::new(word.as_str())),
+        Token::Quoted(_) => None,
+        Token::Operator(_) => None,
+    }
+}
+
+/// Whether a token joins terms.
+fn is_and(token: &Token<'_>) -> bool
+    ensures { result ≡ is_and token.now }
+{
+    match token {
+        Token::Operator(operator) => *operator == Operator::And,
+        Token::Word(_) => false,
+        Token::Expanded(_) => false,
+        Token::Quoted(_) => false,
+    }
 }
 
 fn keyword_named(word: &str) -> Option<Keyword>
@@ -93,6 +144,8 @@ fn keyword_named(word: &str) -> Option<Keyword>
         Some(Keyword::Default)
     } else if word == "depends" {
         Some(Keyword::Depends)
+    } else if word == "help" || word == "---help---" {
+        Some(Keyword::Help)
     } else {
         None
     }
@@ -113,7 +166,9 @@ fn first_keyword(tokens: &[Token<'_>]) -> Option<Keyword>
 {
     match tokens.first()? {
         Token::Word(word) => keyword_named(word.as_str()),
-        Token::Quoted(_) | Token::Operator(_) => None,
+        Token::Expanded(_) => None,
+        Token::Quoted(_) => None,
+        Token::Operator(_) => None,
     }
 }
 
@@ -121,10 +176,10 @@ fn first_keyword(tokens: &[Token<'_>]) -> Option<Keyword>
 fn token_fits(token: &Token<'_>, wants_term: bool) -> bool
     ensures { result ≡ token_fits wants_term token.now }
 {
-    match token {
-        Token::Word(word) => wants_term && is_term(word.as_str()),
-        Token::Quoted(_) => false,
-        Token::Operator(Operator::And) => !wants_term,
+    if wants_term {
+        term_word(token).is_some()
+    } else {
+        is_and(token)
     }
 }
 
@@ -160,6 +215,7 @@ fn read_after<'a>(keyword: Keyword, rest: &'a [Token<'a>]) -> Option<Statement<'
         Keyword::Bool => read_prompt(rest),
         Keyword::Default => read_default(rest),
         Keyword::Depends => read_depends(rest),
+        Keyword::Help => read_help(rest),
     }
 }
 
@@ -169,11 +225,11 @@ fn read_definition<'a>(rest: &'a [Token<'a>]) -> Option<Statement<'a>>
     let [token] = rest else {
         return None;
     };
-    match token {
-        Token::Word(name) if is_name(name.as_str()) => {
-            Some(Statement::Definition(TextRef::new(name.as_str())))
-        }
-        _ => None,
+    let name = token_word(token)?;
+    if is_name(name.as_str()) {
+        Some(Statement::Definition(name))
+    } else {
+        None
     }
 }
 
@@ -195,11 +251,16 @@ fn read_default<'a>(rest: &'a [Token<'a>]) -> Option<Statement<'a>>
     let [token] = rest else {
         return None;
     };
-    match token {
-        Token::Word(term) if is_term(term.as_str()) => {
-            Some(Statement::DefaultValue(TextRef::new(term.as_str())))
-        }
-        _ => None,
+    Some(Statement::DefaultValue(term_word(token)?))
+}
+
+fn read_help<'a>(rest: &'a [Token<'a>]) -> Option<Statement<'a>>
+    ensures { result ≡ statement_after Keyword.Help rest.now }
+{
+    if rest.is_empty() {
+        Some(Statement::HelpText)
+    } else {
+        None
     }
 }
 

@@ -1,12 +1,13 @@
-ghost use Rattle.std.specs.Prelude.{◌≡◌, ◌≤◌, [], ◌∷◌, ◌++◌, None, length, map, IsSome, OnOk, IfOk, IfErr};
+ghost use Rattle.std.specs.Prelude.{◌≡◌, ◌≤◌, [], ◌∷◌, ◌++◌, None, length, map, option_and_then, IsSome, OnOk, IfOk, IfErr};
 ghost use Rattle.kc_tree.specs.Terms.{words_of};
-ghost use Rattle.kc_tree.specs.TreeOf.{config_name, defaults_of, dependencies_of, entries_of, prompt_of, symbol_of, term_of};
+ghost use Rattle.kc_tree.specs.Statements.{statement_of};
+ghost use Rattle.kc_tree.specs.TreeOf.{config_name, default_in, defaults_of, dependencies_of, entries_of, prompt_of, symbol_of, term_of};
 ghost use Rattle.kc_tree.specs.Faults.{first_untyped, IsEntryFault, IsNoTypeOf, IsTypeFault};
 
 use crate::entry_lines::{attributes_after, config_name, is_config};
 use crate::fault::{TreeFault, TreeProblem};
 use crate::names::Names;
-use crate::statement::{Statement, read_statement};
+use crate::statement::{Statement, read_statement, token_word};
 use crate::symbol::{Expr, SymId, Symbol, Term};
 use crate::tri::Tri;
 use kc_text::{Line, Text, TextRef, Token};
@@ -40,7 +41,7 @@ fn add_terms(
     ensures { OnOk result (terms.new.items ≡ terms.old.items ++ map (term_of names.now) (words_of tokens.now)) }
 {
     for token in tokens {
-        if let Token::Word(word) = token {
+        if let Some(word) = token_word(token) {
             terms.push(read_term(alloc, names, word.as_str())?)?;
         }
     }
@@ -69,6 +70,16 @@ fn single_term(alloc: Global, names: &Names, word: &str) -> Result<Expr, AllocEr
     Ok(Expr::new(terms))
 }
 
+/// The word of the term of a `default` line.
+fn default_word<'a>(line: &'a Line<'_>) -> Option<TextRef<'a>>
+    ensures { result ≡ option_and_then default_in (statement_of line.now) }
+{
+    match read_statement(line) {
+        Some(Statement::DefaultValue(word)) => Some(word),
+        _ => None,
+    }
+}
+
 /// The values of the `default` lines.
 fn read_defaults(
     alloc: Global,
@@ -80,7 +91,7 @@ fn read_defaults(
 {
     let mut defaults = Vec::new(alloc);
     for line in attributes {
-        if let Some(Statement::DefaultValue(word)) = read_statement(line) {
+        if let Some(word) = default_word(line) {
             defaults.push(single_term(alloc, names, word.as_str())?)?;
         }
     }

@@ -62,7 +62,7 @@ fn open_session<'a, F: Folder>(
 ) -> Result<Session, Fault<'a>> {
     let path = arguments.kconfig;
     let sources = read_sources(alloc, folder, path)?;
-    let session = open(alloc, &sources, &Vars::none(), path, &arguments.prefix)?;
+    let session = open(alloc, &sources, &Vars::none(alloc), path, &arguments.prefix)?;
     Ok(session)
 }
 

@@ -1,16 +1,19 @@
 use Rattle.std.proofs.Common.{◌≡◌, length}
 use denote.Text.{Utf8}
 use denote.Shadow.{shadow}
-use Rattle.kc_text.specs.Lexing.{raw_tokens}
-use Rattle.kc_text.specs.Lines.{ahead, tokens_of}
+use Rattle.kc_text.specs.Expansion.{names_in, texts_in}
+use Rattle.kc_text.specs.Tokens.{line_tokens}
+use Rattle.kc_text.proofs.TokenLemmas.{ahead}
 use Rattle.kc_text.proofs.tokens.tokens.Given as goal
 
 -- the tokens so far stand before those of the rest
-abbrev pub invariant-loop-raw : goal.invariant-loop-raw
-invariant-loop-raw l = record {
-  utf8 : shadow (Utf8 l.rest);
-  found : tokens_of (raw_tokens l.line) ≡ ahead l.tokens.items (tokens_of (raw_tokens l.rest));
-}
+abbrev pub invariant-loop-tokens : goal.invariant-loop-tokens
+invariant-loop-tokens l =
+    let found = line_tokens (names_in l.scope.variables.now) (texts_in l.scope.outside.now) in
+    record {
+      utf8 : shadow (Utf8 l.rest);
+      found : found l.line ≡ ahead l.tokens.items (found l.rest);
+    }
 
-abbrev pub decreases-loop-raw : goal.decreases-loop-raw
-decreases-loop-raw l = length l.rest
+abbrev pub decreases-loop-tokens : goal.decreases-loop-tokens
+decreases-loop-tokens l = length l.rest

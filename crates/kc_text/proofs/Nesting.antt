@@ -1,0 +1,111 @@
+-- Files that are read item by item, and `source` lines that put files in place.
+use Rattle.std.proofs.Common.{◌≡◌, ℕ, zero, suc, ◌+◌, ◌-◌, ◌<◌, ◌≤◌, false, ◌||◌, List, [], ◌∷◌, ◌++◌, length, drop, Some, None, Result, Ok, Err, Bor, refl, ap, sym, ◌∙◌, arith, length-drop, length-append, drop-drop}
+use Rattle.std.specs.List.{list_any}
+use Rattle.std.specs.Str.{bytes_eq}
+use Rattle.std.specs.Str.Lines.{lines}
+use Rattle.std.proofs.lemmas.Bool.{lt-leb, le-ltb}
+use Rattle.std.proofs.lemmas.List.{drop_all, drop-map, length-map, map-append}
+use Rattle.kc_text.specs.declared.fault.TextProblem.TheVariants.{MissingSource}
+use Rattle.kc_text.specs.declared.fault.TextFault.{TextFault}
+use Rattle.kc_text.specs.declared.fault.TextFault.TheVariants.{At, NoMemory}
+use Rattle.kc_text.specs.declared.reading.Reader.{Reader}
+use Rattle.kc_text.specs.Expansion.{Environment, then_on, is_among}
+use Rattle.kc_text.specs.Faults.{Fails}
+use Rattle.kc_text.specs.Items.{ItemValue, first_item}
+use Rattle.kc_text.specs.Reading.{ReadState, Place, Placing, nothing_read, with_lines, entered, end_of_file, item_read, items_read, file_read, placed, top_read}
+use Rattle.kc_text.specs.Scanning.{names_of, outside_of, placing, texts_of}
+use Rattle.kc_text.specs.Sources.{text_of}
+
+-- a fault of a part that is one of the whole
+pub fault_along : {A B : Type 0} (f : TextFault) (part : Result A TextFault) (whole : Result B TextFault) → ((g : TextFault) → part ≡ Err g → whole ≡ Err g) → Fails f part → Fails f whole
+fault_along (At problem path line) part whole along h = along (At problem path line) h
+fault_along NoMemory part whole along h = tt
+
+-- a path is sought among those that are lent
+pub is_among-names_of : (path : List ℕ) (paths : List (Bor (List ℕ))) → list_any (λ p. bytes_eq path p.now) paths ≡ is_among path (names_of paths)
+is_among-names_of path [] = refl
+is_among-names_of path (p ∷ ps) = ap (λ b. bytes_eq path p.now || b) (is_among-names_of path ps)
+
+-- the items of a file
+module _ (outside : Environment) (place : Placing) (path : List ℕ) (run : ℕ) where
+  -- lines that belong to the item before are passed over
+  items_skip : (n number : ℕ) (ls : List (List ℕ)) (s : ReadState) → items_read outside place path run n number ls s ≡ items_read outside place path run 0 (number + n) (drop n ls) s
+  items_skip zero number ls s = ap (λ k. items_read outside place path run 0 k ls s) {x = number} {y = number + 0} (omega arith)
+  items_skip (suc n) number [] s = refl
+  items_skip (suc n) number (l ∷ ls) s =
+      items_skip n (suc number) ls s ∙ ap (λ k. items_read outside place path run 0 k (drop n ls) s) {x = suc number + n} {y = number + suc n} (omega arith)
+
+  -- an item, and then the lines behind it
+  item_first : (item : ItemValue) (number : ℕ) (ls : List (List ℕ)) (s : ReadState) → 0 < length ls → item ≡ first_item ls
+      → items_read outside place path run 0 number ls s
+      ≡ then_on (item_read outside place (record { path = path; run = run; number = number }) item s) (λ t. items_read outside place path run item.more (suc number) (drop 1 ls) t)
+  item_first item number [] s some e = absurd (omega (arith, some))
+  item_first item number (l ∷ ls) s some e =
+      ap (λ v. then_on (item_read outside place (record { path = path; run = run; number = number }) v s) (λ t. items_read outside place path run v.more (suc number) ls t)) (sym e)
+
+-- the lines of a file from a number on, and one item, where the files `around` are open
+abbrev lines_read : Reader → List (Bor (List ℕ)) → List ℕ → ℕ → ℕ → ℕ → List (List ℕ) → ReadState → Result ReadState TextFault
+lines_read reader around path run n number ls s = items_read (outside_of reader) (placing reader around) path run n number ls s
+
+abbrev item_at : Reader → List (Bor (List ℕ)) → List ℕ → ℕ → ℕ → ItemValue → ReadState → Result ReadState TextFault
+item_at reader around path run number item s = item_read (outside_of reader) (placing reader around) (record { path = path; run = run; number = number }) item s
+
+-- the item at `i` among the lines of a file, where the files `around` are open, as `before` were
+module _ (reader : Reader) (before around : List (Bor (List ℕ))) (same : around ≡ before) (path : List ℕ) (run : ℕ) (all : List (Bor (List ℕ))) (i : ℕ) (start s : ReadState) (item : ItemValue) (turn : i < length all) (first : item ≡ first_item (texts_of (drop i all)))
+    (reads : lines_read reader before path run 0 1 (texts_of all) start ≡ lines_read reader before path run 0 (i + 1) (drop i (texts_of all)) s) where
+  item_here : lines_read reader before path run 0 1 (texts_of all) start
+      ≡ then_on (item_at reader around path run (i + 1) item s) (λ t. lines_read reader before path run item.more (suc (i + 1)) (drop 1 (drop i (texts_of all))) t)
+  item_here =
+      reads
+      ∙ item_first (outside_of reader) (placing reader before) path run item (i + 1) (drop i (texts_of all)) s (omega (arith, turn, length-drop i (texts_of all), length-map all (λ t. t.now))) (first ∙ ap first_item (sym (drop-map (λ t. t.now) i all)))
+      ∙ ap (λ paths. then_on (item_at reader paths path run (i + 1) item s) (λ t. lines_read reader before path run item.more (suc (i + 1)) (drop 1 (drop i (texts_of all))) t)) (sym same)
+
+  pub lines_go_on : (t : ReadState) → item_at reader around path run (i + 1) item s ≡ Ok t
+      → lines_read reader before path run 0 1 (texts_of all) start ≡ lines_read reader before path run 0 (i + (item.more + 1) + 1) (drop (i + (item.more + 1)) (texts_of all)) t
+  lines_go_on t e =
+      let behind : drop item.more (drop 1 (drop i (texts_of all))) ≡ drop (i + (item.more + 1)) (texts_of all) =
+      ap (drop item.more) (drop-drop 1 i (texts_of all)) ∙ drop-drop item.more (i + 1) (texts_of all) ∙ ap (λ k. drop k (texts_of all)) {x = i + 1 + item.more} {y = i + (item.more + 1)} (omega arith) in
+      let number : suc (i + 1) + item.more ≡ i + (item.more + 1) + 1 = omega arith in
+      item_here
+      ∙ ap (λ r. then_on r (λ u. lines_read reader before path run item.more (suc (i + 1)) (drop 1 (drop i (texts_of all))) u)) e
+      ∙ items_skip (outside_of reader) (placing reader before) path run item.more (suc (i + 1)) (drop 1 (drop i (texts_of all))) t
+      ∙ (λ k. lines_read reader before path run 0 (number k) (behind k) t)
+
+  pub lines_fail : (text : List ℕ) (f : TextFault) → texts_of all ≡ lines text → item_at reader around path run (i + 1) item s ≡ Err f → file_read (outside_of reader) (placing reader before) path run text start ≡ Err f
+  lines_fail text f taken e =
+      ap (λ r. then_on r (λ t. Ok (with_lines (end_of_file (record { path = path; run = run; number = length (lines text) + 1 }) ∷ []) t)))
+      (ap (λ ls. lines_read reader before path run 0 1 ls start) (sym taken) ∙ item_here
+      ∙ ap (λ r. then_on r (λ u. lines_read reader before path run item.more (suc (i + 1)) (drop 1 (drop i (texts_of all))) u)) e)
+
+-- behind the last line stands the end of the file
+pub lines_end : (outside : Environment) (place : Placing) (path : List ℕ) (run : ℕ) (text : List ℕ) (all : List (Bor (List ℕ))) (i : ℕ) (s t : ReadState)
+    → texts_of all ≡ lines text → i ≡ length all → items_read outside place path run 0 1 (texts_of all) s ≡ items_read outside place path run 0 (i + 1) (drop i (texts_of all)) t
+    → file_read outside place path run text s ≡ Ok (with_lines (end_of_file (record { path = path; run = run; number = i + 1 }) ∷ []) t)
+lines_end outside place path run text all i s t taken end reads =
+    let none : drop i (texts_of all) ≡ [] = drop_all i (texts_of all) (omega (arith, end, length-map all (λ t. t.now))) in
+    let count : length (lines text) ≡ i = ap length (sym taken) ∙ length-map all (λ t. t.now) ∙ sym end in
+    ap (λ r. then_on r (λ u. Ok (with_lines (end_of_file (record { path = path; run = run; number = length (lines text) + 1 }) ∷ []) u)))
+    (ap (λ ls. items_read outside place path run 0 1 ls s) (sym taken) ∙ reads ∙ ap (λ ls. items_read outside place path run 0 (i + 1) ls t) none)
+    ∙ ap (λ n. Ok (with_lines (end_of_file (record { path = path; run = run; number = n + 1 }) ∷ []) t)) count
+
+-- the file of a path that a `source` line names is put in place: `pushed` are the paths around with its own
+pub source_reads : (reader : Reader) (around pushed : List (Bor (List ℕ))) (at : Place) (wanted : List ℕ) (path : Bor (List ℕ)) (text : List ℕ) (s : ReadState)
+    → is_among wanted (names_of around) ≡ false → length around < 64 → s.followed < 4096 → path.now ≡ wanted → text_of wanted reader.sources.now ≡ Some text → s.placed + length text ≤ 16777216 → pushed ≡ around ++ path ∷ []
+    → placing reader around at wanted s ≡ file_read (outside_of reader) (placing reader pushed) path.now (s.followed + 1) text (entered text s)
+source_reads reader around pushed at wanted path text s new room often same found fits grown =
+    let more : names_of pushed ≡ names_of around ++ wanted ∷ [] = ap names_of grown ∙ map-append (λ t. t.now) around (path ∷ []) ∙ ap (λ p. names_of around ++ p ∷ []) same in
+    let one_more : 64 - length around ≡ suc (64 - length pushed) = omega (arith, ap length grown, length-append around (path ∷ []), room) in
+    let deeper : placed reader.sources.now (outside_of reader) (suc (64 - length pushed)) (names_of around) at wanted s
+    ≡ file_read (outside_of reader) (placed reader.sources.now (outside_of reader) (64 - length pushed) (names_of around ++ wanted ∷ [])) wanted (s.followed + 1) text (entered text s) =
+    rw (new, lt-leb 4096 s.followed often, found, le-ltb 16777216 (s.placed + length text) fits) refl in
+    ap (λ n. placed reader.sources.now (outside_of reader) n (names_of around) at wanted s) one_more ∙ deeper
+    ∙ (λ i. file_read (outside_of reader) (placed reader.sources.now (outside_of reader) (64 - length pushed) (sym more i)) (sym same i) (s.followed + 1) text (entered text s))
+
+-- the top file is the only one that is open
+pub top_reads : (reader : Reader) (top : List ℕ) (path : Bor (List ℕ)) (text : List ℕ) (around : List (Bor (List ℕ))) (s : ReadState)
+    → path.now ≡ top → text_of top reader.sources.now ≡ Some text → around ≡ path ∷ [] → s ≡ nothing_read
+    → top_read reader.sources.now (outside_of reader) top ≡ file_read (outside_of reader) (placing reader around) path.now 0 text s
+top_reads reader top path text around s same found one none =
+    ap (λ o. elim o [ None ↦ Err (At (MissingSource top) top 0) | Some t ↦ file_read (outside_of reader) (placed reader.sources.now (outside_of reader) 63 (top ∷ [])) top 0 t nothing_read ]) found
+    ∙ (λ i. file_read (outside_of reader) (placed reader.sources.now (outside_of reader) 63 (sym same i ∷ [])) (sym same i) 0 text (sym none i))
+    ∙ ap (λ paths. file_read (outside_of reader) (placing reader paths) path.now 0 text s) (sym one)

@@ -1,0 +1,101 @@
+//! Classes of bytes, and how far runs of them go.
+
+ghost use Rattle.std.specs.Prelude.{◌≡◌, ◌+◌, ◌<◌, ◌≤◌, length, drop, slice_index};
+ghost use Rattle.std.specs.List.{prefix_len, suffix_len};
+ghost use Rattle.kc_text.specs.Bytes.{is_blank, is_name, is_word, behind_blanks, before_blanks, trimmed};
+
+/// A space or a tab.
+pub(crate) fn is_blank(byte: u8) -> bool
+    ensures { result ≡ is_blank byte }
+{
+    byte == b' ' || byte == b'\t'
+}
+
+/// A byte of a word.
+pub(crate) fn is_word(byte: u8) -> bool
+    ensures { result ≡ is_word byte }
+{
+    byte.is_ascii_alphanumeric() || byte == b'_' || byte == b'.' || byte == b'/' || byte == b'-'
+}
+
+/// A byte of a variable's name.
+pub(crate) fn is_name(byte: u8) -> bool
+    ensures { result ≡ is_name byte }
+{
+    byte.is_ascii_alphanumeric() || byte == b'_' || byte == b'-'
+}
+
+/// How many blanks a text begins with.
+pub(crate) fn blank_len(text: &str) -> usize
+    ensures count { result ≡ prefix_len is_blank text.now }
+    ensures within { result ≤ length text.now }
+{
+    text.as_bytes()
+        .iter()
+        .take_while(|byte| is_blank(**byte))
+        .count()
+}
+
+/// How many bytes of a word a text begins with.
+pub(crate) fn word_len(text: &str) -> usize
+    ensures count { result ≡ prefix_len is_word text.now }
+    ensures within { result ≤ length text.now }
+{
+    text.as_bytes()
+        .iter()
+        .take_while(|byte| is_word(**byte))
+        .count()
+}
+
+/// How many bytes of a variable's name a text begins with.
+pub(crate) fn name_len(text: &str) -> usize
+    ensures count { result ≡ prefix_len is_name text.now }
+    ensures within { result ≤ length text.now }
+{
+    text.as_bytes()
+        .iter()
+        .take_while(|byte| is_name(**byte))
+        .count()
+}
+
+/// How many blanks a text ends with.
+fn end_blank_len(text: &str) -> usize
+    ensures count { result ≡ suffix_len is_blank text.now }
+    ensures within { result ≤ length text.now }
+{
+    text.as_bytes()
+        .iter()
+        .rev()
+        .take_while(|byte| is_blank(**byte))
+        .count()
+}
+
+/// The text behind an ASCII byte.
+pub(crate) fn behind(text: &str, place: usize) -> &str
+    requires within { place < length text.now }
+    requires ascii { slice_index text.now place < 128 }
+    ensures { result.now ≡ drop (place + 1) text.now }
+{
+    &text[place + 1..]
+}
+
+/// The text behind the blanks at its beginning.
+pub(crate) fn behind_blanks(text: &str) -> &str
+    ensures { result.now ≡ behind_blanks text.now }
+{
+    &text[blank_len(text)..]
+}
+
+/// The text before the blanks at its end.
+pub(crate) fn before_blanks(text: &str) -> &str
+    ensures { result.now ≡ before_blanks text.now }
+{
+    &text[..text.len() - end_blank_len(text)]
+}
+
+/// The text without the blanks at both ends.
+pub(crate) fn trimmed(text: &str) -> &str
+    ensures { result.now ≡ trimmed text.now }
+{
+    before_blanks(behind_blanks(text))
+}

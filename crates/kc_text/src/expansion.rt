@@ -1,0 +1,159 @@
+//! What references stand for.
+
+ghost use Rattle.std.specs.Prelude.{◌≡◌, ◌≤◌, ◌-◌, length, Ok, OnOk};
+ghost use Rattle.std.specs.String.{string_bytes};
+ghost use Rattle.kc_text.specs.Faults.{ReadsBy, ReadsAfter};
+ghost use Rattle.kc_text.specs.Expansion.{expanded, expansion, followed, is_among, names_in, put, start, texts_in, then_on};
+ghost use Rattle.kc_text.specs.Scanning.{names_of, pieces_of, progress_of};
+
+use crate::fault::{LineFault, TextProblem};
+use crate::reference::{Piece, value_pieces};
+use crate::text::Text;
+use crate::variables::{Value, Variables};
+use crate::vars::Vars;
+use std::alloc::Global;
+
+/// The most bytes of an expanded text.
+const MAX_TEXT_BYTES: usize = 65_536;
+
+/// The most references that are followed for one text.
+const MAX_FOLLOWED: usize = 65_536;
+
+/// The most names that are open at once.
+const MAX_OPEN: usize = 64;
+
+/// Where references find what they stand for.
+#[derive(Clone, Copy)]
+pub(crate) struct Scope<'a> {
+    pub(crate) alloc: Global,
+    /// What lines have defined so far.
+    pub(crate) variables: &'a Variables,
+    /// What was handed in.
+    pub(crate) outside: &'a Vars,
+}
+
+/// A text that is being expanded.
+#[derive(Drop)]
+pub(crate) struct Expansion {
+    pub(crate) text: String,
+    /// How many references were followed for it.
+    pub(crate) followed: usize,
+}
+
+impl Expansion {
+    /// A text, for which no reference was followed yet.
+    pub(crate) fn new(text: Text) -> Expansion
+        ensures { progress_of result ≡ record { text = text; followed = 0 } }
+    {
+        Expansion {
+            text: text.into_string(),
+            followed: 0,
+        }
+    }
+
+    /// Puts bytes behind the text, if there is room for them. No bytes need no room.
+    pub(crate) fn put(&mut self, bytes: &str) -> Result<(), LineFault>
+        ensures { ReadsAfter result (progress_of self.new) (put bytes.now (progress_of self.old)) }
+    {
+        if bytes.is_empty() {
+            return Ok(());
+        }
+        if bytes.len() > MAX_TEXT_BYTES || self.text.len() > MAX_TEXT_BYTES - bytes.len() {
+            return Err(LineFault::Problem(TextProblem::Limit));
+        }
+        self.text.push_str(bytes)?;
+        Ok(())
+    }
+}
+
+/// The text of parts behind a text so far, where no name is open.
+pub(crate) fn expand<'a>(
+    scope: Scope<'a>,
+    pieces: &[Piece<'a>],
+    out: &mut Expansion,
+) -> Result<(), LineFault>
+    ensures { ReadsAfter result (progress_of out.new) (expansion (names_in scope.entry.variables.now) (texts_in scope.entry.outside.now) (pieces_of pieces.now) (progress_of out.old)) }
+{
+    let mut around = Vec::new(scope.alloc);
+    expand_pieces(scope, &mut around, pieces, out)
+}
+
+/// Puts parts behind a text, from left to right. The names `around` are being expanded round them.
+#[cycle(follow)]
+fn expand_pieces<'a>(
+    scope: Scope<'a>,
+    around: &mut Vec<&'a str>,
+    pieces: &[Piece<'a>],
+    out: &mut Expansion,
+) -> Result<(), LineFault>
+    requires { length around.old.items ≤ 64 }
+    ensures expands { ReadsAfter result (progress_of out.new) (expanded (followed (names_in scope.entry.variables.now) (texts_in scope.entry.outside.now) (64 - length around.old.items) (names_of around.old.items)) (pieces_of pieces.now) (progress_of out.old)) }
+    ensures around { OnOk result (around.new.items ≡ around.old.items) }
+{
+    for piece in pieces {
+        match piece {
+            Piece::Text(text) => out.put(text)?,
+            Piece::Reference(name) => follow(scope, around, name, out)?,
+            Piece::Malformed => return Err(LineFault::Problem(TextProblem::BadReference)),
+        }
+    }
+    Ok(())
+}
+
+/// Whether a name is one of others.
+fn is_among(name: &str, others: &[&str]) -> bool
+    ensures { result ≡ is_among name.now (names_of others.now) }
+{
+    others.iter().any(|other| name == *other)
+}
+
+/// Puts the text of a name behind a text. The names `around` are being expanded round it.
+#[cycle(follow)]
+fn follow<'a>(
+    scope: Scope<'a>,
+    around: &mut Vec<&'a str>,
+    name: &'a str,
+    out: &mut Expansion,
+) -> Result<(), LineFault>
+    requires { length around.old.items ≤ 64 }
+    ensures follows { ReadsAfter result (progress_of out.new) (followed (names_in scope.entry.variables.now) (texts_in scope.entry.outside.now) (64 - length around.old.items) (names_of around.old.items) name.now (progress_of out.old)) }
+    ensures around { OnOk result (around.new.items ≡ around.old.items) }
+{
+    if is_among(name, around.as_slice()) {
+        return Err(LineFault::Problem(TextProblem::RecursiveVariable));
+    }
+    if around.len() >= MAX_OPEN || out.followed >= MAX_FOLLOWED {
+        return Err(LineFault::Problem(TextProblem::Limit));
+    }
+    out.followed += 1;
+    match scope.variables.get(name) {
+        Some(Value::Recursive(text)) => {
+            let pieces = value_pieces(scope.alloc, text.as_str())?;
+            around.push(name)?;
+            expand_pieces(scope, around, pieces.as_slice(), out)?;
+            around.pop();
+            Ok(())
+        }
+        Some(Value::Simple(text)) => out.put(text.as_str()),
+        None => out.put(scope.outside.get(name).unwrap_or("")),
+    }
+}
+
+/// The text that parts have.
+pub(crate) fn expanded_text<'a>(scope: Scope<'a>, pieces: &[Piece<'a>]) -> Result<String, LineFault>
+    ensures { ReadsBy (λ s. string_bytes s) result (then_on (expansion (names_in scope.entry.variables.now) (texts_in scope.entry.outside.now) (pieces_of pieces.now) start) (λ p. Ok p.text)) }
+{
+    let mut out = Expansion::new(Text::new(String::new(scope.alloc)));
+    expand(scope, pieces, &mut out)?;
+    Ok(out.text)
+}
+
+/// A text without references, as it is. Its limit is that of an expanded text.
+pub(crate) fn plain_text(text: &str) -> Result<&str, LineFault>
+    ensures { ReadsBy (λ s. s.now) result (then_on (put text.now start) (λ p. Ok p.text)) }
+{
+    if text.len() > MAX_TEXT_BYTES {
+        return Err(LineFault::Problem(TextProblem::Limit));
+    }
+    Ok(text)
+}

@@ -1,0 +1,106 @@
+//! Texts in quotes.
+
+ghost use Rattle.std.specs.Prelude.{◌≡◌, ◌++◌, ◌<◌, ◌≤◌, ◌∷◌, ℕ, List, [], true, length, slice_index, IfOk, IfNone, IfSome};
+ghost use Rattle.std.specs.List.{prefix_len};
+ghost use Rattle.kc_text.specs.Lexing.{is_plain, is_quote, in_quotes, lexed, raw_tokens};
+ghost use Rattle.kc_text.specs.References.{Piece as SpecPiece};
+ghost use Rattle.kc_text.specs.Scanning.{piece_of, raw_of};
+
+use crate::bytes::behind;
+use crate::reference::{Piece, reference};
+use crate::scan::RawToken;
+use std::alloc::{AllocError, Global};
+
+/// Whether a byte stands for itself between quotes of a kind.
+fn is_plain(quote: u8, byte: u8) -> bool
+    ensures { result ≡ is_plain quote byte }
+{
+    byte != quote && byte != b'\\' && byte != b'$'
+}
+
+/// How many bytes that stand for themselves a text in quotes begins with.
+fn plain_len(quote: u8, text: &str) -> usize
+    ensures count { result ≡ prefix_len (is_plain quote) text.now }
+    ensures within { result ≤ length text.now }
+{
+    text.as_bytes()
+        .iter()
+        .take_while(|byte| is_plain(quote, **byte))
+        .count()
+}
+
+/// The token of an opening quote, from the text after the quote, and the text after the token.
+pub(crate) fn quoted<'a>(
+    alloc: Global,
+    quote: u8,
+    text: &'a str,
+) -> Result<(RawToken<'a>, &'a str), AllocError>
+    requires kind { is_quote quote ≡ true }
+    ensures lexes { IfOk result (λ found. lexed 0 (in_quotes quote []) text.now ≡ raw_of found.0 ∷ raw_tokens found.1.now) }
+    ensures within { IfOk result (λ found. length found.1.now ≤ length text.now) }
+{
+    let len = plain_len(quote, text);
+    if len < text.len() && text.as_bytes()[len] == quote {
+        return Ok((RawToken::Quoted(&text[..len]), behind(text, len)));
+    }
+    quoted_parts(alloc, quote, text)
+}
+
+/// The same of a text with references or backslashes, or without an end.
+fn quoted_parts<'a>(
+    alloc: Global,
+    quote: u8,
+    text: &'a str,
+) -> Result<(RawToken<'a>, &'a str), AllocError>
+    requires kind { is_quote quote ≡ true }
+    ensures lexes { IfOk result (λ found. lexed 0 (in_quotes quote []) text.now ≡ raw_of found.0 ∷ raw_tokens found.1.now) }
+    ensures within { IfOk result (λ found. length found.1.now ≤ length text.now) }
+{
+    let mut pieces = Vec::new(alloc);
+    let mut rest = text;
+    while let Some((piece, after)) = quoted_piece(quote, rest) {
+        pieces.push(piece)?;
+        rest = after;
+    }
+    if rest.is_empty() {
+        return Ok((RawToken::Unclosed(pieces), rest));
+    }
+    Ok((RawToken::QuotedParts(pieces), behind(rest, 0)))
+}
+
+/// The first part of a text in quotes, and the text after it: nothing after a dollar that begins no reference.
+fn quoted_piece(quote: u8, text: &str) -> Option<(Piece<'_>, &str)>
+    requires kind { is_quote quote ≡ true }
+    ensures none { IfNone result (0 < length text.now → slice_index text.now 0 ≡ quote) }
+    ensures lexes { IfSome result (λ found. (ps : List SpecPiece) → lexed 0 (in_quotes quote ps) text.now ≡ lexed 0 (in_quotes quote (ps ++ piece_of found.0)) found.1.now) }
+    ensures shorter { IfSome result (λ found. length found.1.now < length text.now) }
+{
+    let len = plain_len(quote, text);
+    if len > 0 {
+        let (front, rest) = text.split_at(len);
+        return Some((Piece::Text(front), rest));
+    }
+    match text.as_bytes() {
+        [b'\\', ..] => Some(escaped(behind(text, 0))),
+        [b'$', ..] => match reference(behind(text, 0)) {
+            Some((name, after)) => Some((Piece::Reference(name), after)),
+            None => Some((Piece::Malformed, "")),
+        },
+        _ => None,
+    }
+}
+
+/// The byte behind a backslash, as it is, and the text after it. A character that takes more bytes than one
+/// stands for itself anyway.
+fn escaped(text: &str) -> (Piece<'_>, &str)
+    ensures lexes { (quote : ℕ) → is_quote quote ≡ true → (ps : List SpecPiece) → lexed 0 (in_quotes quote ps) (92 ∷ text.now) ≡ lexed 0 (in_quotes quote (ps ++ piece_of result.0)) result.1.now }
+    ensures within { length result.1.now ≤ length text.now }
+{
+    match text.as_bytes() {
+        [byte, ..] if byte.is_ascii() => {
+            let (front, rest) = text.split_at(1);
+            (Piece::Text(front), rest)
+        }
+        _ => (Piece::Text(""), text),
+    }
+}

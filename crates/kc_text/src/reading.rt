@@ -1,0 +1,241 @@
+//! Files that are read line by line, each `source` line with the file that it names in its place.
+
+ghost use Rattle.std.specs.Prelude.{◌≡◌, ◌≤◌, length, IfOk, OnOk, MatchOption, None, Some, Ok};
+ghost use Rattle.std.specs.Str.Lines.{lines};
+ghost use Rattle.kc_text.specs.Faults.{GivesAfter, GivesBy, ReadsBy};
+ghost use Rattle.kc_text.specs.Definitions.{defined};
+ghost use Rattle.kc_text.specs.Expansion.{is_among, names_in, texts_in, then_on};
+ghost use Rattle.kc_text.specs.Tokens.{line_tokens};
+ghost use Rattle.kc_text.specs.Reading.{at_place, file_read, item_read, logical_lines_of, source_path, with_names};
+ghost use Rattle.kc_text.specs.Scanning.{item_of, joined_text, names_of, outside_of, place_of, placing, state_of, texts_of};
+
+use crate::defining::define;
+use crate::definition::{Definition, definition_of};
+use crate::expansion::Scope;
+use crate::fault::{LineFault, TextFault, TextProblem};
+use crate::items::{Item, Joined, first_item};
+use crate::line::{Line, Token};
+use crate::place::Place;
+use crate::sources::Sources;
+use crate::state::State;
+use crate::tokens::{owned_tokens, tokens};
+use crate::vars::Vars;
+use std::alloc::{AllocError, Global};
+
+/// The most bytes of a logical line.
+const MAX_LINE_BYTES: usize = 65_536;
+
+/// The most bytes that `source` lines put in place.
+const MAX_PLACED: usize = 16_777_216;
+
+/// The most `source` lines that are followed.
+const MAX_FOLLOWED: usize = 4_096;
+
+/// The most files that are open at once.
+const MAX_OPEN: usize = 64;
+
+/// What is read from.
+#[derive(Clone, Copy)]
+pub(crate) struct Reader<'a> {
+    pub(crate) alloc: Global,
+    pub(crate) sources: &'a Sources,
+    pub(crate) vars: &'a Vars,
+}
+
+/// The tokens of an item.
+fn item_tokens<'a>(scope: Scope<'_>, text: &Joined<'a>) -> Result<Vec<Token<'a>>, LineFault>
+    requires { length (joined_text text.now) ≤ 65536 }
+    ensures { ReadsBy (λ v. v.items) result (line_tokens (names_in scope.entry.variables.now) (texts_in scope.entry.outside.now) (joined_text text.now)) }
+{
+    match text {
+        Joined::One(line) => tokens(scope, line),
+        Joined::Many(text) => {
+            let lent = tokens(scope, text.as_str())?;
+            Ok(owned_tokens(scope.alloc, lent.as_slice())?)
+        }
+    }
+}
+
+/// The path that a `source` line names.
+fn source_path<'b>(tokens: &'b [Token<'_>]) -> Option<&'b str>
+    ensures { MatchOption result (source_path tokens.now ≡ None) (λ path. source_path tokens.now ≡ Some path.now) }
+{
+    let [first, second] = tokens else {
+        return None;
+    };
+    match (first, second) {
+        (Token::Word(word), Token::Quoted(path)) if word.as_str() == "source" => {
+            Some(path.as_str())
+        }
+        _ => None,
+    }
+}
+
+/// The lines of a text, without their ends.
+fn lines_of<'a>(alloc: Global, text: &'a str) -> Result<Vec<&'a str>, AllocError>
+    ensures { IfOk result (λ v. texts_of v.items ≡ lines text.now) }
+{
+    text.lines().collect(alloc)
+}
+
+/// Reads a file, whose end stands behind its lines. The paths `around` are those of the files that are open, this
+/// one last.
+#[cycle(read)]
+fn read_file<'a>(
+    reader: Reader<'a>,
+    around: &mut Vec<&'a str>,
+    path: &'a str,
+    run: usize,
+    text: &'a str,
+    state: &mut State<'a>,
+) -> Result<(), TextFault>
+    requires { length around.old.items ≤ 64 }
+    ensures reads { GivesAfter result (state_of state.new) (file_read (outside_of reader.entry) (placing reader.entry around.old.items) path.now run text.now (state_of state.old)) }
+    ensures around { OnOk result (around.new.items ≡ around.old.items) }
+{
+    let lines = lines_of(reader.alloc, text)?;
+    let mut at = 0;
+    while at < lines.len() {
+        let (_, rest) = lines.as_slice().split_at(at);
+        let item = first_item(reader.alloc, rest)?;
+        let taken = item.more + 1;
+        let number = at + 1;
+        let place = Place { path, run, number };
+        read_item(reader, around, place, item, state)?;
+        at += taken;
+    }
+    let end = Place {
+        path,
+        run,
+        number: at + 1,
+    };
+    state.push_end(reader.alloc, end)?;
+    Ok(())
+}
+
+/// Reads an item at a place.
+#[cycle(read)]
+fn read_item<'a>(
+    reader: Reader<'a>,
+    around: &mut Vec<&'a str>,
+    place: Place<'a>,
+    item: Item<'a>,
+    state: &mut State<'a>,
+) -> Result<(), TextFault>
+    requires { length around.old.items ≤ 64 }
+    ensures reads { GivesAfter result (state_of state.new) (item_read (outside_of reader.entry) (placing reader.entry around.old.items) (place_of place.entry) (item_of item.entry) (state_of state.old)) }
+    ensures around { OnOk result (around.new.items ≡ around.old.items) }
+{
+    let Item {
+        text,
+        help,
+        more: _,
+    } = item;
+    if text.as_str().len() > MAX_LINE_BYTES {
+        return Err(place.problem(reader.alloc, TextProblem::Limit));
+    }
+    if let Some(definition) = definition_of(text.as_str()) {
+        return read_definition(reader, place, &definition, state);
+    }
+    let tokens = read_tokens(reader, place, &text, state)?;
+    match source_path(tokens.as_slice()) {
+        Some(wanted) => put_in_place(reader, around, place, wanted, state),
+        None => Ok(state.push_statement(place, tokens, help)?),
+    }
+}
+
+/// Reads a definition at a place.
+fn read_definition<'a>(
+    reader: Reader<'a>,
+    place: Place<'a>,
+    definition: &Definition<'_>,
+    state: &mut State<'a>,
+) -> Result<(), TextFault>
+    ensures { GivesAfter result (state_of state.new) (then_on (at_place (place_of place.entry) (defined (outside_of reader.entry) (state_of state.old).names definition.now)) (λ names. Ok (with_names names (state_of state.old)))) }
+{
+    match define(reader.alloc, reader.vars, &mut state.variables, definition) {
+        Ok(()) => Ok(()),
+        Err(fault) => Err(place.fault(reader.alloc, fault)),
+    }
+}
+
+/// The tokens of the text of an item at a place.
+fn read_tokens<'a>(
+    reader: Reader<'a>,
+    place: Place<'a>,
+    text: &Joined<'a>,
+    state: &State<'a>,
+) -> Result<Vec<Token<'a>>, TextFault>
+    requires { length (joined_text text.now) ≤ 65536 }
+    ensures { GivesBy (λ v. v.items) result (at_place (place_of place.entry) (line_tokens (state_of state.now).names (outside_of reader.entry) (joined_text text.now))) }
+{
+    let scope = Scope {
+        alloc: reader.alloc,
+        variables: &state.variables,
+        outside: reader.vars,
+    };
+    match item_tokens(scope, text) {
+        Ok(tokens) => Ok(tokens),
+        Err(fault) => Err(place.fault(reader.alloc, fault)),
+    }
+}
+
+/// Whether a path is one of those.
+fn is_among(wanted: &str, paths: &[&str]) -> bool
+    ensures { result ≡ is_among wanted.now (names_of paths.now) }
+{
+    paths.iter().any(|path| *path == wanted)
+}
+
+/// Reads the file of a path in place of a `source` line. The paths `around` are those of the files that are open.
+#[cycle(read)]
+fn put_in_place<'a>(
+    reader: Reader<'a>,
+    around: &mut Vec<&'a str>,
+    place: Place<'a>,
+    wanted: &str,
+    state: &mut State<'a>,
+) -> Result<(), TextFault>
+    requires { length around.old.items ≤ 64 }
+    ensures reads { GivesAfter result (state_of state.new) (placing reader.entry around.old.items (place_of place.entry) wanted.now (state_of state.old)) }
+    ensures around { OnOk result (around.new.items ≡ around.old.items) }
+{
+    if is_among(wanted, around.as_slice()) {
+        return Err(place.problem(reader.alloc, TextProblem::RecursiveSource));
+    }
+    if around.len() >= MAX_OPEN || state.followed >= MAX_FOLLOWED {
+        return Err(place.problem(reader.alloc, TextProblem::Limit));
+    }
+    let Some((path, text)) = reader.sources.file(wanted) else {
+        return Err(place.missing_source(reader.alloc, wanted));
+    };
+    if text.len() > MAX_PLACED || state.placed > MAX_PLACED - text.len() {
+        return Err(place.problem(reader.alloc, TextProblem::Limit));
+    }
+    state.followed += 1;
+    state.placed += text.len();
+    let run = state.followed;
+    around.push(path)?;
+    read_file(reader, around, path, run, text, state)?;
+    around.pop();
+    Ok(())
+}
+
+/// The logical lines of the top file and all that it sources.
+pub(crate) fn read_top<'a>(reader: Reader<'a>, top: &str) -> Result<Vec<Line<'a>>, TextFault>
+    ensures { GivesBy (λ v. v.items) result (logical_lines_of reader.entry.sources.now (outside_of reader.entry) top.now) }
+{
+    let Some((path, text)) = reader.sources.file(top) else {
+        let nowhere = Place {
+            path: top,
+            run: 0,
+            number: 0,
+        };
+        return Err(nowhere.missing_source(reader.alloc, top));
+    };
+    let mut state = State::new(reader.alloc);
+    let mut around = Vec::new(reader.alloc);
+    around.push(path)?;
+    read_file(reader, &mut around, path, 0, text, &mut state)?;
+    Ok(state.lines)
+}
