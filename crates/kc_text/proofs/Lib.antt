@@ -3,6 +3,7 @@ pub mod Cuts
 pub mod Examples
 pub mod Expanding
 pub mod Files
+pub mod HelpLines
 pub mod Joining
 pub mod Lexing
 pub mod LineRuns

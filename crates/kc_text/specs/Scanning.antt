@@ -1,9 +1,8 @@
 -- What the values of the code stand for: this project's own.
-use Rattle.std.specs.Prelude.{ℕ, ◌-◌, List, [], ◌∷◌, ◌++◌, length, map, flat_map}
+use Rattle.std.specs.Prelude.{ℕ, ◌-◌, List, [], ◌∷◌, length, map, flat_map}
 use Rattle.std.specs.String.{string_bytes}
 use denote.Ref.{Bor}
 use Rattle.std.specs.Prelude.{◌≡◌}
-use Rattle.kc_text.specs.declared.fault.TextProblem.{TextProblem}
 use Rattle.kc_text.specs.declared.fault.LineFault.{LineFault}
 use Rattle.kc_text.specs.declared.fault.LineFault.TheVariants.{Problem, NoMemory as NoLineMemory}
 use Rattle.kc_text.specs.declared.fault.TextFault.{TextFault}

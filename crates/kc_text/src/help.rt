@@ -1,12 +1,13 @@
 //! Help texts.
 
-ghost use Rattle.std.specs.Prelude.{◌≡◌, ◌++◌, ◌≤◌, string_bytes, length, flat_map, OnOk, IfOk};
-ghost use Rattle.std.specs.List.{suffix_len};
-ghost use Rattle.kc_text.specs.Help.{before_comment, first_indentation, help_len, help_line, help_text, indentation, is_blank_line, is_help, is_inside, len_inside, passed_lines};
+ghost use Rattle.std.specs.Prelude.{◌≡◌, ◌≤◌, length, IfOk};
+ghost use Rattle.std.specs.List.{prefix_len, suffix_len};
+ghost use Rattle.kc_text.specs.Bytes.{is_blank};
+ghost use Rattle.kc_text.specs.Help.{before_comment, first_indentation, help_len, help_text, indentation, is_blank_line, is_help, is_inside, len_inside, passed_lines};
 ghost use Rattle.kc_text.specs.Scanning.{texts_of};
 
-use crate::bytes::{before_blanks, behind_blanks, blank_len, trimmed};
-use crate::text::Text;
+use crate::bytes::{blank_len, trimmed};
+use crate::help_text::HelpText;
 use std::alloc::{AllocError, Global};
 
 /// The columns from one tab stop to the next.
@@ -34,17 +35,18 @@ pub(crate) fn is_help(line: &str) -> bool
 }
 
 /// Whether a line has blanks alone.
-fn is_blank_line(line: &str) -> bool
+pub(crate) fn is_blank_line(line: &str) -> bool
     ensures { result ≡ is_blank_line line.now }
 {
     blank_len(line) == line.len()
 }
 
-/// The column of the first byte of a line that is no blank: a tab goes to the next multiple of 8.
-fn indentation(line: &str) -> u128
+/// The column behind the blanks, so many, at the beginning of a line: a tab goes to the next multiple of 8.
+fn column_behind(blanks: usize, line: &str) -> u128
+    requires { blanks ≡ prefix_len is_blank line.now }
     ensures { result ≡ indentation line.now }
 {
-    let (blanks, _) = line.split_at(blank_len(line));
+    let (blanks, _) = line.split_at(blanks);
     let mut column = 0;
     for byte in blanks.as_bytes() {
         if *byte == b'\t' {
@@ -54,6 +56,13 @@ fn indentation(line: &str) -> u128
         }
     }
     column
+}
+
+/// The column of the first byte of a line that is no blank.
+pub(crate) fn indentation(line: &str) -> u128
+    ensures { result ≡ indentation line.now }
+{
+    column_behind(blank_len(line), line)
 }
 
 /// How many lines of blanks stand first.
@@ -77,7 +86,7 @@ fn blank_lines_at_end(lines: &[&str]) -> usize
 }
 
 /// The indentation of the first line, 0 without lines.
-fn first_indentation(lines: &[&str]) -> u128
+pub(crate) fn first_indentation(lines: &[&str]) -> u128
     ensures { result ≡ first_indentation (texts_of lines.now) }
 {
     match lines.first() {
@@ -90,7 +99,8 @@ fn first_indentation(lines: &[&str]) -> u128
 fn is_inside(column: u128, line: &str) -> bool
     ensures { result ≡ is_inside column line.now }
 {
-    is_blank_line(line) || column <= indentation(line)
+    let blanks = blank_len(line);
+    blanks == line.len() || column <= column_behind(blanks, line)
 }
 
 /// How many lines a help text has, of which the first is no line of blanks: none where it is not indented.
@@ -107,45 +117,13 @@ fn text_len(column: u128, lines: &[&str]) -> usize
         .count()
 }
 
-/// Puts a line behind a help text of an indentation: its own indentation is spelt in spaces, and blanks at its end
-/// are left out.
-fn push_help_line(out: &mut String, column: u128, line: &str) -> Result<(), AllocError>
-    ensures { OnOk result (string_bytes out.new ≡ string_bytes out.old ++ help_line column line.now) }
-{
-    if is_blank_line(line) {
-        return out.push('\n');
-    }
-    for _ in column..indentation(line) {
-        out.push(' ')?;
-    }
-    out.push_str(before_blanks(behind_blanks(line)))?;
-    out.push('\n')
-}
-
-/// How many bytes lines have with their ends, which their help text passes by tabs alone.
-fn room_for(lines: &[&str]) -> usize {
-    let mut total: usize = 0;
-    for line in lines {
-        total = total.saturating_add(line.len()).saturating_add(1);
-    }
-    total
-}
-
-/// The help text of its lines.
-fn help_of(alloc: Global, column: u128, lines: &[&str]) -> Result<Text, AllocError>
-    ensures { IfOk result (λ t. t ≡ flat_map (help_line column) (texts_of lines.now)) }
-{
-    let mut out = String::with_capacity(alloc, room_for(lines))?;
-    for line in lines {
-        push_help_line(&mut out, column, line)?;
-    }
-    Ok(Text::new(out))
-}
-
 /// The text of the help whose `help` stands before the lines, and how many of them belong to it: lines of blanks
 /// alone first, and then those that are indented as far as the first other one. Where that one is not indented the
 /// text is empty.
-pub(crate) fn read_help(alloc: Global, lines: &[&str]) -> Result<(Text, usize), AllocError>
+pub(crate) fn read_help<'a>(
+    alloc: Global,
+    lines: &[&'a str],
+) -> Result<(HelpText<'a>, usize), AllocError>
     ensures text { IfOk result (λ r. r.0 ≡ help_text (texts_of lines.now)) }
     ensures lines { IfOk result (λ r. r.1 ≡ help_len (texts_of lines.now)) }
     ensures within { IfOk result (λ r. r.1 ≤ length lines.now) }
@@ -156,6 +134,6 @@ pub(crate) fn read_help(alloc: Global, lines: &[&str]) -> Result<(Text, usize), 
     let len = text_len(column, behind);
     let (taken, _) = behind.split_at(len);
     let (text, _) = taken.split_at(len - blank_lines_at_end(taken));
-    let help = help_of(alloc, column, text)?;
+    let help = HelpText::new(alloc, text)?;
     Ok((help, passed + len))
 }

@@ -5,6 +5,7 @@ ghost use Rattle.kc_text.specs.Items.{before_backslash, ends_in_backslash, first
 ghost use Rattle.kc_text.specs.Scanning.{item_of, joined_text, texts_of};
 
 use crate::help::{is_help, read_help};
+use crate::help_text::HelpText;
 use crate::text::Text;
 use std::alloc::{AllocError, Global};
 
@@ -34,7 +35,7 @@ impl<'a> Joined<'a> {
 pub(crate) struct Item<'a> {
     pub(crate) text: Joined<'a>,
     /// The help text, where the text is `help`.
-    pub(crate) help: Option<Text>,
+    pub(crate) help: Option<HelpText<'a>>,
     /// How many lines it takes beside the first.
     pub(crate) more: usize,
 }

@@ -7,6 +7,7 @@ mod definition;
 mod expansion;
 mod fault;
 mod help;
+mod help_text;
 mod items;
 mod line;
 mod lines;
@@ -23,6 +24,7 @@ mod variables;
 mod vars;
 
 pub use fault::{TextFault, TextProblem};
+pub use help_text::HelpText;
 pub use line::{Line, LineKind, Operator, Token};
 pub use lines::logical_lines;
 pub use sources::Sources;

@@ -1,6 +1,7 @@
 ghost use Rattle.std.specs.Prelude.{◌≡◌, None, MatchOption, Some};
 
-use crate::text::{Text, TextRef, TokenText};
+use crate::help_text::HelpText;
+use crate::text::{TextRef, TokenText};
 use std::marker::Model;
 
 /// An operator of an expression.
@@ -60,7 +61,7 @@ pub struct Line<'a> {
     run: usize,
     kind: LineKind,
     tokens: Vec<Token<'a>>,
-    help: Option<Text>,
+    help: Option<HelpText<'a>>,
 }
 
 impl<'a> Model for Line<'a> {
@@ -79,9 +80,9 @@ impl<'a> Line<'a> {
         run: usize,
         kind: LineKind,
         tokens: Vec<Token<'a>>,
-        help: Option<Text>,
+        help: Option<HelpText<'a>>,
     ) -> Line<'a>
-        ensures { result ≡ record { path = path.entry; number = number; run = run; kind = kind; tokens = tokens.entry.items; help = help } }
+        ensures { result ≡ record { path = path.entry; number = number; run = run; kind = kind; tokens = tokens.entry.items; help = help.entry } }
     {
         Line {
             path,
@@ -129,13 +130,10 @@ impl<'a> Line<'a> {
         self.tokens.as_slice()
     }
 
-    /// The help text after a `help` line, each of its lines with a line feed.
-    pub fn help(&self) -> Option<&str>
+    /// The help text after a `help` line.
+    pub fn help(&self) -> Option<&HelpText<'a>>
         ensures { MatchOption result (self.now.help ≡ None) (λ text. self.now.help ≡ Some text.now) }
     {
-        match &self.help {
-            Some(text) => Some(text.as_str()),
-            None => None,
-        }
+        self.help.as_ref()
     }
 }

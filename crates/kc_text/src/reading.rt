@@ -25,6 +25,9 @@ use std::alloc::{AllocError, Global};
 /// The most bytes of a logical line.
 const MAX_LINE_BYTES: usize = 65_536;
 
+/// How many bytes a line has at least in most files.
+const USUAL_LINE_BYTES: usize = 24;
+
 /// The most bytes that `source` lines put in place.
 const MAX_PLACED: usize = 16_777_216;
 
@@ -75,7 +78,9 @@ fn source_path<'b>(tokens: &'b [Token<'_>]) -> Option<&'b str>
 fn lines_of<'a>(alloc: Global, text: &'a str) -> Result<Vec<&'a str>, AllocError>
     ensures { IfOk result (λ v. texts_of v.items ≡ lines text.now) }
 {
-    text.lines().collect(alloc)
+    let mut lines = Vec::with_capacity(alloc, text.len() / USUAL_LINE_BYTES + 1)?;
+    lines.extend(text.lines())?;
+    Ok(lines)
 }
 
 /// Reads a file, whose end stands behind its lines. The paths `around` are those of the files that are open, this
@@ -233,7 +238,7 @@ pub(crate) fn read_top<'a>(reader: Reader<'a>, top: &str) -> Result<Vec<Line<'a>
         };
         return Err(nowhere.missing_source(reader.alloc, top));
     };
-    let mut state = State::new(reader.alloc);
+    let mut state = State::with_room(reader.alloc, text)?;
     let mut around = Vec::new(reader.alloc);
     around.push(path)?;
     read_file(reader, &mut around, path, 0, text, &mut state)?;

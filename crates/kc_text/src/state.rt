@@ -1,12 +1,16 @@
-ghost use Rattle.std.specs.Prelude.{◌≡◌, ◌∷◌, [], OnOk};
+ghost use Rattle.std.specs.Prelude.{◌≡◌, ◌∷◌, [], IfOk, OnOk};
 ghost use Rattle.kc_text.specs.Reading.{end_of_file, nothing_read, statement, with_lines};
 ghost use Rattle.kc_text.specs.Scanning.{place_of, state_of};
 
+use crate::help_text::HelpText;
 use crate::line::{Line, LineKind, Token};
 use crate::place::Place;
-use crate::text::{Text, TextRef};
+use crate::text::TextRef;
 use crate::variables::Variables;
 use std::alloc::{AllocError, Global};
+
+/// How many bytes of a file there are for each logical line in most files, at least.
+const USUAL_LINE_BYTES: usize = 64;
 
 /// What was read so far.
 #[derive(Drop)]
@@ -20,16 +24,17 @@ pub(crate) struct State<'a> {
 }
 
 impl<'a> State<'a> {
-    /// Nothing read.
-    pub(crate) fn new(alloc: Global) -> State<'a>
-        ensures { state_of result ≡ nothing_read }
+    /// Nothing read, with room for the logical lines of a top file.
+    pub(crate) fn with_room(alloc: Global, top: &str) -> Result<State<'a>, AllocError>
+        ensures { IfOk result (λ s. state_of s ≡ nothing_read) }
     {
-        State {
-            lines: Vec::new(alloc),
+        let lines = Vec::with_capacity(alloc, top.len() / USUAL_LINE_BYTES + 1)?;
+        Ok(State {
+            lines,
             variables: Variables::new(alloc),
             followed: 0,
             placed: 0,
-        }
+        })
     }
 
     /// Puts the line of tokens behind the lines, unless there are none.
@@ -37,9 +42,9 @@ impl<'a> State<'a> {
         &mut self,
         place: Place<'a>,
         tokens: Vec<Token<'a>>,
-        help: Option<Text>,
+        help: Option<HelpText<'a>>,
     ) -> Result<(), AllocError>
-        ensures { OnOk result (state_of self.new ≡ with_lines (statement (place_of place.entry) tokens.entry.items help) (state_of self.old)) }
+        ensures { OnOk result (state_of self.new ≡ with_lines (statement (place_of place.entry) tokens.entry.items help.entry) (state_of self.old)) }
     {
         if tokens.is_empty() {
             return Ok(());

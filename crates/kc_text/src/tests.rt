@@ -55,6 +55,7 @@ fn show_line(out: &mut String, line: &Line<'_>, alloc: Global) -> Result<(), All
         show_token(out, token)?;
     }
     if let Some(help) = line.help() {
+        let help = help.to_text(alloc)?;
         out.push_str(format!(in alloc; " {{{help}}}")?.as_str())?;
     }
     if line.kind() == LineKind::EndOfFile {

@@ -56,9 +56,15 @@ fn token<'a>(scope: Scope<'_>, raw: RawToken<'a>) -> Result<Token<'a>, LineFault
     }
 }
 
-/// How many tokens to make room for: most lines that have some have two.
+/// How many tokens to make room for: most lines that end in a quote have two, and others one for each word, few of
+/// them many.
 fn usual_count(line: &str) -> usize {
-    if behind_blanks(line).is_empty() { 0 } else { 2 }
+    let text = behind_blanks(line).as_bytes();
+    match text.last() {
+        None => 0,
+        Some(b'"') => 2,
+        Some(_) => 1 + text.iter().filter(|byte| **byte == b' ').count().min(4),
+    }
 }
 
 /// The tokens of a line, or its first fault from the left.

@@ -11,13 +11,14 @@ pub mod NamesLemmas
 pub mod NodeGraphLaws
 pub mod NodeLaws
 pub mod NodeNumbers
+pub mod NodeRowLaws
 pub mod OrderLaws
+pub mod PartLemmas
 pub mod ReachedLaws
 pub mod ResultLemmas
 pub mod RowLaws
 pub mod SearchSteps
 pub mod StatementLemmas
 pub mod SymbolLemmas
-pub mod TableLaws
 pub mod TermsLemmas
 pub mod UsersSteps

@@ -61,7 +61,7 @@ pub small_users : (t : TreeValue) (g users : List (List ℕ)) → length t.symbo
 small_users t g users few h c p q u = let below = has_row g q p (c.to_use p q u) in omega (arith, h.whole)
 
 -- the fields of a tree, from the graph of its nodes
-pub well_made : (a : Inside) (g users : List (List ℕ)) → length a.symbols.items ≤ 65535 → length a.names ≡ length a.symbols.items → HasKnownTerms a.symbols.items → a.entries.items ≡ (linked a.names a.symbols.items).entries → IsGraphOf (tree_view a) g → IsOrder (tree_view a) a.order.items → map (λ r. r.items) a.uses.items ≡ node_rows g → graph.IsConverse g users → map (λ r. r.items) a.used_by.items ≡ node_rows users → IsWellMade a
+pub well_made : (a : Inside) (g users : List (List ℕ)) → length a.symbols.items ≤ 65535 → length a.names ≡ length a.symbols.items → HasKnownTerms a.symbols.items → a.entries.items ≡ (linked a.names a.symbols.items).entries → IsGraphOf (tree_view a) g → IsOrder (tree_view a) a.order.items → a.uses ≡ node_rows g → graph.IsConverse g users → a.used_by ≡ node_rows users → IsWellMade a
 well_made a g users few named known entries h order uses converse used_by = record {
   accepted = record {
     few = few;

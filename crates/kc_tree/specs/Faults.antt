@@ -5,12 +5,15 @@ use Rattle.std.specs.Str.{bytes_eq}
 use Rattle.std.specs.List.{list_any}
 use Rattle.kc_text.specs.LineValue.{LineValue}
 use Rattle.kc_text.specs.declared.line.LineKind.{LineKind}
-use Rattle.kc_text.specs.declared.line.LineKind.TheVariants.{EndOfFile, Statement}
+use Rattle.kc_text.specs.declared.line.LineKind.TheVariants.{EndOfFile}
+use Rattle.kc_text.specs.declared.line.LineKind.TheVariants.{Statement as StatementLine}
+use Rattle.kc_tree.specs.declared.statement.Keyword.{Keyword}
+use Rattle.kc_tree.specs.declared.statement.Statement.{Statement}
 use Rattle.kc_tree.specs.declared.fault.TreeProblem.{TreeProblem}
 use Rattle.kc_tree.specs.declared.fault.TreeProblem.TheVariants.{Limit, Malformed, StrayAttribute, NoType}
 use Rattle.kc_tree.specs.declared.fault.TreeFault.{TreeFault}
 use Rattle.kc_tree.specs.declared.fault.TreeFault.TheVariants.{Line, Symbol, Loop, NoMemory}
-use Rattle.kc_tree.specs.Statements.{statement_of}
+use Rattle.kc_tree.specs.Statements.{keyword_of, statement_of}
 use Rattle.kc_tree.specs.TreeOf.{EntryLines, is_config, is_attribute, is_type_line, config_name, names_of, entries_of, prompt_of}
 
 -- ---- the lines before a line
@@ -22,10 +25,16 @@ is_in_entry before = option_map_or is_config (find (λ l. not (is_attribute l)) 
 abbrev pub is_typed : List LineValue → Bool
 is_typed before = list_any is_type_line (take_while is_attribute (reverse before))
 
+-- ---- a line that was read
+-- its keyword and what it says
+pub record IsRead (l : LineValue) (keyword : Option Keyword) (statement : Option Statement) : Type 0 where
+  pub keyword_is : keyword ≡ keyword_of l
+  pub statement_is : statement ≡ statement_of l
+
 -- ---- the problem of a line
 abbrev pub is_end : LineKind → Bool
 is_end EndOfFile = true
-is_end Statement = false
+is_end StatementLine = false
 
 abbrev pub is_stray : Bool → LineValue → Bool
 is_stray in_entry l = is_attribute l && not in_entry

@@ -1,5 +1,4 @@
 -- What the fields of a tree hold: this project's own.
-use Rattle.std.specs.Prelude.{map}
 use Rattle.kc_tree.specs.declared.tree.Tree.TheInside.{Inside}
 use Rattle.kc_tree.specs.TreeValue.{TreeValue}
 use Rattle.kc_tree.specs.Uses.{Uses}
@@ -14,5 +13,5 @@ pub record IsWellMade (a : Inside) : Type 0 where
   pub accepted : IsAccepted (tree_view a)
   pub entries : HasEachEntry (tree_view a)
   pub order : IsOrder (tree_view a) a.order.items
-  pub uses : IsTableOf (tree_view a) (Uses (tree_view a)) (map (λ r. r.items) a.uses.items)
-  pub used_by : IsTableOf (tree_view a) (λ n m. Uses (tree_view a) m n) (map (λ r. r.items) a.used_by.items)
+  pub uses : IsTableOf (tree_view a) (Uses (tree_view a)) a.uses
+  pub used_by : IsTableOf (tree_view a) (λ n m. Uses (tree_view a) m n) a.used_by

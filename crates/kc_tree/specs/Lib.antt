@@ -6,6 +6,7 @@ pub mod Inside
 pub mod Known
 pub mod Linked
 pub mod NodeGraph
+pub mod NodeRows
 pub mod Nodes
 pub mod Order
 pub mod OrderFault

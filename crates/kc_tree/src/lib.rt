@@ -9,6 +9,7 @@ mod lines;
 mod link;
 mod names;
 mod node;
+mod node_rows;
 mod nodes;
 mod statement;
 mod symbol;

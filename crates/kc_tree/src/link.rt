@@ -1,12 +1,11 @@
 //! From names and symbols to a tree: the order of its nodes or a loop, and what each node uses and is used by.
 
-ghost use Rattle.std.specs.Prelude.{◌≡◌, ◌≤◌, ◌<◌, ◌^◌, ℕ, List, [], IfErr, IfOk, OnOk, length, map, All};
+ghost use Rattle.std.specs.Prelude.{◌≡◌, ◌≤◌, ◌<◌, ◌^◌, IfErr, IfOk, OnOk, length, map, All};
 ghost use Rattle.std.specs.List.{range_with_len};
 ghost use Rattle.kc_tree.specs.TreeValue.{TreeValue};
 ghost use Rattle.kc_tree.specs.Nodes.{node_at};
 ghost use Rattle.kc_tree.specs.Order.{IsOrder};
 ghost use Rattle.kc_tree.specs.Known.{HasKnownTerms};
-ghost use Rattle.kc_tree.specs.Graph.{lists, Uses};
 ghost use Rattle.kc_tree.specs.NodeGraph.{IsGraphOf};
 ghost use Rattle.kc_tree.specs.Linked.{linked, named_node, IsLoopless, IsLinkFault};
 
@@ -14,6 +13,7 @@ use crate::fault::{NamedNode, TreeFault};
 use crate::graph::{Graph, OrderFault};
 use crate::names::Names;
 use crate::node::Node;
+use crate::node_rows::NodeRows;
 use crate::symbol::{SymId, Symbol};
 use crate::tree::{Entry, Tree};
 use crate::uses::used_rows;
@@ -29,18 +29,6 @@ fn nodes(alloc: Global, numbers: &[usize]) -> Result<Vec<Node>, AllocError>
         .iter()
         .map(|number| Node::at(*number))
         .collect(alloc)
-}
-
-/// The nodes of each row of numbers.
-fn node_table(alloc: Global, rows: &[Vec<usize>]) -> Result<Vec<Vec<Node>>, AllocError>
-    requires { (p q : ℕ) → Uses (lists rows.now) p q → q < 2 ^ 32 }
-    ensures { IfOk result (λ table. map (λ r. r.items) table.items ≡ map (λ r. map node_at r) (lists rows.now)) }
-{
-    let mut table = Vec::with_capacity(alloc, rows.len())?;
-    for row in rows {
-        table.push(nodes(alloc, row.as_slice())?)?;
-    }
-    Ok(table)
 }
 
 /// The nodes of numbers, each with the name of its symbol.
@@ -103,11 +91,11 @@ pub(crate) fn link(alloc: Global, names: Names, symbols: Vec<Symbol>) -> Result<
     ensures fault { IfErr result (IsLinkFault (linked names symbols.items)) }
 {
     let rows = used_rows(alloc, symbols.as_slice())?;
-    let uses = node_table(alloc, rows.as_slice())?;
+    let uses = NodeRows::of(alloc, rows.as_slice())?;
     let graph = Graph::from_rows(rows);
     let order = node_order(alloc, &names, &graph)?;
     let users = graph.users(alloc)?;
-    let used_by = node_table(alloc, users.as_slice())?;
+    let used_by = NodeRows::of(alloc, users.as_slice())?;
     let entries = entries(alloc, symbols.len())?;
     Ok(Tree {
         names,

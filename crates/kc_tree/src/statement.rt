@@ -201,7 +201,15 @@ fn are_joined_terms(tokens: &[Token<'_>]) -> bool
 pub(crate) fn read_statement<'a>(line: &'a Line<'a>) -> Option<Statement<'a>>
     ensures { result ≡ statement_of line.now }
 {
-    let keyword = read_keyword(line)?;
+    read_form(line, read_keyword(line))
+}
+
+/// What a line of this keyword says, if it has the form of a statement.
+pub(crate) fn read_form<'a>(line: &'a Line<'a>, keyword: Option<Keyword>) -> Option<Statement<'a>>
+    requires { keyword ≡ keyword_of line.now }
+    ensures { result ≡ statement_of line.now }
+{
+    let keyword = keyword?;
     let (_, rest) = line.tokens().split_first()?;
     read_after(keyword, rest)
 }

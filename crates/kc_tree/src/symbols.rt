@@ -1,13 +1,14 @@
-ghost use Rattle.std.specs.Prelude.{◌≡◌, ◌≤◌, [], ◌∷◌, ◌++◌, None, length, map, option_and_then, IsSome, OnOk, IfOk, IfErr};
+ghost use Rattle.std.specs.Prelude.{◌≡◌, ◌≤◌, ◌<◌, ◌+◌, [], ◌∷◌, ◌++◌, None, Some, drop, length, map, take_while, IsSome, OnOk, IfOk, IfErr};
+ghost use Rattle.std.specs.Option.{option_or};
 ghost use Rattle.kc_tree.specs.Terms.{words_of};
-ghost use Rattle.kc_tree.specs.Statements.{statement_of};
-ghost use Rattle.kc_tree.specs.TreeOf.{config_name, default_in, defaults_of, dependencies_of, entries_of, prompt_of, symbol_of, term_of};
+ghost use Rattle.kc_tree.specs.Statements.{keyword_of};
+ghost use Rattle.kc_tree.specs.TreeOf.{config_name, defaults_of, dependencies_of, entries_of, is_attribute, prompt_of, symbol_of, term_of};
 ghost use Rattle.kc_tree.specs.Faults.{first_untyped, IsEntryFault, IsNoTypeOf, IsTypeFault};
 
-use crate::entry_lines::{attributes_after, config_name, is_config};
+use crate::entry_lines::{belongs_to_entry, config_name, is_config};
 use crate::fault::{TreeFault, TreeProblem};
 use crate::names::Names;
-use crate::statement::{Statement, read_statement, token_word};
+use crate::statement::{Keyword, Statement, read_form, read_keyword, token_word};
 use crate::symbol::{Expr, SymId, Symbol, Term};
 use crate::tri::Tri;
 use kc_text::{Line, Text, TextRef, Token};
@@ -40,6 +41,9 @@ fn add_terms(
     requires { length names.now ≤ 65535 }
     ensures { OnOk result (terms.new.items ≡ terms.old.items ++ map (term_of names.now) (words_of tokens.now)) }
 {
+    if terms.is_empty() {
+        terms.reserve_exact(tokens.len() / 2 + 1)?;
+    }
     for token in tokens {
         if let Some(word) = token_word(token) {
             terms.push(read_term(alloc, names, word.as_str())?)?;
@@ -48,90 +52,97 @@ fn add_terms(
     Ok(())
 }
 
-/// The text of the first `bool` line.
-fn find_prompt<'a, 'b>(attributes: &'a [Line<'b>]) -> Option<TextRef<'a>>
-    ensures { result ≡ prompt_of attributes.now }
-{
-    for line in attributes {
-        if let Some(Statement::Prompt(text)) = read_statement(line) {
-            return Some(text);
-        }
-    }
-    None
-}
-
 /// The expression of a word alone.
 fn single_term(alloc: Global, names: &Names, word: &str) -> Result<Expr, AllocError>
     requires { length names.now ≤ 65535 }
     ensures { IfOk result (λ e. e ≡ term_of names.now word.now ∷ []) }
 {
-    let mut terms = Vec::new(alloc);
+    let mut terms = Vec::with_capacity(alloc, 1)?;
     terms.push(read_term(alloc, names, word)?)?;
     Ok(Expr::new(terms))
 }
 
-/// The word of the term of a `default` line.
-fn default_word<'a>(line: &'a Line<'_>) -> Option<TextRef<'a>>
-    ensures { result ≡ option_and_then default_in (statement_of line.now) }
-{
-    match read_statement(line) {
-        Some(Statement::DefaultValue(word)) => Some(word),
-        _ => None,
-    }
+/// What the attributes of an entry say.
+#[derive(Drop)]
+struct Parts {
+    prompt: Option<Text>,
+    defaults: Vec<Expr>,
+    dependencies: Vec<Term>,
 }
 
-/// The values of the `default` lines.
-fn read_defaults(
-    alloc: Global,
-    names: &Names,
-    attributes: &[Line<'_>],
-) -> Result<Vec<Expr>, AllocError>
-    requires { length names.now ≤ 65535 }
-    ensures { IfOk result (λ v. v.items ≡ map (λ w. term_of names.now w ∷ []) (defaults_of attributes.now)) }
-{
-    let mut defaults = Vec::new(alloc);
-    for line in attributes {
-        if let Some(word) = default_word(line) {
-            defaults.push(single_term(alloc, names, word.as_str())?)?;
+impl Parts {
+    /// Of no attributes.
+    fn new(alloc: Global) -> Parts
+        ensures prompt { result.prompt ≡ None }
+        ensures defaults { result.defaults.items ≡ [] }
+        ensures dependencies { result.dependencies.items ≡ [] }
+    {
+        Parts {
+            prompt: None,
+            defaults: Vec::new(alloc),
+            dependencies: Vec::new(alloc),
         }
     }
-    Ok(defaults)
-}
 
-/// The terms of all `depends on` lines.
-fn read_dependencies(
-    alloc: Global,
-    names: &Names,
-    attributes: &[Line<'_>],
-) -> Result<Expr, AllocError>
-    requires { length names.now ≤ 65535 }
-    ensures { IfOk result (λ e. e ≡ map (term_of names.now) (dependencies_of attributes.now)) }
-{
-    let mut terms = Vec::new(alloc);
-    for line in attributes {
-        if let Some(Statement::DependsOn(joined)) = read_statement(line) {
-            add_terms(alloc, names, joined.tokens(), &mut terms)?;
+    /// Takes the text of a `bool` line, if it is the first one.
+    fn take_prompt(&mut self, alloc: Global, text: &str) -> Result<(), AllocError>
+        ensures prompt { OnOk result (self.new.prompt ≡ option_or self.old.prompt (Some text.now)) }
+        ensures defaults { self.new.defaults ≡ self.old.defaults }
+        ensures dependencies { self.new.dependencies ≡ self.old.dependencies }
+    {
+        if self.prompt.is_none() {
+            self.prompt = Some(Text::copy_of(alloc, text)?);
         }
+        Ok(())
     }
-    Ok(Expr::new(terms))
+
+    /// Takes what an attribute of this keyword says.
+    fn take(
+        &mut self,
+        alloc: Global,
+        names: &Names,
+        line: &Line<'_>,
+        keyword: Option<Keyword>,
+    ) -> Result<(), AllocError>
+        requires few { length names.now ≤ 65535 }
+        requires keyword { keyword ≡ keyword_of line.now }
+        ensures prompt { OnOk result (self.new.prompt ≡ option_or self.old.prompt (prompt_of (line.now ∷ []))) }
+        ensures defaults { OnOk result (self.new.defaults.items ≡ self.old.defaults.items ++ map (λ w. term_of names.now w ∷ []) (defaults_of (line.now ∷ []))) }
+        ensures dependencies { OnOk result (self.new.dependencies.items ≡ self.old.dependencies.items ++ map (term_of names.now) (dependencies_of (line.now ∷ []))) }
+    {
+        match read_form(line, keyword) {
+            Some(Statement::Prompt(text)) => self.take_prompt(alloc, text.as_str())?,
+            Some(Statement::DefaultValue(word)) => {
+                self.defaults
+                    .push(single_term(alloc, names, word.as_str())?)?;
+            }
+            Some(Statement::DependsOn(joined)) => {
+                add_terms(alloc, names, joined.tokens(), &mut self.dependencies)?;
+            }
+            Some(Statement::Definition(_)) => {}
+            Some(Statement::HelpText) => {}
+            None => {}
+        }
+        Ok(())
+    }
 }
 
-/// The symbol that a prompt and the other attributes make.
-fn make_symbol(
-    alloc: Global,
-    names: &Names,
-    prompt: &str,
-    attributes: &[Line<'_>],
-) -> Result<Symbol, AllocError>
+/// What the attributes at the start of lines say.
+fn read_parts(alloc: Global, names: &Names, lines: &[Line<'_>]) -> Result<Parts, AllocError>
     requires { length names.now ≤ 65535 }
-    ensures prompt { IfOk result (λ s. s.prompt ≡ prompt.now) }
-    ensures defaults { IfOk result (λ s. s.defaults ≡ map (λ w. term_of names.now w ∷ []) (defaults_of attributes.now)) }
-    ensures dependencies { IfOk result (λ s. s.dependencies ≡ map (term_of names.now) (dependencies_of attributes.now)) }
+    ensures prompt { IfOk result (λ p. p.prompt ≡ prompt_of (take_while is_attribute lines.now)) }
+    ensures defaults { IfOk result (λ p. p.defaults.items ≡ map (λ w. term_of names.now w ∷ []) (defaults_of (take_while is_attribute lines.now))) }
+    ensures dependencies { IfOk result (λ p. p.dependencies.items ≡ map (term_of names.now) (dependencies_of (take_while is_attribute lines.now))) }
 {
-    let prompt = Text::copy_of(alloc, prompt)?;
-    let defaults = read_defaults(alloc, names, attributes)?;
-    let dependencies = read_dependencies(alloc, names, attributes)?;
-    Ok(Symbol::new(prompt, defaults, dependencies))
+    let mut parts = Parts::new(alloc);
+    for line in lines {
+        let keyword = read_keyword(line);
+        if !belongs_to_entry(keyword) {
+            return Ok(parts);
+        }
+        parts.take(alloc, names, line, keyword)?;
+    }
+    Ok(parts)
 }
 
 /// The fault of an entry without a `bool` line, or that its name could not be copied.
@@ -147,22 +158,35 @@ fn missing_type(alloc: Global, config: &Line<'_>) -> TreeFault
     }
 }
 
-/// The symbol of an entry, or that no line gives it a type.
+/// The symbol of the entry of a `config` line and the lines after it, or that none of these gives it a type.
 fn read_symbol(
     alloc: Global,
     names: &Names,
     config: &Line<'_>,
-    attributes: &[Line<'_>],
+    after: &[Line<'_>],
 ) -> Result<Symbol, TreeFault>
     requires { length names.now ≤ 65535 }
-    ensures symbol { IfOk result (λ s. s ≡ symbol_of names.now (record { config = config.now; attributes = attributes.now })) }
-    ensures typed { OnOk result (IsSome (prompt_of attributes.now)) }
-    ensures fault { IfErr result (IsEntryFault (record { config = config.now; attributes = attributes.now })) }
+    ensures symbol { IfOk result (λ s. s ≡ symbol_of names.now (record { config = config.now; attributes = take_while is_attribute after.now })) }
+    ensures typed { OnOk result (IsSome (prompt_of (take_while is_attribute after.now))) }
+    ensures fault { IfErr result (IsEntryFault (record { config = config.now; attributes = take_while is_attribute after.now })) }
 {
-    let Some(prompt) = find_prompt(attributes) else {
-        return Err(missing_type(alloc, config));
-    };
-    make_symbol(alloc, names, prompt.as_str(), attributes).map_err(|_| TreeFault::NoMemory)
+    let Parts {
+        prompt,
+        defaults,
+        dependencies,
+    } = read_parts(alloc, names, after).map_err(|_| TreeFault::NoMemory)?;
+    match prompt {
+        Some(prompt) => Ok(Symbol::new(prompt, defaults, Expr::new(dependencies))),
+        None => Err(missing_type(alloc, config)),
+    }
+}
+
+/// The lines after the one at a place.
+fn lines_after<'a, 'b>(lines: &'a [Line<'b>], place: usize) -> &'a [Line<'b>]
+    requires { place < length lines.now }
+    ensures { result.now ≡ drop (place + 1) lines.now }
+{
+    &lines[place + 1..]
 }
 
 /// The symbols of the entries among lines, or the first that has no type.
@@ -179,8 +203,7 @@ pub(crate) fn read_entries(
     let mut symbols = Vec::new(alloc);
     for (place, line) in lines.iter().enumerate() {
         if is_config(line) {
-            let attributes = attributes_after(lines, place);
-            let symbol = read_symbol(alloc, names, line, attributes)?;
+            let symbol = read_symbol(alloc, names, line, lines_after(lines, place))?;
             symbols.push(symbol).map_err(|_| TreeFault::NoMemory)?;
         }
     }

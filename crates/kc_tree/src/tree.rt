@@ -1,4 +1,4 @@
-ghost use Rattle.std.specs.Prelude.{◌≡◌, ◌<◌, IfSome, IfOk, IfErr, [], map, slice_index_or, length, Contains, ◌↔◌};
+ghost use Rattle.std.specs.Prelude.{◌≡◌, ◌<◌, IfSome, IfOk, IfErr, length, Contains, ◌↔◌};
 ghost use Rattle.kc_tree.specs.TreeValue.{symbol_named, name_of};
 ghost use Rattle.kc_tree.specs.Nodes.{all_nodes, node_count, IsNodeOf};
 ghost use Rattle.kc_tree.specs.Uses.{Uses};
@@ -11,6 +11,7 @@ use crate::lines::read_symbols;
 use crate::link::link;
 use crate::names::Names;
 use crate::node::Node;
+use crate::node_rows::NodeRows;
 use crate::nodes::Nodes;
 use crate::symbol::{SymId, Symbol};
 use crate::tri::Tri;
@@ -34,8 +35,8 @@ pub struct Tree {
     pub(crate) symbols: Vec<Symbol>,
     pub(crate) entries: Vec<Entry>,
     pub(crate) order: Vec<Node>,
-    pub(crate) uses: Vec<Vec<Node>>,
-    pub(crate) used_by: Vec<Vec<Node>>,
+    pub(crate) uses: NodeRows,
+    pub(crate) used_by: NodeRows,
 }
 
 impl Model for Tree {
@@ -48,16 +49,6 @@ impl Model for Tree {
     ghost view = { tree_view };
 
     ghost invariant = { IsWellMade };
-}
-
-/// The row of a table at a number, empty past the last.
-fn row(table: &[Vec<Node>], number: usize) -> &[Node]
-    ensures { result.now ≡ slice_index_or (map (λ r. r.items) table.now) number [] }
-{
-    match table.get(number) {
-        Some(row) => row.as_slice(),
-        None => &[],
-    }
 }
 
 impl Tree {
@@ -141,7 +132,7 @@ impl Tree {
         ensures exact { (m : Node) → Contains result.now m ↔ Uses self.now node m }
         ensures accepted { IsAccepted self.now }
     {
-        row(self.uses.as_slice(), node.number())
+        self.uses.row(node.number())
     }
 
     /// The nodes that are computed from a node.
@@ -150,7 +141,7 @@ impl Tree {
         ensures exact { (m : Node) → Contains result.now m ↔ Uses self.now m node }
         ensures accepted { IsAccepted self.now }
     {
-        row(self.used_by.as_slice(), node.number())
+        self.used_by.row(node.number())
     }
 
     /// Whether a user value is one that the symbol takes: n or y, as each symbol is bool.

@@ -52,7 +52,7 @@ fn without_repeats(row: Vec<usize>) -> Vec<usize>
 fn visibility_row(alloc: Global, symbol: &Symbol) -> Result<Vec<usize>, AllocError>
     ensures { IfOk result (λ row. AreNumbersOf (visibility_nodes symbol.now) row.items) }
 {
-    let mut row = Vec::new(alloc);
+    let mut row = Vec::with_capacity(alloc, symbol.dependencies().terms().len())?;
     add_expr(&mut row, symbol.dependencies())?;
     Ok(without_repeats(row))
 }
@@ -61,11 +61,12 @@ fn visibility_row(alloc: Global, symbol: &Symbol) -> Result<Vec<usize>, AllocErr
 fn value_row(alloc: Global, id: SymId, symbol: &Symbol) -> Result<Vec<usize>, AllocError>
     ensures { IfOk result (λ row. AreNumbersOf (value_nodes id symbol.now) row.items) }
 {
-    let mut row = Vec::new(alloc);
-    row.push(Node::Vis(id).number())?;
-    add_exprs(&mut row, symbol.defaults())?;
     // the dependencies are the condition of each default
     let condition = symbol.dependencies();
+    let room = condition.terms().len().saturating_add(symbol.defaults().len());
+    let mut row = Vec::with_capacity(alloc, room.saturating_add(1))?;
+    row.push(Node::Vis(id).number())?;
+    add_exprs(&mut row, symbol.defaults())?;
     add_expr(&mut row, condition)?;
     Ok(without_repeats(row))
 }

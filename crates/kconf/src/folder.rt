@@ -2,8 +2,11 @@
 
 use std::alloc::Global;
 use std::fs;
-use std::io::ErrorKind;
+use std::io::{self, ErrorKind, Read};
 use std::rt::Files;
+
+/// The most bytes that are expected of a file: more are never accepted.
+const MOST_EXPECTED: u64 = 16_777_216;
 
 /// Why a file gave no bytes.
 #[derive(Clone, Copy, Debug, PartialEq, Eq)]
@@ -14,10 +17,23 @@ pub enum FolderFault {
     NoMemory,
 }
 
+impl From<io::Error> for FolderFault {
+    fn from(error: io::Error) -> FolderFault {
+        match error.kind() {
+            ErrorKind::OutOfMemory => FolderFault::NoMemory,
+            _ => FolderFault::CannotRead,
+        }
+    }
+}
+
 /// Files that are read whole.
 pub trait Folder {
     /// All bytes of the file of a path.
     fn read_bytes(&self, alloc: Global, path: &str) -> Result<Vec<u8>, FolderFault>;
+
+    /// The same for a file that may never be wanted: `CannotRead` also where it has more than 16,777,216 bytes, and
+    /// where reading it might not end, or might take bytes from others, as from a pipe.
+    fn read_plain(&self, alloc: Global, path: &str) -> Result<Vec<u8>, FolderFault>;
 }
 
 /// The files of the system. A path that does not begin with `/` is taken from the working directory.
@@ -33,12 +49,41 @@ impl<'a, R> SystemFolder<'a, R> {
     }
 }
 
-impl<R: Files + AllocGlobal> Folder for SystemFolder<'_, R> {
-    fn read_bytes(&self, _alloc: Global, path: &str) -> Result<Vec<u8>, FolderFault> {
-        match fs::read(self.rt, path) {
-            Ok(bytes) => Ok(bytes),
-            Err(error) if error.kind() == ErrorKind::OutOfMemory => Err(FolderFault::NoMemory),
-            Err(_) => Err(FolderFault::CannotRead),
+impl<R: Files> SystemFolder<'_, R> {
+    /// The bytes of the file of a path, of which so many are expected.
+    fn read_expected(
+        &self,
+        alloc: Global,
+        path: &str,
+        expected: u64,
+    ) -> Result<Vec<u8>, FolderFault> {
+        let mut file = fs::open(self.rt, path)?;
+        let expected = expected.min(MOST_EXPECTED) as usize;
+        let Ok(mut bytes) = vec![in alloc; 0u8; expected + 1] else {
+            return Err(FolderFault::NoMemory);
+        };
+        let count = file.read(bytes.as_mut_slice()).unwrap_or(0);
+        bytes.truncate(count);
+        // There was room for one more, so the expected bytes were all. What failed is tried again.
+        if count == 0 || count != expected {
+            file.read_to_end(&mut bytes)?;
+        }
+        Ok(bytes)
+    }
+}
+
+impl<R: Files> Folder for SystemFolder<'_, R> {
+    fn read_bytes(&self, alloc: Global, path: &str) -> Result<Vec<u8>, FolderFault> {
+        let metadata = fs::metadata(self.rt, path)?;
+        self.read_expected(alloc, path, metadata.len())
+    }
+
+    fn read_plain(&self, alloc: Global, path: &str) -> Result<Vec<u8>, FolderFault> {
+        let metadata = fs::metadata(self.rt, path)?;
+        if metadata.is_file() && metadata.len() <= MOST_EXPECTED {
+            self.read_expected(alloc, path, metadata.len())
+        } else {
+            Err(FolderFault::CannotRead)
         }
     }
 }

@@ -1,10 +1,13 @@
-//! A program that reads a Kconfig and answers commands on it: `kconf session KCONFIG CONFIG`.
+//! A program that reads a Kconfig and answers commands on it: `kconf session KCONFIG CONFIG [NAME=VALUE]...`.
 #![tactic(auto)]
 
 mod arguments;
 mod folder;
 mod messages;
+mod opening;
 pub mod program;
+mod read_ahead;
+mod variables;
 
 use folder::SystemFolder;
 use messages::{Fault, Status, write_fault};

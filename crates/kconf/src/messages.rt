@@ -3,8 +3,9 @@ ghost use Rattle.std.specs.Prelude.{◌≡◌};
 ghost use Rattle.kconf.specs.Endings.{code_of};
 
 use kc_session::{IoFault, OpenFault};
-use kc_text::TextFault;
+use kc_text::{Text, TextFault};
 use kc_tree::TreeFault;
+use std::alloc::AllocError;
 use std::io::{self, Write};
 
 /// How the program ended.
@@ -29,12 +30,14 @@ impl Status {
 
 /// Why what the command line asked for was not done.
 #[derive(Debug, Drop)]
-pub enum Fault<'a> {
+pub enum Fault {
     /// The file of a path cannot be read.
-    CannotRead(&'a str),
+    CannotRead(Text),
     /// The file of a path is not UTF-8.
-    NotUtf8(&'a str),
-    /// A fault of the texts.
+    NotUtf8(Text),
+    /// The limits on all files together have no room for a file.
+    Full(TextFault),
+    /// A fault of the variables or of the texts.
     Text(TextFault),
     /// A fault of the lines or of the tree.
     Tree(TreeFault),
@@ -44,19 +47,25 @@ pub enum Fault<'a> {
     NoMemory,
 }
 
-impl From<TextFault> for Fault<'_> {
+impl From<AllocError> for Fault {
+    fn from(_refused: AllocError) -> Self {
+        Fault::NoMemory
+    }
+}
+
+impl From<TextFault> for Fault {
     fn from(fault: TextFault) -> Self {
         Fault::Text(fault)
     }
 }
 
-impl From<IoFault> for Fault<'_> {
+impl From<IoFault> for Fault {
     fn from(fault: IoFault) -> Self {
         Fault::Stream(fault)
     }
 }
 
-impl From<OpenFault> for Fault<'_> {
+impl From<OpenFault> for Fault {
     fn from(fault: OpenFault) -> Self {
         match fault {
             OpenFault::Text(fault) => Fault::Text(fault),
@@ -67,11 +76,11 @@ impl From<OpenFault> for Fault<'_> {
 }
 
 /// Writes a fault as lines that each begin with `kconf: `. A line of a file is named as `PATH:LINE`.
-pub fn write_fault<E: Write>(errors: &mut E, fault: &Fault<'_>) -> io::Result<()> {
+pub fn write_fault<E: Write>(errors: &mut E, fault: &Fault) -> io::Result<()> {
     match fault {
         Fault::CannotRead(path) => writeln!(errors, "kconf: {path}: cannot read"),
         Fault::NotUtf8(path) => writeln!(errors, "kconf: {path}: not UTF-8"),
-        Fault::Text(fault) => write_text_fault(errors, fault),
+        Fault::Full(fault) | Fault::Text(fault) => write_text_fault(errors, fault),
         Fault::Tree(fault) => write_tree_fault(errors, fault),
         Fault::Stream(IoFault::Read) => writeln!(errors, "kconf: cannot read"),
         Fault::Stream(IoFault::Write) => writeln!(errors, "kconf: cannot write"),

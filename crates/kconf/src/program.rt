@@ -4,23 +4,24 @@ ghost use Rattle.clap.specs.Words.{kind_of};
 ghost use Rattle.kconf.specs.Endings.{ending_of};
 
 use crate::arguments::Arguments;
-use crate::folder::{Folder, FolderFault};
+use crate::folder::Folder;
 use crate::messages::{Fault, Status, write_fault};
+use crate::opening::{Kconfig, open_kconfig};
 use clap::Error;
 use clap::error::ErrorKind;
-use kc_session::{IoFault, Session, open, run};
-use kc_text::{Sources, Vars};
+use kc_session::{IoFault, Session, run};
+use kc_text::Vars;
 use std::alloc::Global;
 use std::convert::AsStr;
 use std::io::{self, Read, Write};
-use std::str;
+use std::mem;
 
 /// Does what the words of a command line ask for, and gives the exit status: 0 where it was done, 1 after a
 /// fault, which `errors` tells of, and 2 where the words are no command line. The first word is the program's
 /// name.
 ///
-/// The first fault is told: of the words, then of the reading of the Kconfig, then of its text, its lines and
-/// its symbols, and last of the stream of commands. Where `errors` cannot be written nothing more is done.
+/// The first fault is told: of the words, then of the variables in them, then of the files and their texts as they
+/// are read, then of the lines and the symbols, and last of the stream of commands. Where `errors` cannot be written nothing more is done.
 pub fn program<S: AsStr, F: Folder, R: Read, W: Write, E: Write>(
     alloc: Global,
     words: &[S],
@@ -42,47 +43,34 @@ pub fn program<S: AsStr, F: Folder, R: Read, W: Write, E: Write>(
 }
 
 /// Reads the Kconfig, and serves the stream of commands on it.
-fn serve<'a, F: Folder, R: Read, W: Write>(
+fn serve<F: Folder, R: Read, W: Write>(
     alloc: Global,
-    arguments: &Arguments<'a>,
+    arguments: &Arguments<'_>,
     folder: &F,
     input: &mut R,
     output: &mut W,
-) -> Result<(), Fault<'a>> {
+) -> Result<(), Fault> {
     let mut session = open_session(alloc, arguments, folder)?;
     run(alloc, input, output, &mut session)?;
+    // The program ends here, so its memory need not be given back piece by piece.
+    mem::forget(session);
     Ok(())
 }
 
-/// The session of the Kconfig of a folder.
-fn open_session<'a, F: Folder>(
+/// The session of the Kconfig of a folder, which sees the variables of the words alone.
+fn open_session<F: Folder>(
     alloc: Global,
-    arguments: &Arguments<'a>,
+    arguments: &Arguments<'_>,
     folder: &F,
-) -> Result<Session, Fault<'a>> {
-    let path = arguments.kconfig;
-    let sources = read_sources(alloc, folder, path)?;
-    let session = open(alloc, &sources, &Vars::none(alloc), path, &arguments.prefix)?;
-    Ok(session)
-}
-
-/// The text of the file of a path, as the only one of the sources.
-fn read_sources<'a, F: Folder>(
-    alloc: Global,
-    folder: &F,
-    path: &'a str,
-) -> Result<Sources, Fault<'a>> {
-    let bytes = match folder.read_bytes(alloc, path) {
-        Ok(bytes) => bytes,
-        Err(FolderFault::CannotRead) => return Err(Fault::CannotRead(path)),
-        Err(FolderFault::NoMemory) => return Err(Fault::NoMemory),
+) -> Result<Session, Fault> {
+    let vars = Vars::from_pairs(alloc, arguments.variables.as_slice())?;
+    let kconfig = Kconfig {
+        folder,
+        vars: &vars,
+        top: arguments.kconfig,
+        prefix: &arguments.prefix,
     };
-    let Ok(text) = str::from_utf8(bytes.as_slice()) else {
-        return Err(Fault::NotUtf8(path));
-    };
-    let mut sources = Sources::new(alloc);
-    sources.add(path, text)?;
-    Ok(sources)
+    open_kconfig(alloc, &kconfig)
 }
 
 /// Shows what a parse of the words gave in place of arguments: help on `output`, and else the mistake on
@@ -118,7 +106,7 @@ fn ending_of(error: &Error) -> Status
 }
 
 /// Tells of a fault.
-fn tell<E: Write>(fault: &Fault<'_>, errors: &mut E) -> Status {
+fn tell<E: Write>(fault: &Fault, errors: &mut E) -> Status {
     let _ = write_fault(errors, fault);
     Status::Fault
 }

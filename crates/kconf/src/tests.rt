@@ -1,6 +1,8 @@
 //! The program over files and streams in memory.
 mod commands;
 mod faults;
+mod files;
+mod variables;
 mod words;
 
 use crate::folder::{Folder, FolderFault};
@@ -22,6 +24,10 @@ impl Folder for MemoryFolder<'_> {
             }
         }
         Err(FolderFault::CannotRead)
+    }
+
+    fn read_plain(&self, alloc: Global, path: &str) -> Result<Vec<u8>, FolderFault> {
+        self.read_bytes(alloc, path)
     }
 }
 
@@ -64,11 +70,20 @@ pub(crate) fn run_program(
     files: &[(&str, &[u8])],
     commands: &[u8],
 ) -> Outcome {
+    run_in(alloc, words, &MemoryFolder { files }, commands)
+}
+
+// Runs the program on words, a folder and a stream of commands.
+pub(crate) fn run_in<F: Folder>(
+    alloc: Global,
+    words: &[&str],
+    folder: &F,
+    commands: &[u8],
+) -> Outcome {
     let mut input = commands;
     let mut output = Vec::new(alloc);
     let mut errors = Vec::new(alloc);
-    let folder = MemoryFolder { files };
-    let status = program(alloc, words, &folder, &mut input, &mut output, &mut errors);
+    let status = program(alloc, words, folder, &mut input, &mut output, &mut errors);
     Outcome {
         status,
         output,

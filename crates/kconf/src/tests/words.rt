@@ -26,6 +26,19 @@ fn a_session_has_its_prefix_and_path(rt: HostRuntime) -> Result<(), Fail> {
         ("session Kconfig --prefix FW_ -", "# FW_A is not set\nok\n"),
         ("session --prefix=FW_ Kconfig -", "# FW_A is not set\nok\n"),
         ("session --prefix= Kconfig -", "# A is not set\nok\n"),
+        ("session Kconfig - ARCH=x86", "# CONFIG_A is not set\nok\n"),
+        (
+            "session Kconfig - A= B-1=x=y _=é",
+            "# CONFIG_A is not set\nok\n",
+        ),
+        (
+            "session Kconfig - 1=x --prefix FW_ 2=y",
+            "# FW_A is not set\nok\n",
+        ),
+        (
+            "session --prefix FW_ -- Kconfig - A=x",
+            "# FW_A is not set\nok\n",
+        ),
     ];
     for (line, want) in rows {
         let outcome = run_line(rt.alloc(), line)?;
@@ -45,8 +58,16 @@ fn other_words_are_a_mistake_of_usage(rt: HostRuntime) -> Result<(), Fail> {
         "session Kconfig",
         "session Kconfig other",
         "session nowhere other",
-        "session Kconfig - ARCH=x86",
         "session Kconfig - -x",
+        "session Kconfig - ARCH",
+        "session Kconfig - =x",
+        "session Kconfig - -A=x",
+        "session Kconfig - -- -A=x",
+        "session Kconfig - A.B=x",
+        "session Kconfig - é=x",
+        "session Kconfig - A=x -",
+        "session Kconfig - A=x ARCH B=y",
+        "session Kconfig ARCH=x86 -",
         "session -x -",
         "session Kconfig - --prefix",
         "session Kconfig - --prefix A-B",

@@ -9,11 +9,11 @@ pub returns-in_err-read_file : goal.returns-in_err-read_file
 returns-in_err-read_file c =
     let p = err_from_is_err_and c.from_residual-in_err-read_file.result c.from_residual-in_err-read_file.ensures.1 in
     let one : c.push.new.self.items ≡ c.in-Some.path ∷ [] = c.in_ok-push.ensures.items ∙ ap (λ l. l ++ c.in-Some.path ∷ []) c.new-around.ensures.items in
-    let reads = top_reads c.args.reader c.args.top.now c.in-Some.path c.in-Some.text.now c.push.new.self.items (state_of c.new-state.result) c.in-Some.ensures.0 c.in-Some.ensures.1 one c.new-state.ensures in
+    let reads = top_reads c.args.reader c.args.top.now c.in-Some.path c.in-Some.text.now c.push.new.self.items (state_of c.in_ok-state.state) c.in-Some.ensures.0 c.in-Some.ensures.1 one c.in_ok-state.ensures in
     rw (p.1, p.2) (fault_along _ _ _ (λ f h. ap (λ r. then_on r (λ s. Ok s.lines)) (reads ∙ h)) c.in_err-read_file.ensures.reads)
 
 pub returns : goal.returns
 returns c =
     let one : c.push.new.self.items ≡ c.in-Some.path ∷ [] = c.in_ok-push.ensures.items ∙ ap (λ l. l ++ c.in-Some.path ∷ []) c.new-around.ensures.items in
     ap (λ r. then_on r (λ s. Ok s.lines))
-    (top_reads c.args.reader c.args.top.now c.in-Some.path c.in-Some.text.now c.push.new.self.items (state_of c.new-state.result) c.in-Some.ensures.0 c.in-Some.ensures.1 one c.new-state.ensures ∙ c.in_ok-read_file.ensures.reads)
+    (top_reads c.args.reader c.args.top.now c.in-Some.path c.in-Some.text.now c.push.new.self.items (state_of c.in_ok-state.state) c.in-Some.ensures.0 c.in-Some.ensures.1 one c.in_ok-state.ensures ∙ c.in_ok-read_file.ensures.reads)

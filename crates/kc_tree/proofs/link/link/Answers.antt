@@ -13,8 +13,8 @@ use Rattle.kc_tree.proofs.KnownLaws.{closed_graph}
 use Rattle.kc_tree.proofs.LinkLaws.{small_uses, small_users, well_made}
 use Rattle.kc_tree.proofs.link.link.Goals as goal
 
-pub node_table-requires : goal.node_table-requires
-node_table-requires c =
+pub of-requires : goal.of-requires
+of-requires c =
     let t = linked c.args.names c.args.symbols.items in
     let h = c.in_ok-rows.ensures t (sym c.as_slice.ensures.value) in
     let P : List (Vec ℕ Global) → Type 0 = λ rows. (p q : ℕ) → Uses (lists rows) p q → q < 2 ^ 32 in
@@ -39,8 +39,8 @@ returns-in_err-order-clause-fault c =
     let p = err_from_is_err_and c.from_residual-in_err-order.result c.from_residual-in_err-order.ensures.1 in
     rw (p.1, p.2) (c.in_err-order.ensures.fault t refl h)
 
-pub node_table-requires-2 : goal.node_table-requires-2
-node_table-requires-2 c =
+pub of-requires-2 : goal.of-requires-2
+of-requires-2 c =
     let t = linked c.args.names c.args.symbols.items in
     let P : List (List ℕ) → Type 0 = λ g. IsGraphOf t g in
     let Q : List (Vec ℕ Global) → Type 0 = λ rows. (p q : ℕ) → Uses (lists rows) p q → q < 2 ^ 32 in

@@ -1,7 +1,7 @@
 use Rattle.std.proofs.Common.{◌≡◌, ◌++◌, ◌-◌, ◌∙◌, List, ℕ, Result, Ok, Err, OnOk, is_ok, if◌then◌else◌, arith, false, string_bytes, replicate, append_assoc, ap, sym}
 use Rattle.kc_text.specs.Bytes.{before_blanks, behind_blanks}
 use Rattle.kc_text.specs.Help.{indentation, is_blank_line}
-use Rattle.kc_text.proofs.help.push_help_line.Goals as goal
+use Rattle.kc_text.proofs.help_text.push_help_line.Goals as goal
 
 on_ok : {E : Type 0} (r : Result (Unit {0}) E) (new more old whole : List ℕ) → new ≡ (if is_ok r then more else old) → more ≡ whole → OnOk r (new ≡ whole)
 on_ok (Ok u) new more old whole e h = e ∙ h

@@ -1,0 +1,266 @@
+//! The files that a Kconfig sources, and those that it only names.
+use crate::folder::{Folder, FolderFault};
+use crate::tests::{MemoryFolder, Outcome, run_in, run_program};
+use std::alloc::{AllocError, Global};
+use std::cell::Cell;
+use std::test::Fail;
+
+const SESSION: [&str; 4] = ["kconf", "session", "Kconfig", "-"];
+
+const B: &[u8] = b"config B\nbool \"b\"\n";
+
+// Runs `session Kconfig - DIR=sub` on the text of the top file and other files.
+fn run_files(alloc: Global, kconfig: &str) -> Outcome {
+    let files = [
+        ("Kconfig", kconfig.as_bytes()),
+        ("b", B),
+        ("sub/Kconfig", b"source \"sub/c\"\n".as_slice()),
+        ("sub/c", b"config C\nbool \"c\"\ndefault y\n".as_slice()),
+        ("bad", b"config \xff\n".as_slice()),
+        ("bad character", b"default @\n".as_slice()),
+        ("names missing", b"source \"missing\"\n".as_slice()),
+        ("itself", b"\nsource \"itself\"\n".as_slice()),
+    ];
+    let words = ["kconf", "session", "Kconfig", "-", "DIR=sub"];
+    run_program(alloc, words.as_slice(), files.as_slice(), b"config\n")
+}
+
+#[test]
+fn sourced_files_are_read(rt: HostRuntime) -> Result<(), Fail> {
+    let (b, c) = ("# CONFIG_B is not set\nok\n", "CONFIG_C=y\nok\n");
+    let rows = [
+        ("source \"b\"\n", b),
+        (" \tsource\t\"b\" # as it is\r\n", b),
+        ("source 'b'\n", b),
+        ("source \"\\b\"\n", b),
+        ("NAME := b\nsource \"$(NAME)\"\n", b),
+        ("source \"sub/Kconfig\"", c),
+        ("source \"$(DIR)/Kconfig\"\n", c),
+        (
+            "source \"sub/c\"\nsource \"b\"\n",
+            "CONFIG_C=y\n# CONFIG_B is not set\nok\n",
+        ),
+    ];
+    for (kconfig, want) in rows {
+        let outcome = run_files(rt.alloc(), kconfig);
+        assert_eq!(rt; outcome.errors.as_slice(), b"".as_slice(), "at {kconfig:?}");
+        assert_eq!(rt; outcome.status, 0, "at {kconfig:?}");
+        assert_eq!(rt;
+            outcome.output.as_slice(),
+            want.as_bytes(),
+            "at {kconfig:?}"
+        );
+    }
+    Ok(())
+}
+
+#[test]
+fn the_first_fault_of_files_is_told(rt: HostRuntime) -> Result<(), Fail> {
+    let rows = [
+        ("source \"missing\"\n", "kconf: missing: cannot read\n"),
+        ("source \"$(NAME)/b\"\n", "kconf: /b: cannot read\n"),
+        ("source \"\"\n", "kconf: : cannot read\n"),
+        ("source \"bad\"\n", "kconf: bad: not UTF-8\n"),
+        (
+            "source \"bad character\"\n",
+            "kconf: bad character:1: K02\n",
+        ),
+        (
+            "source \"missing\"\nsource \"bad\"\n",
+            "kconf: missing: cannot read\n",
+        ),
+        (
+            "source \"bad\"\nsource \"missing\"\n",
+            "kconf: bad: not UTF-8\n",
+        ),
+        (
+            "source \"b\"\nsource \"missing\"\n",
+            "kconf: missing: cannot read\n",
+        ),
+        (
+            "source \"names missing\"\nsource \"bad\"\n",
+            "kconf: missing: cannot read\n",
+        ),
+        (
+            "source \"bad character\"\nsource \"bad\"\n",
+            "kconf: bad character:1: K02\n",
+        ),
+        ("default @\nsource \"missing\"\n", "kconf: Kconfig:1: K02\n"),
+        (
+            "frob\nsource \"missing\"\n",
+            "kconf: missing: cannot read\n",
+        ),
+        (
+            "source \"b\"\nsource \"Kconfig\"\n",
+            "kconf: Kconfig:2: K09\n",
+        ),
+        ("source \"itself\"\n", "kconf: itself:2: K09\n"),
+    ];
+    for (kconfig, want) in rows {
+        let outcome = run_files(rt.alloc(), kconfig);
+        assert_eq!(rt;
+            outcome.errors.as_slice(),
+            want.as_bytes(),
+            "at {kconfig:?}"
+        );
+        assert_eq!(rt; outcome.status, 1, "at {kconfig:?}");
+        assert_eq!(rt; outcome.output.as_slice(), b"".as_slice(), "at {kconfig:?}");
+    }
+    Ok(())
+}
+
+#[test]
+fn files_that_are_only_named_need_not_be_there(rt: HostRuntime) -> Result<(), Fail> {
+    let rows = [
+        "config A\nbool \"a\"\nhelp\n  source \"missing\"\n  source \"bad\"\n",
+        "config A\nbool \"a\"\nhelp\n  source \"names missing\"\n  source \"itself\"\n",
+        "config A\nbool \"a\"\nV = \\\nsource \"bad character\"\n",
+    ];
+    for kconfig in rows {
+        let outcome = run_files(rt.alloc(), kconfig);
+        assert_eq!(rt; outcome.errors.as_slice(), b"".as_slice(), "at {kconfig:?}");
+        assert_eq!(rt; outcome.status, 0, "at {kconfig:?}");
+        assert_eq!(rt;
+            outcome.output.as_slice(),
+            b"# CONFIG_A is not set\nok\n".as_slice(),
+            "at {kconfig:?}"
+        );
+    }
+    Ok(())
+}
+
+// Counts the reads of files in memory, which may be read ahead or not.
+#[derive(Drop)]
+struct CountingFolder<'a> {
+    files: MemoryFolder<'a>,
+    is_plain: bool,
+    reads: Cell<usize>,
+}
+
+impl Folder for CountingFolder<'_> {
+    fn read_bytes(&self, alloc: Global, path: &str) -> Result<Vec<u8>, FolderFault> {
+        self.reads.set(self.reads.get().wrapping_add(1));
+        self.files.read_bytes(alloc, path)
+    }
+
+    fn read_plain(&self, alloc: Global, path: &str) -> Result<Vec<u8>, FolderFault> {
+        if self.is_plain {
+            self.read_bytes(alloc, path)
+        } else {
+            Err(FolderFault::CannotRead)
+        }
+    }
+}
+
+#[test]
+fn each_file_is_read_once(rt: HostRuntime) -> Result<(), Fail> {
+    let top =
+        b"config A\nbool \"a\"\nhelp\n source \"d\"\nsource \"$(NAME)b\"\nsource \"c\"\nsource \"b\"\n".as_slice();
+    let files = [
+        ("Kconfig", top),
+        ("b", b"source \"c\"\n".as_slice()),
+        ("c", b"# source \"d\"\n".as_slice()),
+        ("d", b"".as_slice()),
+    ];
+    for (is_plain, want) in [(true, 4), (false, 3)] {
+        let folder = CountingFolder {
+            files: MemoryFolder {
+                files: files.as_slice(),
+            },
+            is_plain,
+            reads: Cell::new(0),
+        };
+        let outcome = run_in(rt.alloc(), SESSION.as_slice(), &folder, b"config\n");
+        assert_eq!(rt; outcome.errors.as_slice(), b"".as_slice());
+        assert_eq!(rt;
+            outcome.output.as_slice(),
+            b"# CONFIG_A is not set\nok\n".as_slice()
+        );
+        assert_eq!(rt; folder.reads.get(), want);
+    }
+    Ok(())
+}
+
+// A top file, and an empty file at each other path.
+#[derive(Drop)]
+struct EmptyFiles<'a> {
+    kconfig: &'a str,
+}
+
+impl Folder for EmptyFiles<'_> {
+    fn read_bytes(&self, alloc: Global, path: &str) -> Result<Vec<u8>, FolderFault> {
+        let text = if path == "Kconfig" { self.kconfig } else { "" };
+        text.as_bytes()
+            .to_vec(alloc)
+            .map_err(|_| FolderFault::NoMemory)
+    }
+
+    fn read_plain(&self, alloc: Global, path: &str) -> Result<Vec<u8>, FolderFault> {
+        self.read_bytes(alloc, path)
+    }
+}
+
+// The help text of a symbol that names so many files.
+fn naming_files(alloc: Global, count: usize) -> Result<String, AllocError> {
+    let mut text = String::from_str(alloc, "config A\nbool \"a\"\nhelp\n")?;
+    for number in 0..count {
+        let line = format!(in alloc; "  source \"{number}\"\n")?;
+        text.push_str(line.as_str())?;
+    }
+    Ok(text)
+}
+
+#[test]
+fn many_files_may_be_named(rt: HostRuntime) -> Result<(), Fail> {
+    for count in [4_095, 4_097] {
+        let kconfig = naming_files(rt.alloc(), count)?;
+        let folder = EmptyFiles {
+            kconfig: kconfig.as_str(),
+        };
+        let outcome = run_in(rt.alloc(), SESSION.as_slice(), &folder, b"config\n");
+        assert_eq!(rt; outcome.errors.as_slice(), b"".as_slice(), "at {count}");
+        assert_eq!(rt; outcome.status, 0, "at {count}");
+    }
+    Ok(())
+}
+
+// Comments of 8,400,000 bytes, in lines of 60,000: more than half of what all files together may have.
+fn comments(alloc: Global) -> Result<Vec<u8>, AllocError> {
+    let mut line = vec![in alloc; b'#'; 59_999]?;
+    line.push(b'\n')?;
+    let mut text = Vec::new(alloc);
+    for _ in 0..140 {
+        text.extend_from_slice(line.as_slice())?;
+    }
+    Ok(text)
+}
+
+#[test]
+fn only_wanted_files_count_against_the_limits(rt: HostRuntime) -> Result<(), Fail> {
+    let big = comments(rt.alloc())?;
+    let rows = [
+        (
+            "config A\nbool \"a\"\nhelp\n  source \"two\"\nsource \"one\"\n",
+            "",
+        ),
+        (
+            "source \"one\"\nsource \"two\"\nsource \"missing\"\n",
+            "kconf: two:0: K01\n",
+        ),
+    ];
+    for (kconfig, want) in rows {
+        let files = [
+            ("Kconfig", kconfig.as_bytes()),
+            ("one", big.as_slice()),
+            ("two", big.as_slice()),
+        ];
+        let outcome = run_program(rt.alloc(), SESSION.as_slice(), files.as_slice(), b"");
+        assert_eq!(rt;
+            outcome.errors.as_slice(),
+            want.as_bytes(),
+            "at {kconfig:?}"
+        );
+        assert_eq!(rt; outcome.status == 0, want.is_empty(), "at {kconfig:?}");
+    }
+    Ok(())
+}
