@@ -4,6 +4,7 @@ pub mod Examples
 pub mod Expanding
 pub mod Files
 pub mod HelpLines
+pub mod HelpWords
 pub mod Joining
 pub mod Lexing
 pub mod LineRuns

@@ -1,12 +1,12 @@
 //! Help texts.
 
-ghost use Rattle.std.specs.Prelude.{◌≡◌, ◌≤◌, length, IfOk};
+ghost use Rattle.std.specs.Prelude.{◌≡◌, ◌≤◌, ◌==◌, ◌||◌, length, slice_index, IfOk};
 ghost use Rattle.std.specs.List.{prefix_len, suffix_len};
-ghost use Rattle.kc_text.specs.Bytes.{is_blank};
+ghost use Rattle.kc_text.specs.Bytes.{behind_blanks, is_blank};
 ghost use Rattle.kc_text.specs.Help.{before_comment, first_indentation, help_len, help_text, indentation, is_blank_line, is_help, is_inside, len_inside, passed_lines};
 ghost use Rattle.kc_text.specs.Scanning.{texts_of};
 
-use crate::bytes::{blank_len, trimmed};
+use crate::bytes::{behind_blanks, blank_len, trimmed};
 use crate::help_text::HelpText;
 use std::alloc::{AllocError, Global};
 
@@ -26,10 +26,23 @@ fn before_comment(text: &str) -> &str
     before
 }
 
+/// Whether the first byte of a line that is no blank is one of those of `help` and `---help---`.
+fn begins_help(line: &str) -> bool
+    ensures { result ≡ (slice_index (behind_blanks line.now) 0 == 104 || slice_index (behind_blanks line.now) 0 == 45) }
+{
+    match behind_blanks(line).as_bytes() {
+        [] => false,
+        [first, ..] => *first == b'h' || *first == b'-',
+    }
+}
+
 /// Whether `help` or `---help---` is the only token of a line.
 pub(crate) fn is_help(line: &str) -> bool
     ensures { result ≡ is_help line.now }
 {
+    if !begins_help(line) {
+        return false;
+    }
     let only = trimmed(before_comment(line));
     only == "help" || only == "---help---"
 }

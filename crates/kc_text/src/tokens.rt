@@ -56,15 +56,17 @@ fn token<'a>(scope: Scope<'_>, raw: RawToken<'a>) -> Result<Token<'a>, LineFault
     }
 }
 
-/// How many tokens to make room for: most lines that end in a quote have two, and others one for each word, few of
-/// them many.
+/// How many tokens to make room for: a comment has none, most lines that end in a quote have two, and others one
+/// for each word, few of them more than five.
 fn usual_count(line: &str) -> usize {
     let text = behind_blanks(line).as_bytes();
-    match text.last() {
-        None => 0,
-        Some(b'"') => 2,
-        Some(_) => 1 + text.iter().filter(|byte| **byte == b' ').count().min(4),
+    if text.is_empty() || text[0] == b'#' {
+        return 0;
     }
+    if text[text.len() - 1] == b'"' {
+        return 2;
+    }
+    1 + text.iter().filter(|byte| **byte == b' ').count().min(4)
 }
 
 /// The tokens of a line, or its first fault from the left.

@@ -41,17 +41,17 @@ last_row nodes more =
 
 rows_more : (rows : List (Vec ℕ Global)) (spans : List Span) (nodes more : List Node) (r : List ℕ) → AreRowsOf rows spans nodes → (rows' : List (Vec ℕ Global)) → graph.lists rows' ≡ graph.lists rows ++ r ∷ [] → more ≡ map node_at r → AreRowsOf rows' (spans ++ record { start = length nodes; end = length (nodes ++ more) } ∷ []) (nodes ++ more)
 rows_more rows spans nodes more r known rows' added is = record {
-    are =
-        map_push (row_in (nodes ++ more)) spans s
-        ∙ ap (λ rs. rs ++ row_in (nodes ++ more) s ∷ []) (rows_in-append nodes more spans known.fit ∙ known.are)
-        ∙ ap (λ x. before ++ x ∷ []) (last_row nodes more ∙ is)
-        ∙ sym (ap (map (λ v. map node_at v)) added ∙ map_push (λ v. map node_at v) (graph.lists rows) r);
-    fit =
-        let count = length-append nodes more in
-        All-push (FitsIn (length (nodes ++ more))) spans s
-        (λ k d h. let f = known.fit k d h in let within = f.within in record { ordered = f.ordered; within = omega arith })
-        (record { ordered = omega arith; within = omega arith });
-  }
+  are =
+      map_push (row_in (nodes ++ more)) spans s
+      ∙ ap (λ rs. rs ++ row_in (nodes ++ more) s ∷ []) (rows_in-append nodes more spans known.fit ∙ known.are)
+      ∙ ap (λ x. before ++ x ∷ []) (last_row nodes more ∙ is)
+      ∙ sym (ap (map (λ v. map node_at v)) added ∙ map_push (λ v. map node_at v) (graph.lists rows) r);
+  fit =
+      let count = length-append nodes more in
+      All-push (FitsIn (length (nodes ++ more))) spans s
+      (λ k d h. let f = known.fit k d h in let within = f.within in record { ordered = f.ordered; within = omega arith })
+      (record { ordered = omega arith; within = omega arith });
+}
   where
     s : Span
     s = record { start = length nodes; end = length (nodes ++ more) }

@@ -1,4 +1,5 @@
 pub mod Accepted
+pub mod ExprTerms
 pub mod Faults
 pub mod Fits
 pub mod Graph

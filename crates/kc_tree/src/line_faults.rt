@@ -14,6 +14,9 @@ use std::marker::Model;
 /// The number of symbols that a tree may have.
 const MOST_SYMBOLS: usize = 65_535;
 
+/// The number of lines that most entries have at least, by which room for names is made at once.
+const USUAL_LINES: usize = 4;
+
 /// A line with its keyword and what it says, each read once. Contracts see the line.
 #[derive(Drop)]
 struct ReadLine<'a> {
@@ -103,17 +106,17 @@ struct LinesSoFar {
 }
 
 impl LinesSoFar {
-    /// Before the first line.
-    fn new(alloc: Global) -> LinesSoFar
-        ensures names { result.names ≡ [] }
-        ensures in_entry { result.in_entry ≡ false }
-        ensures typed { result.typed ≡ false }
+    /// Before the first of so many lines.
+    fn new(alloc: Global, lines: usize) -> Result<LinesSoFar, AllocError>
+        ensures names { IfOk result (λ l. l.names ≡ []) }
+        ensures in_entry { IfOk result (λ l. l.in_entry ≡ false) }
+        ensures typed { IfOk result (λ l. l.typed ≡ false) }
     {
-        LinesSoFar {
-            names: Names::new(alloc),
+        Ok(LinesSoFar {
+            names: Names::with_capacity(alloc, (lines / USUAL_LINES).min(MOST_SYMBOLS))?,
             in_entry: false,
             typed: false,
-        }
+        })
     }
 
     /// Whether a line has no form, defines a name again or gives its entry a second type.
@@ -194,7 +197,7 @@ pub(crate) fn read_names(alloc: Global, lines: &[Line<'_>]) -> Result<Names, Tre
     ensures faultless { OnOk result (HasNoLineFault lines.now) }
     ensures fault { IfErr result (IsReadFault lines.now) }
 {
-    let mut so_far = LinesSoFar::new(alloc);
+    let mut so_far = LinesSoFar::new(alloc, lines.len())?;
     for line in lines {
         let read = ReadLine::of(line);
         if let Some(problem) = so_far.problem(&read) {

@@ -87,6 +87,10 @@ mod tests {
             ("config A/bool \"a\"/depends A", "Kconfig:3: K05"),
             ("config A/bool", "Kconfig:2: K05"),
             ("config A/bool \"a\"//default y", "Kconfig:4: K06"),
+            ("config A/bool \"a\"/source b", "Kconfig:3: K05"),
+            ("config A/bool \"a\"/help x", "Kconfig:3: K05"),
+            ("help", "Kconfig:1: K06"),
+            ("config A/help/bool \"a\"/bool \"b\"", "Kconfig:4: K05"),
             ("config A/config B/bool \"b\"/frob", "Kconfig:4: K05"),
         ] {
             let lines = lines_of(alloc, text)?;

@@ -1,4 +1,4 @@
-ghost use Rattle.std.specs.Prelude.{◌≡◌, [], ◌∷◌, ◌++◌, if◌then◌else◌, length, position, slice_get, slice_index_or, OnOk, OnErr};
+ghost use Rattle.std.specs.Prelude.{◌≡◌, [], ◌∷◌, ◌++◌, if◌then◌else◌, length, position, slice_get, slice_index_or, IfOk, OnOk, OnErr};
 ghost use Rattle.std.specs.List.{list_any};
 ghost use Rattle.std.specs.Str.{bytes_eq};
 ghost use Rattle.std.specs.Option.{option_copied};
@@ -23,13 +23,13 @@ impl Model for Names {
 }
 
 impl Names {
-    /// No names.
-    pub fn new(alloc: Global) -> Names
-        ensures { result ≡ [] }
+    /// No names, with room for some.
+    pub fn with_capacity(alloc: Global, room: usize) -> Result<Names, AllocError>
+        ensures { IfOk result (λ names. names ≡ []) }
     {
-        Names {
-            set: IndexSet::new(alloc),
-        }
+        Ok(Names {
+            set: IndexSet::with_capacity(alloc, room)?,
+        })
     }
 
     /// How many names there are.

@@ -1,8 +1,9 @@
-ghost use Rattle.std.specs.Prelude.{◌≡◌};
+ghost use Rattle.std.specs.Prelude.{◌≡◌, [], ◌∷◌};
 
 use crate::tri::Tri;
 use kc_text::Text;
 use std::marker::Model;
+use std::slice;
 
 /// The number of a symbol, from 0 in the order of first definitions.
 #[derive(Clone, Copy, Debug, PartialEq, Eq)]
@@ -19,19 +20,27 @@ pub enum Term {
     Undefined(Text),
 }
 
+/// The terms of an expression. One alone takes no memory of its own.
+#[derive(Debug, Drop)]
+enum Terms {
+    One(Term),
+    Many(Vec<Term>),
+}
+
 /// An expression: the `&&` of its terms, which is y where there is none. Contracts see the list of the terms.
 #[derive(Debug, Drop)]
 pub struct Expr {
-    terms: Vec<Term>,
+    terms: Terms,
 }
 
 impl Model for Expr {
     ghost use Rattle.std.specs.Prelude.{List};
     ghost use Rattle.kc_tree.specs.declared.symbol.Term.{Term};
+    ghost use Rattle.kc_tree.specs.ExprTerms.{term_list};
 
     ghost Value = { List Term };
 
-    ghost view = { λ e. e.terms.items };
+    ghost view = { λ e. term_list e.terms };
 }
 
 impl Expr {
@@ -39,14 +48,28 @@ impl Expr {
     pub fn new(terms: Vec<Term>) -> Expr
         ensures { result ≡ terms.items }
     {
-        Expr { terms }
+        Expr {
+            terms: Terms::Many(terms),
+        }
+    }
+
+    /// The expression of a term alone, which takes no memory.
+    pub fn single(term: Term) -> Expr
+        ensures { result ≡ term ∷ [] }
+    {
+        Expr {
+            terms: Terms::One(term),
+        }
     }
 
     /// The terms that `&&` joins.
     pub fn terms(&self) -> &[Term]
         ensures { result.now ≡ self.now }
     {
-        self.terms.as_slice()
+        match &self.terms {
+            Terms::One(term) => slice::from_ref(term),
+            Terms::Many(terms) => terms.as_slice(),
+        }
     }
 }
 

@@ -31,7 +31,8 @@ fn read_term(alloc: Global, names: &Names, word: &str) -> Result<Term, AllocErro
     }
 }
 
-/// Adds the terms of words among tokens.
+/// Adds the terms of words among tokens, and makes room for just these where there is no term yet: most entries have
+/// one `depends on` line at most.
 fn add_terms(
     alloc: Global,
     names: &Names,
@@ -57,9 +58,7 @@ fn single_term(alloc: Global, names: &Names, word: &str) -> Result<Expr, AllocEr
     requires { length names.now ≤ 65535 }
     ensures { IfOk result (λ e. e ≡ term_of names.now word.now ∷ []) }
 {
-    let mut terms = Vec::with_capacity(alloc, 1)?;
-    terms.push(read_term(alloc, names, word)?)?;
-    Ok(Expr::new(terms))
+    Ok(Expr::single(read_term(alloc, names, word)?))
 }
 
 /// What the attributes of an entry say.
@@ -96,6 +95,19 @@ impl Parts {
         Ok(())
     }
 
+    /// Takes the value of a `default` line. The first makes room for itself alone: most entries have one at most.
+    fn take_default(&mut self, value: Expr) -> Result<(), AllocError>
+        ensures prompt { self.new.prompt ≡ self.old.prompt }
+        ensures defaults { OnOk result (self.new.defaults.items ≡ self.old.defaults.items ++ value ∷ []) }
+        ensures dependencies { self.new.dependencies ≡ self.old.dependencies }
+    {
+        if self.defaults.is_empty() {
+            self.defaults.reserve_exact(1)?;
+        }
+        self.defaults.push(value)?;
+        Ok(())
+    }
+
     /// Takes what an attribute of this keyword says.
     fn take(
         &mut self,
@@ -113,8 +125,7 @@ impl Parts {
         match read_form(line, keyword) {
             Some(Statement::Prompt(text)) => self.take_prompt(alloc, text.as_str())?,
             Some(Statement::DefaultValue(word)) => {
-                self.defaults
-                    .push(single_term(alloc, names, word.as_str())?)?;
+                self.take_default(single_term(alloc, names, word.as_str())?)?;
             }
             Some(Statement::DependsOn(joined)) => {
                 add_terms(alloc, names, joined.tokens(), &mut self.dependencies)?;
@@ -200,7 +211,7 @@ pub(crate) fn read_entries(
     ensures typed { OnOk result (first_untyped lines.now ≡ None) }
     ensures fault { IfErr result (IsTypeFault lines.now) }
 {
-    let mut symbols = Vec::new(alloc);
+    let mut symbols = Vec::with_capacity(alloc, names.len()).map_err(|_| TreeFault::NoMemory)?;
     for (place, line) in lines.iter().enumerate() {
         if is_config(line) {
             let symbol = read_symbol(alloc, names, line, lines_after(lines, place))?;

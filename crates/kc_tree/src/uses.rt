@@ -63,7 +63,10 @@ fn value_row(alloc: Global, id: SymId, symbol: &Symbol) -> Result<Vec<usize>, Al
 {
     // the dependencies are the condition of each default
     let condition = symbol.dependencies();
-    let room = condition.terms().len().saturating_add(symbol.defaults().len());
+    let room = condition
+        .terms()
+        .len()
+        .saturating_add(symbol.defaults().len());
     let mut row = Vec::with_capacity(alloc, room.saturating_add(1))?;
     row.push(Node::Vis(id).number())?;
     add_exprs(&mut row, symbol.defaults())?;
