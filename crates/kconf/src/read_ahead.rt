@@ -42,26 +42,34 @@ impl Waiting {
 
     /// Has the paths wait that a text names, but for those that were seen before.
     pub(crate) fn add_named(&mut self, text: &str) -> Result<(), AllocError> {
-        for path in text.lines().filter_map(named_path) {
-            if self.pass(path)? {
-                self.paths.push(String::from_str(self.alloc, path)?)?;
+        let mut before = "";
+        for part in text.split('"') {
+            if ends_with_source(before) && is_plain_path(part) && self.pass(part)? {
+                self.paths.push(String::from_str(self.alloc, part)?)?;
             }
+            before = part;
         }
         Ok(())
     }
 }
 
-/// The path that a line names, where it is `source "PATH"`, with blanks and a comment around it and with no quote,
-/// backslash or dollar in the path.
-fn named_path(line: &str) -> Option<&str> {
-    let quoted = without_blanks(without_blanks(line).strip_prefix("source")?).strip_prefix('"')?;
-    let (path, behind) = quoted.split_once('"')?;
-    let behind = without_blanks(behind);
-    let is_whole = behind.is_empty() || behind.starts_with('#');
-    (is_whole && !path.contains(['\\', '$'])).then_some(path)
+/// Whether a text ends with a line of which `source` is all so far, with blanks around it.
+fn ends_with_source(text: &str) -> bool {
+    match without_blanks(text).strip_suffix("source") {
+        Some(before) => {
+            let before = without_blanks(before);
+            before.is_empty() || before.ends_with('\n')
+        }
+        None => false,
+    }
 }
 
-/// A text without the spaces and tabs before it.
+/// Whether a text in quotes is a path as it stands: on one line, with no backslash and no dollar.
+fn is_plain_path(text: &str) -> bool {
+    !text.contains(['\n', '\\', '$'])
+}
+
+/// A text without the spaces and tabs at its end.
 fn without_blanks(text: &str) -> &str {
-    text.trim_start_matches([' ', '\t'])
+    text.trim_end_matches([' ', '\t'])
 }
