@@ -1,3 +1,2 @@
-pub mod BlockLemmas
 pub mod ConfigExample
-pub mod GrewLemmas
+pub mod DraftLaws

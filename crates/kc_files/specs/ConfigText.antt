@@ -1,18 +1,24 @@
 -- The text of a `.config`: `write_config` of Kconfiglib and `conf_write` of the kernel's
--- scripts/kconfig/confdata.c, cut down to bool symbols.
-use Rattle.std.specs.Prelude.{ℕ, List, [], ◌++◌, Option, Some, None, codes, if◌then◌else◌}
-use Rattle.std.specs.List.{flat_map}
+-- scripts/kconfig/confdata.c.
+use Rattle.std.specs.Prelude.{ℕ, ◌==◌, Bool, false, not, ◌&&◌, List, [], ◌∷◌, ◌++◌, Option, Some, None, option_map, slice_get, codes, if◌then◌else◌}
+use Rattle.std.specs.List.{cons_option}
 use Rattle.std.specs.Option.{option_map_or}
 use Rattle.kc_tree.specs.declared.tri.Tri.{Tri}
 use Rattle.kc_tree.specs.declared.tri.Tri.TheVariants.{No, Module, Yes}
-use Rattle.kc_tree.specs.declared.symbol.SymId.{SymId}
+use Rattle.kc_tree.specs.declared.id.SymId.{SymId}
+use Rattle.kc_tree.specs.declared.id.BlockId.{BlockId}
+use Rattle.kc_tree.specs.declared.id.CommentId.{CommentId}
+use Rattle.kc_tree.specs.declared.block.BlockKind.{BlockKind}
+use Rattle.kc_tree.specs.declared.block.BlockKind.TheVariants as block_kind
 use Rattle.kc_tree.specs.declared.node.Node.TheVariants.{Val}
 use Rattle.kc_tree.specs.declared.tree.Entry.{Entry}
-use Rattle.kc_tree.specs.declared.tree.Entry.TheVariants.{Symbol}
+use Rattle.kc_tree.specs.declared.tree.Entry.TheVariants.{Symbol, Again, Menu, EndMenu, Comment}
 use Rattle.kc_tree.specs.TreeValue.{TreeValue, name_of}
-use Rattle.kc_tree.specs.Nodes.{IsNodeOf}
+use Rattle.kc_tree.specs.Tristate.{is_no}
 use Rattle.kc_value.specs.Assignment.{Assignment, as_tri, is_written}
+use Rattle.kc_value.specs.Conditions.{menu_condition, comment_condition}
 
+-- ---- lines of symbols
 -- what follows the name: `=y`, `=m`, or that the symbol is not set, and the end of the line
 abbrev pub line_end : Tri → List ℕ
 line_end No = codes " is not set\n"
@@ -32,18 +38,72 @@ symbol_line prefix name v = line_start v ++ prefix ++ name ++ line_end v
 abbrev pub written_value : Assignment → SymId → Option Tri
 written_value a s = if is_written (a (Val s)) then Some (as_tri (a (Val s))) else None
 
--- what a symbol adds: its line, where it has one
-abbrev pub symbol_block : TreeValue → List ℕ → Assignment → SymId → List ℕ
-symbol_block t prefix a s = option_map_or (symbol_line prefix (name_of t s)) (written_value a s) []
+-- ---- titles
+-- an empty line, and the title between lines of `#`
+abbrev pub title_block : List ℕ → List ℕ
+title_block title = codes "\n#\n# " ++ title ++ codes "\n#\n"
 
--- the symbol of an entry is one of the tree
-abbrev pub IsEntryOf : TreeValue → Entry → Type 0
-IsEntryOf t (Symbol s) = IsNodeOf t (Val s)
+abbrev pub end_line : List ℕ → List ℕ
+end_line title = codes "# end of " ++ title ++ codes "\n"
 
--- what an entry adds
-abbrev pub entry_block : TreeValue → List ℕ → Assignment → Entry → List ℕ
-entry_block t prefix a (Symbol s) = symbol_block t prefix a s
+abbrev pub menu_title_in : BlockKind → List ℕ
+menu_title_in (block_kind.Menu title) = title
+menu_title_in block_kind.If = []
 
--- the header as it was handed in, then the blocks of the entries in their order
+abbrev pub menu_title : TreeValue → BlockId → List ℕ
+menu_title t b = option_map_or (λ x. menu_title_in x.kind) (slice_get t.blocks b.0) []
+
+abbrev pub comment_title : TreeValue → CommentId → List ℕ
+comment_title t c = option_map_or (λ x. x.title) (slice_get t.comments c.0) []
+
+-- ---- the pieces of the text
+-- a text in the list of pieces, and what it is
+pub data Piece : Type 0 where
+  line_of_symbol : List ℕ → Piece
+  title_of : List ℕ → Piece
+  end_of : List ℕ → Piece
+
+abbrev pub piece_bytes : Piece → List ℕ
+piece_bytes (line_of_symbol bs) = bs
+piece_bytes (title_of bs) = bs
+piece_bytes (end_of bs) = bs
+
+-- a menu without an entry inside has its end directly behind it
+abbrev pub opens_menu : BlockId → Option Entry → Bool
+opens_menu b (Some (Menu m)) = m.0 == b.0
+opens_menu b _ = false
+
+abbrev pub piece_if : Bool → Piece → Option Piece
+piece_if shown p = if shown then Some p else None
+
+-- what an entry gives, after the entry before it: a symbol that is written its line at its first definition, a menu or
+-- a comment whose condition is not n its title, and such a menu with an entry inside its end line
+abbrev pub piece_of : TreeValue → List ℕ → Assignment → Option Entry → Entry → Option Piece
+piece_of t prefix a before (Symbol s) =
+    option_map (λ v. line_of_symbol (symbol_line prefix (name_of t s) v)) (written_value a s)
+piece_of t prefix a before (Again s) = None
+piece_of t prefix a before (Menu b) = piece_if (not (is_no (menu_condition t a b))) (title_of (title_block (menu_title t b)))
+piece_of t prefix a before (EndMenu b) =
+    piece_if (not (is_no (menu_condition t a b)) && not (opens_menu b before)) (end_of (end_line (menu_title t b)))
+piece_of t prefix a before (Comment c) =
+    piece_if (not (is_no (comment_condition t a c))) (title_of (title_block (comment_title t c)))
+
+-- the pieces of entries in their order, after the entry before them
+abbrev pub pieces_after : TreeValue → List ℕ → Assignment → Option Entry → List Entry → List Piece
+pieces_after t prefix a before [] = []
+pieces_after t prefix a before (e ∷ es) = cons_option (piece_of t prefix a before e) (pieces_after t prefix a (Some e) es)
+
+-- ---- the text
+-- an empty line stands between an end line and a symbol line that are neighbours
+abbrev pub gap : Piece → Piece → List ℕ
+gap (end_of bs) (line_of_symbol cs) = codes "\n"
+gap _ _ = []
+
+abbrev pub joined : List Piece → List ℕ
+joined [] = []
+joined (p ∷ []) = piece_bytes p
+joined (p ∷ q ∷ ps) = piece_bytes p ++ gap p q ++ joined (q ∷ ps)
+
+-- the header as it was handed in, then the pieces of the entries
 abbrev pub config_text_of : TreeValue → List ℕ → List ℕ → Assignment → List ℕ
-config_text_of t prefix header a = header ++ flat_map (entry_block t prefix a) t.entries
+config_text_of t prefix header a = header ++ joined (pieces_after t prefix a None t.entries)

@@ -1,2 +1,3 @@
 pub mod PrefixForm
 pub mod ConfigText
+pub mod DraftValue

@@ -1,108 +1,179 @@
-ghost use Rattle.std.specs.Prelude.{◌≡◌, ◌++◌, IfOk, OnOk};
+ghost use Rattle.std.specs.Prelude.{◌≡◌, ◌&&◌, not, None, option_map, IfOk, OnOk};
 ghost use Rattle.std.specs.String.{string_bytes};
-ghost use Rattle.kc_tree.specs.declared.node.Node.TheVariants.{Val};
-ghost use Rattle.kc_tree.specs.Nodes.{IsNodeOf, all_nodes};
+ghost use Rattle.kc_tree.specs.Accepted.{IsEntryOf};
+ghost use Rattle.kc_tree.specs.Nodes.{all_nodes};
+ghost use Rattle.kc_tree.specs.TreeValue.{name_of};
+ghost use Rattle.kc_tree.specs.Tristate.{is_no};
+ghost use Rattle.kc_value.specs.Assignment.{Assignment, assignment_of};
+ghost use Rattle.kc_value.specs.Conditions.{menu_condition, comment_condition};
 ghost use Rattle.kc_value.specs.Solution.{solution};
-ghost use Rattle.kc_files.specs.ConfigText.{line_start, line_end, symbol_line, written_value, symbol_block, IsEntryOf, entry_block, config_text_of};
+ghost use Rattle.kc_files.specs.ConfigText.{symbol_line, written_value, title_block, end_line, menu_title, comment_title, line_of_symbol, title_of, end_of, opens_menu, piece_if, piece_of, pieces_after, config_text_of};
+ghost use Rattle.kc_files.specs.DraftValue.{with_option, with_pieces, Agrees};
 
+use crate::draft::Draft;
 use crate::prefix::Prefix;
-use kc_tree::{Entry, Node, SymId, Tri};
-use kc_value::Resolver;
+use crate::titles::{comment_title, menu_title};
+use kc_tree::{BlockId, CommentId, Entry, Node, SymId, Tree, Tri};
+use kc_value::{Resolver, Value, all_values, comment_condition, menu_condition};
 use std::alloc::{AllocError, Global};
 
-/// What stands before the prefix: an n symbol's line is a comment.
-fn line_start(value: Tri) -> &'static str
-    ensures { result.now ≡ line_start value }
-{
-    match value {
-        Tri::No => "# ",
-        Tri::Module | Tri::Yes => "",
-    }
-}
-
-/// What stands after the name, with the end of the line.
-fn line_end(value: Tri) -> &'static str
-    ensures { result.now ≡ line_end value }
-{
-    match value {
-        Tri::No => " is not set\n",
-        Tri::Module => "=m\n",
-        Tri::Yes => "=y\n",
-    }
-}
-
-/// Appends the line of a symbol.
-fn push_line(text: &mut String, prefix: &Prefix, name: &str, value: Tri) -> Result<(), AllocError>
-    ensures { OnOk result
-        (string_bytes text.new ≡ string_bytes text.old ++ symbol_line prefix.now name.now value) }
-{
-    text.push_str(line_start(value))?;
-    text.push_str(prefix.as_str())?;
-    text.push_str(name)?;
-    text.push_str(line_end(value))?;
-    Ok(())
-}
-
 /// The value of a symbol that has a line.
-fn written_value<R: Resolver>(resolver: &mut R, symbol: SymId) -> Result<Option<Tri>, AllocError>
-    requires { IsNodeOf (R.tree_of resolver.old) (Val symbol) }
-    ensures value { IfOk result (λ v. v ≡ written_value
-        (solution (R.tree_of resolver.old) (R.user_of resolver.old)) symbol) }
-    ensures tree { R.tree_of resolver.new ≡ R.tree_of resolver.old }
-    ensures user { R.user_of resolver.new ≡ R.user_of resolver.old }
-    ensures grew { R.grew resolver.old resolver.new (all_nodes (R.tree_of resolver.old)) }
+fn written_value(values: &[Option<Value>], symbol: SymId) -> Option<Tri>
+    ensures { result ≡ written_value (assignment_of values.now) symbol }
 {
-    let value = resolver.node(Node::Val(symbol))?;
-    if value.is_written() {
-        return Ok(Some(value.as_tri()));
+    match values.get(Node::Val(symbol).number()) {
+        Some(Some(value)) => {
+            if value.is_written() {
+                Some(value.as_tri())
+            } else {
+                None
+            }
+        }
+        Some(None) | None => None,
     }
-    Ok(None)
+}
+
+/// Whether a menu has its lines: its condition is not n.
+fn menu_shows(tree: &Tree, menu: BlockId, values: &[Option<Value>]) -> bool
+    ensures { (a : Assignment) → Agrees tree.now values.now a
+        → result ≡ not (is_no (menu_condition tree.now a menu)) }
+{
+    !menu_condition(tree, menu, values).is_no()
+}
+
+/// Whether a comment has its lines: its condition is not n.
+fn comment_shows(tree: &Tree, comment: CommentId, values: &[Option<Value>]) -> bool
+    ensures { (a : Assignment) → Agrees tree.now values.now a
+        → result ≡ not (is_no (comment_condition tree.now a comment)) }
+{
+    !comment_condition(tree, comment, values).is_no()
+}
+
+/// Whether an entry opens this menu: directly before the menu's end it leaves nothing inside.
+fn opens_menu(menu: BlockId, entry: Option<Entry>) -> bool
+    ensures { result ≡ opens_menu menu entry }
+{
+    match entry {
+        Some(Entry::Menu(opened)) => opened == menu,
+        _ => false,
+    }
 }
 
 /// Appends the line of a symbol that has one.
-fn push_symbol<R: Resolver>(
-    text: &mut String,
-    resolver: &mut R,
+fn push_symbol(
+    draft: &mut Draft,
+    tree: &Tree,
     prefix: &Prefix,
+    values: &[Option<Value>],
     symbol: SymId,
 ) -> Result<(), AllocError>
-    requires { IsNodeOf (R.tree_of resolver.old) (Val symbol) }
-    ensures block { OnOk result (string_bytes text.new ≡ string_bytes text.old
-        ++ symbol_block (R.tree_of resolver.old) prefix.now
-        (solution (R.tree_of resolver.old) (R.user_of resolver.old)) symbol) }
-    ensures tree { R.tree_of resolver.new ≡ R.tree_of resolver.old }
-    ensures user { R.user_of resolver.new ≡ R.user_of resolver.old }
-    ensures grew { R.grew resolver.old resolver.new (all_nodes (R.tree_of resolver.old)) }
+    ensures { OnOk result (draft.new ≡ with_option draft.old (option_map
+        (λ v. line_of_symbol (symbol_line prefix.now (name_of tree.now symbol) v))
+        (written_value (assignment_of values.now) symbol))) }
 {
-    if let Some(value) = written_value(resolver, symbol)? {
-        push_line(text, prefix, resolver.tree().name(symbol), value)?;
+    if let Some(value) = written_value(values, symbol) {
+        draft.push_symbol(prefix, tree.name(symbol), value)?;
     }
     Ok(())
 }
 
-/// Appends what an entry of the tree adds.
-fn push_block<R: Resolver>(
-    text: &mut String,
-    resolver: &mut R,
+/// Appends the title of a menu that shows.
+fn push_menu(
+    draft: &mut Draft,
+    tree: &Tree,
+    values: &[Option<Value>],
+    menu: BlockId,
+) -> Result<(), AllocError>
+    ensures { OnOk result ((a : Assignment) → Agrees tree.now values.now a
+        → draft.new ≡ with_option draft.old (piece_if (not (is_no (menu_condition tree.now a menu)))
+        (title_of (title_block (menu_title tree.now menu))))) }
+{
+    if menu_shows(tree, menu, values) {
+        draft.push_title(menu_title(tree, menu))?;
+    }
+    Ok(())
+}
+
+/// Appends the end line of a menu that shows and has an entry inside.
+fn push_menu_end(
+    draft: &mut Draft,
+    tree: &Tree,
+    values: &[Option<Value>],
+    before: Option<Entry>,
+    menu: BlockId,
+) -> Result<(), AllocError>
+    ensures { OnOk result ((a : Assignment) → Agrees tree.now values.now a
+        → draft.new ≡ with_option draft.old (piece_if
+        (not (is_no (menu_condition tree.now a menu)) && not (opens_menu menu before))
+        (end_of (end_line (menu_title tree.now menu))))) }
+{
+    if !opens_menu(menu, before) && menu_shows(tree, menu, values) {
+        draft.push_end(menu_title(tree, menu))?;
+    }
+    Ok(())
+}
+
+/// Appends the title of a comment that shows.
+fn push_comment(
+    draft: &mut Draft,
+    tree: &Tree,
+    values: &[Option<Value>],
+    comment: CommentId,
+) -> Result<(), AllocError>
+    ensures { OnOk result ((a : Assignment) → Agrees tree.now values.now a
+        → draft.new ≡ with_option draft.old (piece_if (not (is_no (comment_condition tree.now a comment)))
+        (title_of (title_block (comment_title tree.now comment))))) }
+{
+    if comment_shows(tree, comment, values) {
+        draft.push_title(comment_title(tree, comment))?;
+    }
+    Ok(())
+}
+
+/// Appends what an entry gives, after the entry before it.
+fn push_entry(
+    draft: &mut Draft,
+    tree: &Tree,
     prefix: &Prefix,
+    values: &[Option<Value>],
+    before: Option<Entry>,
     entry: Entry,
 ) -> Result<(), AllocError>
-    requires { IsEntryOf (R.tree_of resolver.old) entry }
-    ensures block { OnOk result (string_bytes text.new ≡ string_bytes text.old
-        ++ entry_block (R.tree_of resolver.old) prefix.now
-        (solution (R.tree_of resolver.old) (R.user_of resolver.old)) entry) }
-    ensures tree { R.tree_of resolver.new ≡ R.tree_of resolver.old }
-    ensures user { R.user_of resolver.new ≡ R.user_of resolver.old }
-    ensures grew { R.grew resolver.old resolver.new (all_nodes (R.tree_of resolver.old)) }
+    requires { IsEntryOf tree.now entry }
+    ensures { OnOk result ((a : Assignment) → Agrees tree.now values.now a
+        → draft.new ≡ with_option draft.old (piece_of tree.now prefix.now a before entry)) }
 {
     match entry {
-        Entry::Symbol(symbol) => push_symbol(text, resolver, prefix, symbol),
+        Entry::Symbol(symbol) => push_symbol(draft, tree, prefix, values, symbol),
+        Entry::Again(_) => Ok(()),
+        Entry::Menu(menu) => push_menu(draft, tree, values, menu),
+        Entry::EndMenu(menu) => push_menu_end(draft, tree, values, before, menu),
+        Entry::Comment(comment) => push_comment(draft, tree, values, comment),
     }
 }
 
-/// The text of the `.config`: the header as it is, then the lines of the symbols that are written, in the
-/// order of the tree's entries (`conf_write` of the kernel's scripts/kconfig/confdata.c, and `write_config`
-/// of Kconfiglib). The resolver keeps its tree and its user values. Only memory can be refused.
+/// Appends what the entries of the tree give.
+fn push_entries(
+    draft: &mut Draft,
+    tree: &Tree,
+    prefix: &Prefix,
+    values: &[Option<Value>],
+) -> Result<(), AllocError>
+    ensures { OnOk result ((a : Assignment) → Agrees tree.now values.now a
+        → draft.new ≡ with_pieces draft.old (pieces_after tree.now prefix.now a None tree.now.entries)) }
+{
+    let mut before = None;
+    for entry in tree.entries() {
+        push_entry(draft, tree, prefix, values, before, *entry)?;
+        before = Some(*entry);
+    }
+    Ok(())
+}
+
+/// The text of the `.config`: the header as it is, then what the tree's entries give in their order. A symbol that is
+/// written has its line at its first definition, a menu or a comment whose condition is not n its title, and such a
+/// menu with an entry inside its end line (`conf_write` of the kernel's scripts/kconfig/confdata.c, and
+/// `write_config` of Kconfiglib). The resolver keeps its tree and its user values. Only memory can be refused.
 pub fn config_text<R: Resolver>(
     alloc: Global,
     resolver: &mut R,
@@ -116,11 +187,8 @@ pub fn config_text<R: Resolver>(
     ensures user { R.user_of resolver.new ≡ R.user_of resolver.old }
     ensures grew { R.grew resolver.old resolver.new (all_nodes (R.tree_of resolver.old)) }
 {
-    let mut text = String::from_str(alloc, header)?;
-    let count = resolver.tree().entries().len();
-    for place in 0..count {
-        let entry = resolver.tree().entries()[place];
-        push_block(&mut text, resolver, prefix, entry)?;
-    }
-    Ok(text)
+    let values = all_values(alloc, resolver)?;
+    let mut draft = Draft::new(String::from_str(alloc, header)?);
+    push_entries(&mut draft, resolver.tree(), prefix, values.as_slice())?;
+    Ok(draft.into_string())
 }

@@ -2,7 +2,9 @@
 #![tactic(auto)]
 
 mod config_file;
+mod draft;
 mod prefix;
+mod titles;
 
 pub use config_file::config_text;
 pub use prefix::{Prefix, PrefixFault};

@@ -1,12 +1,14 @@
 -- Commands with their replies, computed from the definitions. What each reply is was worked out by hand.
-use Rattle.std.proofs.Common.{◌≡◌, [], ◌∷◌, Option, Some, None, refl}
+use Rattle.std.proofs.Common.{◌≡◌, ℕ, false, [], ◌∷◌, Option, Some, None, refl}
 use Rattle.std.specs.Prelude.{codes}
-use Rattle.kc_tree.specs.declared.symbol.Term.TheVariants.{Tri as Constant, Symbol}
+use Rattle.kc_tree.specs.declared.definition.Prompt.{Prompt}
+use Rattle.kc_tree.specs.declared.symbol.SymbolType.{SymbolType}
+use Rattle.kc_tree.specs.declared.symbol.SymbolType.TheVariants.{Bool as BoolType, Tristate}
 use Rattle.kc_tree.specs.declared.tree.Entry.TheVariants.{Symbol as SymbolEntry}
-use Rattle.kc_tree.specs.declared.tri.Tri.TheVariants.{No, Yes}
+use Rattle.kc_tree.specs.declared.tri.Tri.TheVariants.{No, Module, Yes}
 use Rattle.kc_tree.specs.declared.user_value.UserVal.{UserVal}
 use Rattle.kc_tree.specs.declared.user_value.UserVal.TheVariants.{Tri as TriVal}
-use Rattle.kc_tree.specs.TreeValue.{TreeValue}
+use Rattle.kc_tree.specs.TreeValue.{TreeValue, SymbolValue, DefinitionValue}
 use Rattle.kc_value.specs.Rule.{rule}
 use Rattle.kc_value.specs.Solution.{applied, solution}
 use Rattle.kc_value.specs.Assignable.{assignable_values}
@@ -19,23 +21,54 @@ use Rattle.kc_session.specs.Replies.{reply_bytes}
 use Rattle.kc_session.specs.Session.{SessionValue}
 use Rattle.kc_session.specs.ShowLine.{line_text, show_line_of}
 
--- config A with `default y`, and config B that depends on A
-abbrev tree : TreeValue
-tree = record {
-  names = codes "A" ∷ codes "B" ∷ [];
-  symbols = record { prompt = codes "a"; defaults = (Constant Yes ∷ []) ∷ []; dependencies = [] }
-      ∷ record { prompt = codes "b"; defaults = []; dependencies = Symbol (record { 0 = 0 }) ∷ [] } ∷ [];
-  entries = SymbolEntry (record { 0 = 0 }) ∷ SymbolEntry (record { 0 = 1 }) ∷ [];
+-- a symbol with one definition
+abbrev symbol : SymbolType → ℕ → SymbolValue
+symbol kind definition = record {
+  kind = Some kind;
+  has_other_type = false;
+  definitions = definition ∷ [];
+  selected = [];
+  implied = [];
+  has_modules = false;
+  is_yes_in_allnoconfig = false;
 }
 
-abbrev session : Option UserVal → Option UserVal → SessionValue
-session a b = record { tree = tree; user = record { values = a ∷ b ∷ [] }; prefix = codes "CONFIG_" }
+-- a definition, with or without a prompt
+abbrev definition : ℕ → Option Prompt → DefinitionValue
+definition s prompt = record {
+  symbol = record { 0 = s };
+  block = None;
+  depends = [];
+  prompt = prompt;
+  has_second_prompt = false;
+  defaults = [];
+}
+
+abbrev prompt : Option Prompt
+prompt = Some (record { text = codes "p"; condition = None })
+
+-- bool A and tristate T with prompts, and bool B without one
+abbrev tree : TreeValue
+tree = record {
+  names = codes "A" ∷ codes "B" ∷ codes "T" ∷ [];
+  symbols = symbol BoolType 0 ∷ symbol BoolType 1 ∷ symbol Tristate 2 ∷ [];
+  definitions = definition 0 prompt ∷ definition 1 None ∷ definition 2 prompt ∷ [];
+  blocks = [];
+  comments = [];
+  entries = SymbolEntry (record { 0 = 0 }) ∷ SymbolEntry (record { 0 = 1 }) ∷ SymbolEntry (record { 0 = 2 }) ∷ [];
+}
+
+abbrev session : Option UserVal → Option UserVal → Option UserVal → SessionValue
+session a b t = record { tree = tree; user = record { values = a ∷ b ∷ t ∷ [] }; prefix = codes "CONFIG_" }
 
 abbrev no : Option UserVal
 no = Some (TriVal No)
 
 abbrev yes : Option UserVal
 yes = Some (TriVal Yes)
+
+abbrev m_value : Option UserVal
+m_value = Some (TriVal Module)
 
 -- words are parted by one space each, and may be empty
 set_words : command_in (codes "set B y") ≡ Some (Set (codes "B") (codes "y"))
@@ -54,31 +87,41 @@ config_takes_nothing : command_in (codes "config ") ≡ None
 config_takes_nothing = refl
 
 -- an edit changes the user value of its symbol alone
-set_b : perform (session None None) (Set (codes "B") (codes "y")) ≡ record { reply = Done []; user = (session None yes).user }
+set_b : perform (session None None None) (Set (codes "B") (codes "y")) ≡ record { reply = Done []; user = (session None yes None).user }
 unfolding perform
 set_b = refl
 
-set_m : perform (session None yes) (Set (codes "A") (codes "m")) ≡ record { reply = Refused BadValue; user = (session None yes).user }
+set_m : perform (session None yes None) (Set (codes "A") (codes "m")) ≡ record { reply = Refused BadValue; user = (session None yes None).user }
 unfolding perform
 set_m = refl
 
-set_unknown : (perform (session None None) (Set (codes "U") (codes "y"))).reply ≡ Refused UndefinedSymbol
+-- m is a value of a tristate alone
+set_tristate : perform (session None None None) (Set (codes "T") (codes "m")) ≡ record { reply = Done []; user = (session None None m_value).user }
+unfolding perform
+set_tristate = refl
+
+set_unknown : (perform (session None None None) (Set (codes "U") (codes "y"))).reply ≡ Refused UndefinedSymbol
 unfolding perform
 set_unknown = refl
 
 -- the user value of an invisible symbol is kept and has no effect
-show_invisible : (perform (session no yes) (Show (codes "B"))).reply ≡ Done (codes "B type=bool value=n vis=n can=- user=y\n")
+show_invisible : (perform (session no yes None) (Show (codes "B"))).reply ≡ Done (codes "B type=bool value=n vis=n can=- user=y\n")
 unfolding perform show_line_of line_text assignable_values solution applied rule
 show_invisible = refl
 
-config_invisible : (perform (session no yes) Config).reply ≡ Done (codes "# CONFIG_A is not set\n")
+config_invisible : (perform (session no yes None) Config).reply ≡ Done (codes "# CONFIG_A is not set\n# CONFIG_T is not set\n")
 unfolding perform solution applied rule
 config_invisible = refl
 
--- and takes effect once the symbol is visible
-show_visible : (perform (session None yes) (Show (codes "B"))).reply ≡ Done (codes "B type=bool value=y vis=y can=n,y user=y\n")
+-- that of a visible one has one
+show_visible : (perform (session yes yes None) (Show (codes "A"))).reply ≡ Done (codes "A type=bool value=y vis=y can=n,y user=y\n")
 unfolding perform show_line_of line_text assignable_values solution applied rule
 show_visible = refl
+
+-- without MODULES a tristate is bool, and m stands for y
+show_tristate : (perform (session None None m_value) (Show (codes "T"))).reply ≡ Done (codes "T type=tristate value=y vis=y can=n,y user=m\n")
+unfolding perform show_line_of line_text assignable_values solution applied rule
+show_tristate = refl
 
 bytes_of_done : reply_bytes (Done (codes "CONFIG_A=y\n")) ≡ codes "CONFIG_A=y\nok\n"
 unfolding reply_bytes

@@ -1,7 +1,7 @@
 -- This project's own command stream: what a command changes and what is replied.
 use Rattle.std.specs.Prelude.{◌≡◌, ℕ, Bool, true, false, ◌&&◌, List, [], Some, None, IsTrue, if◌then◌else◌}
 use Rattle.std.specs.Option.{option_map_or}
-use Rattle.kc_tree.specs.declared.symbol.SymId.{SymId}
+use Rattle.kc_tree.specs.declared.id.SymId.{SymId}
 use Rattle.kc_tree.specs.declared.user_value.UserVal.TheVariants.{Tri as TriVal}
 use Rattle.kc_tree.specs.TreeValue.{symbol_named}
 use Rattle.kc_value.specs.UserValues.{UserValues, with_value}
@@ -15,7 +15,7 @@ use Rattle.kc_session.specs.declared.command.Reply.{Reply}
 use Rattle.kc_session.specs.declared.command.Reply.TheVariants.{Done, Refused}
 use Rattle.kc_session.specs.Session.{SessionValue, with_user}
 use Rattle.kc_session.specs.ShowLine.{show_line_of}
-use Rattle.kc_session.specs.Values.{bool_of}
+use Rattle.kc_session.specs.Values.{type_of, value_of}
 
 abbrev pub refusal_number : Refusal → ℕ
 refusal_number UnknownCommand = 1
@@ -45,9 +45,10 @@ edit u = record { reply = Done []; user = u }
 abbrev pub with_symbol : SessionValue → List ℕ → (SymId → Outcome) → Outcome
 with_symbol s name use_it = option_map_or use_it (symbol_named s.tree name) (refuse s UndefinedSymbol)
 
--- a value that is not one of a bool is refused
+-- a value that is not one of the symbol's type is refused
 abbrev pub set_outcome : SessionValue → List ℕ → List ℕ → Outcome
-set_outcome s name value = with_symbol s name (λ k. option_map_or (λ v. edit (with_value s.user k (Some (TriVal v)))) (bool_of value) (refuse s BadValue))
+set_outcome s name value = with_symbol s name (λ k. option_map_or (λ v. edit (with_value s.user k (Some (TriVal v))))
+    (value_of (type_of s.tree k) value) (refuse s BadValue))
 
 abbrev pub unset_outcome : SessionValue → List ℕ → Outcome
 unset_outcome s name = with_symbol s name (λ k. edit (with_value s.user k None))

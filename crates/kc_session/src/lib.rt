@@ -15,6 +15,7 @@ mod replies;
 mod serving;
 mod session;
 mod show;
+mod values;
 mod writing;
 
 pub use command::{Command, Refusal, Reply};

@@ -11,6 +11,8 @@ use std::test::Fail;
 
 const TWO_SYMBOLS: &str = "config A\nbool \"a\"\ndefault y\nconfig B\nbool \"b\"\ndepends on A\n";
 
+const A_TRISTATE: &str = "config MODULES\nbool \"modules\"\nmodules\nconfig T\ntristate \"t\"\n";
+
 // Commands with their replies.
 const COMMANDS: [(&str, &str); 4] = [
     ("set A n\n", "ok\n"),
@@ -107,6 +109,35 @@ fn values_follow_the_user_and_the_dependencies(rt: HostRuntime) -> Result<(), Fa
         ),
     ];
     let mut session = session_of(rt.alloc(), TWO_SYMBOLS)?;
+    for (stream, want) in rows {
+        let taken = replies(rt.alloc(), stream, &mut session)?;
+        assert_eq!(rt; taken.as_slice(), want.as_bytes(), "at {stream:?}");
+    }
+    Ok(())
+}
+
+#[test]
+fn values_are_those_of_the_type(rt: HostRuntime) -> Result<(), Fail> {
+    let rows = [
+        (
+            "show MODULES\nshow T\n",
+            "MODULES type=bool value=n vis=y can=n,y user=-\nok\nT type=tristate value=n vis=y can=n,y user=-\nok\n",
+        ),
+        (
+            "set MODULES m\nset T x\nset T M\nset T \nset U m\n",
+            "refused 3\nrefused 3\nrefused 3\nrefused 3\nrefused 2\n",
+        ),
+        (
+            "set T m\nshow T\n",
+            "ok\nT type=tristate value=y vis=y can=n,y user=m\nok\n",
+        ),
+        (
+            "set MODULES y\nshow T\n",
+            "ok\nT type=tristate value=m vis=y can=n,m,y user=m\nok\n",
+        ),
+        ("config\n", "CONFIG_MODULES=y\nCONFIG_T=m\nok\n"),
+    ];
+    let mut session = session_of(rt.alloc(), A_TRISTATE)?;
     for (stream, want) in rows {
         let taken = replies(rt.alloc(), stream, &mut session)?;
         assert_eq!(rt; taken.as_slice(), want.as_bytes(), "at {stream:?}");

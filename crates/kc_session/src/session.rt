@@ -1,10 +1,10 @@
 //! A session: a tree, user values, and the commands that read and change them.
 ghost use Rattle.std.specs.Prelude.{◌≡◌, [], IfOk, IfErr, OnErr};
 ghost use Rattle.std.specs.String.{string_bytes};
-ghost use Rattle.kc_session.specs.Values.{bool_of};
 
 use crate::command::{Command, Refusal, Reply};
 use crate::show::show_line;
+use crate::values::{type_of, value_of};
 use kc_files::{Prefix, config_text};
 use kc_text::Text;
 use kc_tree::{Node, SymId, Tree, Tri, UserVal};
@@ -25,8 +25,12 @@ pub struct Session {
 
 impl Model for Session {
     ghost use Rattle.kc_session.specs.Session.{SessionValue};
+    ghost use Rattle.kc_tree.specs.contracts.expr.Expr as expr;
+    ghost use Rattle.std.specs.Coded.{codes};
 
     ghost Value = { SessionValue };
+
+    ghost coded = { Prim.hlevel (codes, expr.the_row.coded) };
 
     ghost use Rattle.kc_value.specs.UserValues.{IsUserFor};
 
@@ -84,7 +88,7 @@ impl Session {
         let Some(symbol) = self.tree.find(name) else {
             return Reply::Refused(Refusal::UndefinedSymbol);
         };
-        let Some(value) = bool_value(value) else {
+        let Some(value) = value_of(type_of(&self.tree, symbol), value) else {
             return Reply::Refused(Refusal::BadValue);
         };
         self.user.set(symbol, UserVal::Tri(value));
@@ -135,17 +139,6 @@ fn text_reply(text: Result<String, AllocError>) -> Reply
     match text {
         Ok(text) => Reply::Done(Text::new(text)),
         Err(_) => Reply::Refused(Refusal::NoMemory),
-    }
-}
-
-/// The value of a bool that a text spells.
-fn bool_value(text: &str) -> Option<Tri>
-    ensures { result ≡ bool_of text.now }
-{
-    match text {
-        "n" => Some(Tri::No),
-        "y" => Some(Tri::Yes),
-        _ => None,
     }
 }
 

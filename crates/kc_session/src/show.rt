@@ -5,9 +5,10 @@ ghost use Rattle.std.specs.Option.{option_copied};
 ghost use Rattle.kc_tree.specs.declared.node.Node.TheVariants.{Vis, Val};
 ghost use Rattle.kc_tree.specs.Nodes.{IsNodeOf};
 ghost use Rattle.kc_value.specs.UserValues.{IsUserFor};
-ghost use Rattle.kc_session.specs.ShowLine.{show_line_of, line_text, tri_text, values_text, user_text};
+ghost use Rattle.kc_session.specs.ShowLine.{show_line_of, line_text, type_text, tri_text, values_text, user_text};
 
-use kc_tree::{Node, SymId, Tri, UserVal};
+use crate::values::type_of;
+use kc_tree::{Node, SymId, SymbolType, Tri, UserVal};
 use kc_value::{Resolver, assignable};
 use std::alloc::{AllocError, Global};
 
@@ -29,9 +30,18 @@ pub(crate) fn show_line<R: Resolver>(
     let value = resolver.node(Node::Val(symbol))?.as_tri();
     let visibility = resolver.node(Node::Vis(symbol))?.as_tri();
     let values = assignable(alloc, resolver, symbol)?;
-    let name = resolver.tree().name(symbol);
+    let tree = resolver.tree();
+    let (name, kind) = (tree.name(symbol), type_of(tree, symbol));
     let user = resolver.user().get(symbol);
-    line_of(alloc, name, value, visibility, values.as_slice(), user)
+    line_of(
+        alloc,
+        name,
+        kind,
+        value,
+        visibility,
+        values.as_slice(),
+        user,
+    )
 }
 
 /// The line, from its parts.
@@ -39,16 +49,19 @@ pub(crate) fn show_line<R: Resolver>(
 fn line_of(
     alloc: Global,
     name: &str,
+    kind: SymbolType,
     value: Tri,
     visibility: Tri,
     values: &[Tri],
     user: Option<&UserVal>,
 ) -> Result<String, AllocError>
     ensures { IfOk result (λ text. string_bytes text
-        ≡ line_text name.now value visibility values.now (option_copied user.entry)) }
+        ≡ line_text name.now kind value visibility values.now (option_copied user.entry)) }
 {
     let mut text = String::from_str(alloc, name)?;
-    text.push_str(" type=bool value=")?;
+    text.push_str(" type=")?;
+    text.push_str(type_word(kind))?;
+    text.push_str(" value=")?;
     text.push_str(tri_word(value))?;
     text.push_str(" vis=")?;
     text.push_str(tri_word(visibility))?;
@@ -58,6 +71,15 @@ fn line_of(
     text.push_str(user_word(user))?;
     text.push_str("\n")?;
     Ok(text)
+}
+
+fn type_word(kind: SymbolType) -> &'static str
+    ensures { result.now ≡ type_text kind }
+{
+    match kind {
+        SymbolType::Bool => "bool",
+        SymbolType::Tristate => "tristate",
+    }
 }
 
 fn tri_word(value: Tri) -> &'static str

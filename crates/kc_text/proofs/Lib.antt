@@ -1,3 +1,4 @@
+pub mod ByteClasses
 pub mod Counting
 pub mod Cuts
 pub mod Examples
@@ -5,12 +6,14 @@ pub mod Expanding
 pub mod Files
 pub mod HelpLines
 pub mod HelpWords
+pub mod ItemLines
 pub mod Joining
 pub mod Lexing
 pub mod LineRuns
 pub mod Names
 pub mod Nesting
 pub mod Pairs
+pub mod PhysicalLines
 pub mod References
 pub mod Runs
 pub mod TokenLemmas

@@ -1,10 +1,10 @@
 -- Files that are read item by item, and `source` lines that put files in place.
-use Rattle.std.proofs.Common.{◌≡◌, ℕ, zero, suc, ◌+◌, ◌-◌, ◌<◌, ◌≤◌, false, ◌||◌, List, [], ◌∷◌, ◌++◌, length, drop, Some, None, Result, Ok, Err, Bor, refl, ap, sym, ◌∙◌, arith, length-drop, length-append, drop-drop}
+use Rattle.std.proofs.Common.{◌≡◌, ℕ, zero, suc, ◌+◌, ◌-◌, ◌<◌, ◌≤◌, false, ◌||◌, List, [], ◌∷◌, ◌++◌, length, drop, Some, None, Result, Ok, Err, Bor, refl, ap, subst, sym, ◌∙◌, arith, length-drop, length-append, drop-drop}
 use Rattle.std.specs.List.{list_any}
 use Rattle.std.specs.Str.{bytes_eq}
 use Rattle.std.specs.Str.Lines.{lines}
 use Rattle.std.proofs.lemmas.Bool.{lt-leb, le-ltb}
-use Rattle.std.proofs.lemmas.List.{drop_all, drop-map, length-map, map-append}
+use Rattle.std.proofs.lemmas.List.{map-append}
 use Rattle.kc_text.specs.declared.fault.TextProblem.TheVariants.{MissingSource}
 use Rattle.kc_text.specs.declared.fault.TextFault.{TextFault}
 use Rattle.kc_text.specs.declared.fault.TextFault.TheVariants.{At, NoMemory}
@@ -13,8 +13,9 @@ use Rattle.kc_text.specs.Expansion.{Environment, then_on, is_among}
 use Rattle.kc_text.specs.Faults.{Fails}
 use Rattle.kc_text.specs.Items.{ItemValue, first_item}
 use Rattle.kc_text.specs.Reading.{ReadState, Place, Placing, nothing_read, with_lines, entered, end_of_file, item_read, items_read, file_read, placed, top_read}
-use Rattle.kc_text.specs.Scanning.{names_of, outside_of, placing, texts_of}
+use Rattle.kc_text.specs.Scanning.{names_of, outside_of, placing}
 use Rattle.kc_text.specs.Sources.{text_of}
+use Rattle.kc_text.proofs.ItemLines.{first_item-within}
 
 -- a fault of a part that is one of the whole
 pub fault_along : {A B : Type 0} (f : TextFault) (part : Result A TextFault) (whole : Result B TextFault) → ((g : TextFault) → part ≡ Err g → whole ≡ Err g) → Fails f part → Fails f whole
@@ -50,43 +51,43 @@ lines_read reader around path run n number ls s = items_read (outside_of reader)
 abbrev item_at : Reader → List (Bor (List ℕ)) → List ℕ → ℕ → ℕ → ItemValue → ReadState → Result ReadState TextFault
 item_at reader around path run number item s = item_read (outside_of reader) (placing reader around) (record { path = path; run = run; number = number }) item s
 
--- the item at `i` among the lines of a file, where the files `around` are open, as `before` were
-module _ (reader : Reader) (before around : List (Bor (List ℕ))) (same : around ≡ before) (path : List ℕ) (run : ℕ) (all : List (Bor (List ℕ))) (i : ℕ) (start s : ReadState) (item : ItemValue) (turn : i < length all) (first : item ≡ first_item (texts_of (drop i all)))
-    (reads : lines_read reader before path run 0 1 (texts_of all) start ≡ lines_read reader before path run 0 (i + 1) (drop i (texts_of all)) s) where
-  item_here : lines_read reader before path run 0 1 (texts_of all) start
-      ≡ then_on (item_at reader around path run (i + 1) item s) (λ t. lines_read reader before path run item.more (suc (i + 1)) (drop 1 (drop i (texts_of all))) t)
+-- the item at the front of the lines `now`, which are left of the lines of a text, where the files `around` are open, as `before` were
+module _ (reader : Reader) (before around : List (Bor (List ℕ))) (same : around ≡ before) (path : List ℕ) (run : ℕ) (text : List ℕ) (now : List (List ℕ)) (number : ℕ) (start s : ReadState) (item : ItemValue) (some : 0 < length now) (first : item ≡ first_item now)
+    (reads : lines_read reader before path run 0 1 (lines text) start ≡ lines_read reader before path run 0 number now s) where
+  item_here : lines_read reader before path run 0 1 (lines text) start ≡ then_on (item_at reader around path run number item s) (λ t. lines_read reader before path run item.more (suc number) (drop 1 now) t)
   item_here =
-      reads
-      ∙ item_first (outside_of reader) (placing reader before) path run item (i + 1) (drop i (texts_of all)) s (omega (arith, turn, length-drop i (texts_of all), length-map all (λ t. t.now))) (first ∙ ap first_item (sym (drop-map (λ t. t.now) i all)))
-      ∙ ap (λ paths. then_on (item_at reader paths path run (i + 1) item s) (λ t. lines_read reader before path run item.more (suc (i + 1)) (drop 1 (drop i (texts_of all))) t)) (sym same)
+      reads ∙ item_first (outside_of reader) (placing reader before) path run item number now s some first
+      ∙ ap (λ paths. then_on (item_at reader paths path run number item s) (λ t. lines_read reader before path run item.more (suc number) (drop 1 now) t)) (sym same)
 
-  pub lines_go_on : (t : ReadState) → item_at reader around path run (i + 1) item s ≡ Ok t
-      → lines_read reader before path run 0 1 (texts_of all) start ≡ lines_read reader before path run 0 (i + (item.more + 1) + 1) (drop (i + (item.more + 1)) (texts_of all)) t
-  lines_go_on t e =
-      let behind : drop item.more (drop 1 (drop i (texts_of all))) ≡ drop (i + (item.more + 1)) (texts_of all) =
-      ap (drop item.more) (drop-drop 1 i (texts_of all)) ∙ drop-drop item.more (i + 1) (texts_of all) ∙ ap (λ k. drop k (texts_of all)) {x = i + 1 + item.more} {y = i + (item.more + 1)} (omega arith) in
-      let number : suc (i + 1) + item.more ≡ i + (item.more + 1) + 1 = omega arith in
-      item_here
-      ∙ ap (λ r. then_on r (λ u. lines_read reader before path run item.more (suc (i + 1)) (drop 1 (drop i (texts_of all))) u)) e
-      ∙ items_skip (outside_of reader) (placing reader before) path run item.more (suc (i + 1)) (drop 1 (drop i (texts_of all))) t
-      ∙ (λ k. lines_read reader before path run 0 (number k) (behind k) t)
+  pub lines_go_on : (t : ReadState) (behind : List (List ℕ)) → behind ≡ drop (item.more + 1) now → item_at reader around path run number item s ≡ Ok t
+      → lines_read reader before path run 0 1 (lines text) start ≡ lines_read reader before path run 0 (number + (item.more + 1)) behind t
+  lines_go_on t behind rest e =
+      let back : drop item.more (drop 1 now) ≡ behind = drop-drop item.more 1 now ∙ ap (λ k. drop k now) {x = 1 + item.more} {y = item.more + 1} (omega arith) ∙ sym rest in
+      let next : suc number + item.more ≡ number + (item.more + 1) = omega arith in
+      item_here ∙ ap (λ r. then_on r (λ u. lines_read reader before path run item.more (suc number) (drop 1 now) u)) e
+      ∙ items_skip (outside_of reader) (placing reader before) path run item.more (suc number) (drop 1 now) t
+      ∙ (λ k. lines_read reader before path run 0 (next k) (back k) t)
 
-  pub lines_fail : (text : List ℕ) (f : TextFault) → texts_of all ≡ lines text → item_at reader around path run (i + 1) item s ≡ Err f → file_read (outside_of reader) (placing reader before) path run text start ≡ Err f
-  lines_fail text f taken e =
+  pub lines_fail : (f : TextFault) → item_at reader around path run number item s ≡ Err f → file_read (outside_of reader) (placing reader before) path run text start ≡ Err f
+  lines_fail f e =
       ap (λ r. then_on r (λ t. Ok (with_lines (end_of_file (record { path = path; run = run; number = length (lines text) + 1 }) ∷ []) t)))
-      (ap (λ ls. lines_read reader before path run 0 1 ls start) (sym taken) ∙ item_here
-      ∙ ap (λ r. then_on r (λ u. lines_read reader before path run item.more (suc (i + 1)) (drop 1 (drop i (texts_of all))) u)) e)
+      (item_here ∙ ap (λ r. then_on r (λ u. lines_read reader before path run item.more (suc number) (drop 1 now) u)) e)
+
+  -- so many lines are left
+  pub lines_left : (behind : List (List ℕ)) → behind ≡ drop (item.more + 1) now → number + length now ≡ length (lines text) + 1 → number + (item.more + 1) + length behind ≡ length (lines text) + 1
+  lines_left behind rest count =
+      let inside : item.more < length now = subst (λ v. v.more < length now) (sym first) (first_item-within now some) in
+      omega (arith, ap length rest, length-drop (item.more + 1) now, count, inside)
 
 -- behind the last line stands the end of the file
-pub lines_end : (outside : Environment) (place : Placing) (path : List ℕ) (run : ℕ) (text : List ℕ) (all : List (Bor (List ℕ))) (i : ℕ) (s t : ReadState)
-    → texts_of all ≡ lines text → i ≡ length all → items_read outside place path run 0 1 (texts_of all) s ≡ items_read outside place path run 0 (i + 1) (drop i (texts_of all)) t
-    → file_read outside place path run text s ≡ Ok (with_lines (end_of_file (record { path = path; run = run; number = i + 1 }) ∷ []) t)
-lines_end outside place path run text all i s t taken end reads =
-    let none : drop i (texts_of all) ≡ [] = drop_all i (texts_of all) (omega (arith, end, length-map all (λ t. t.now))) in
-    let count : length (lines text) ≡ i = ap length (sym taken) ∙ length-map all (λ t. t.now) ∙ sym end in
+pub lines_end : (outside : Environment) (place : Placing) (path : List ℕ) (run : ℕ) (text : List ℕ) (now : List (List ℕ)) (number : ℕ) (s t : ReadState)
+    → now ≡ [] → number + length now ≡ length (lines text) + 1 → items_read outside place path run 0 1 (lines text) s ≡ items_read outside place path run 0 number now t
+    → file_read outside place path run text s ≡ Ok (with_lines (end_of_file (record { path = path; run = run; number = number }) ∷ []) t)
+lines_end outside place path run text now number s t none count reads =
+    let last : length (lines text) + 1 ≡ number = omega (arith, count, ap length none) in
     ap (λ r. then_on r (λ u. Ok (with_lines (end_of_file (record { path = path; run = run; number = length (lines text) + 1 }) ∷ []) u)))
-    (ap (λ ls. items_read outside place path run 0 1 ls s) (sym taken) ∙ reads ∙ ap (λ ls. items_read outside place path run 0 (i + 1) ls t) none)
-    ∙ ap (λ n. Ok (with_lines (end_of_file (record { path = path; run = run; number = n + 1 }) ∷ []) t)) count
+    (reads ∙ ap (λ ls. items_read outside place path run 0 number ls t) none)
+    ∙ ap (λ n. Ok (with_lines (end_of_file (record { path = path; run = run; number = n }) ∷ []) t)) last
 
 -- the file of a path that a `source` line names is put in place: `pushed` are the paths around with its own
 pub source_reads : (reader : Reader) (around pushed : List (Bor (List ℕ))) (at : Place) (wanted : List ℕ) (path : Bor (List ℕ)) (text : List ℕ) (s : ReadState)

@@ -18,11 +18,11 @@ boundary_before_stop p ascii bs =
     IsCharBoundary-before_ascii bs n inside (ascii _ (prefix_len_stops p bs 0 inside)))
     (cases_eq n (length bs))
 
--- one byte of a run
-pub prefix_len-yes : (p : ℕ → Bool) (b : ℕ) (bs : List ℕ) → p b ≡ true → prefix_len p (b ∷ bs) ≡ suc (prefix_len p bs)
+-- one element of a run
+pub prefix_len-yes : {X : Type 0} (p : X → Bool) (b : X) (bs : List X) → p b ≡ true → prefix_len p (b ∷ bs) ≡ suc (prefix_len p bs)
 prefix_len-yes p b bs e = ap (λ v. cond v (1 + prefix_len p bs) 0) e ∙ one-add (prefix_len p bs)
 
-pub prefix_len-no : (p : ℕ → Bool) (b : ℕ) (bs : List ℕ) → p b ≡ false → prefix_len p (b ∷ bs) ≡ 0
+pub prefix_len-no : {X : Type 0} (p : X → Bool) (b : X) (bs : List X) → p b ≡ false → prefix_len p (b ∷ bs) ≡ 0
 prefix_len-no p b bs e = ap (λ v. cond v (1 + prefix_len p bs) 0) e
 
 -- nothing of a run is left behind it

@@ -8,6 +8,10 @@ use Rattle.std.specs.Char.{is_ascii_alphanumeric}
 abbrev pub is_blank : ℕ → Bool
 is_blank b = b == 32 || b == 9
 
+-- the end of a line
+abbrev pub is_feed : ℕ → Bool
+is_feed b = b == 10
+
 -- an ASCII letter or digit, or one of _ . / -
 abbrev pub is_word : ℕ → Bool
 is_word b = is_ascii_alphanumeric b || (b == 95 || (b == 46 || (b == 47 || b == 45)))

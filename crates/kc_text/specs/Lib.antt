@@ -11,6 +11,7 @@ pub mod Reading
 pub mod References
 pub mod Scanning
 pub mod Sources
+pub mod TokenBytes
 pub mod Tokens
 pub mod VariableList
 pub mod Vars

@@ -4,6 +4,17 @@ ghost use Rattle.std.specs.Prelude.{◌≡◌, ◌+◌, ◌<◌, ◌≤◌, leng
 ghost use Rattle.std.specs.List.{prefix_len, suffix_len};
 ghost use Rattle.kc_text.specs.Bytes.{is_blank, is_name, is_word, behind_blanks, before_blanks, trimmed};
 
+/// The class of each byte: `n` of those of a variable's name, `w` of the others of a word, `,` of any other byte.
+static CLASSES: [u8; 256] = *b"\
+    ,,,,,,,,,,,,,,,,,,,,,,,,,,,,,,,,\
+    ,,,,,,,,,,,,,nwwnnnnnnnnnn,,,,,,\
+    ,nnnnnnnnnnnnnnnnnnnnnnnnnn,,,,n\
+    ,nnnnnnnnnnnnnnnnnnnnnnnnnn,,,,,\
+    ,,,,,,,,,,,,,,,,,,,,,,,,,,,,,,,,\
+    ,,,,,,,,,,,,,,,,,,,,,,,,,,,,,,,,\
+    ,,,,,,,,,,,,,,,,,,,,,,,,,,,,,,,,\
+    ,,,,,,,,,,,,,,,,,,,,,,,,,,,,,,,,";
+
 /// A space or a tab.
 pub(crate) fn is_blank(byte: u8) -> bool
     ensures { result ≡ is_blank byte }
@@ -15,14 +26,14 @@ pub(crate) fn is_blank(byte: u8) -> bool
 pub(crate) fn is_word(byte: u8) -> bool
     ensures { result ≡ is_word byte }
 {
-    byte.is_ascii_alphanumeric() || byte == b'_' || byte == b'.' || byte == b'/' || byte == b'-'
+    CLASSES[byte as usize] != b','
 }
 
 /// A byte of a variable's name.
 pub(crate) fn is_name(byte: u8) -> bool
     ensures { result ≡ is_name byte }
 {
-    byte.is_ascii_alphanumeric() || byte == b'_' || byte == b'-'
+    CLASSES[byte as usize] == b'n'
 }
 
 /// How many blanks a text begins with.

@@ -1,14 +1,13 @@
 //! Help texts.
 
-ghost use Rattle.std.specs.Prelude.{◌≡◌, ◌≤◌, ◌==◌, ◌||◌, length, slice_index, IfOk};
-ghost use Rattle.std.specs.List.{prefix_len, suffix_len};
+ghost use Rattle.std.specs.Prelude.{◌≡◌, ◌+◌, ◌≤◌, ◌==◌, ◌||◌, drop, length, slice_index};
+ghost use Rattle.std.specs.List.{prefix_len};
+ghost use Rattle.std.specs.Str.Lines.{lines};
 ghost use Rattle.kc_text.specs.Bytes.{behind_blanks, is_blank};
-ghost use Rattle.kc_text.specs.Help.{before_comment, first_indentation, help_len, help_text, indentation, is_blank_line, is_help, is_inside, len_inside, passed_lines};
-ghost use Rattle.kc_text.specs.Scanning.{texts_of};
+ghost use Rattle.kc_text.specs.Help.{before_comment, first_indentation, help_len, indentation, is_blank_line, is_help, is_inside, len_inside, passed_lines};
 
 use crate::bytes::{behind_blanks, blank_len, trimmed};
-use crate::help_text::HelpText;
-use std::alloc::{AllocError, Global};
+use crate::physical::first_line;
 
 /// The columns from one tab stop to the next.
 const TAB: u128 = 8;
@@ -78,34 +77,34 @@ pub(crate) fn indentation(line: &str) -> u128
     column_behind(blank_len(line), line)
 }
 
-/// How many lines of blanks stand first.
-fn passed_lines(lines: &[&str]) -> usize
-    ensures count { result ≡ passed_lines (texts_of lines.now) }
-    ensures within { result ≤ length lines.now }
+/// How many lines of blanks a text begins with, and the text behind them.
+pub(crate) fn skip_blank_lines(text: &str) -> (usize, &str)
+    ensures count { result.0 ≡ passed_lines (lines text.now) }
+    ensures rest { lines result.1.now ≡ drop result.0 (lines text.now) }
+    ensures within { result.0 + length result.1.now ≤ length text.now }
 {
-    lines.iter().take_while(|line| is_blank_line(line)).count()
-}
-
-/// How many lines of blanks stand last.
-fn blank_lines_at_end(lines: &[&str]) -> usize
-    ensures count { result ≡ suffix_len is_blank_line (texts_of lines.now) }
-    ensures within { result ≤ length lines.now }
-{
-    lines
-        .iter()
-        .rev()
-        .take_while(|line| is_blank_line(line))
-        .count()
-}
-
-/// The indentation of the first line, 0 without lines.
-pub(crate) fn first_indentation(lines: &[&str]) -> u128
-    ensures { result ≡ first_indentation (texts_of lines.now) }
-{
-    match lines.first() {
-        Some(line) => indentation(line),
-        None => 0,
+    let mut count = 0;
+    let mut rest = text;
+    while !rest.is_empty() {
+        let (line, behind) = first_line(rest);
+        if !is_blank_line(line) {
+            return (count, rest);
+        }
+        count += 1;
+        rest = behind;
     }
+    (count, rest)
+}
+
+/// The indentation of the first line of a text, 0 without lines.
+pub(crate) fn first_indentation(text: &str) -> u128
+    ensures { result ≡ first_indentation (lines text.now) }
+{
+    if text.is_empty() {
+        return 0;
+    }
+    let (line, _) = first_line(text);
+    indentation(line)
 }
 
 /// Whether a line belongs to a help text of an indentation.
@@ -116,37 +115,38 @@ fn is_inside(column: u128, line: &str) -> bool
     blanks == line.len() || column <= column_behind(blanks, line)
 }
 
-/// How many lines a help text has, of which the first is no line of blanks: none where it is not indented.
-fn text_len(column: u128, lines: &[&str]) -> usize
-    ensures count { result ≡ len_inside column (texts_of lines.now) }
-    ensures within { result ≤ length lines.now }
+/// How many lines that belong to a help text of an indentation a text begins with, and the text behind them: none
+/// where it is not indented.
+pub(crate) fn skip_inside(column: u128, text: &str) -> (usize, &str)
+    ensures count { result.0 ≡ len_inside column (lines text.now) }
+    ensures rest { lines result.1.now ≡ drop result.0 (lines text.now) }
+    ensures within { result.0 + length result.1.now ≤ length text.now }
 {
     if column == 0 {
-        return 0;
+        return (0, text);
     }
-    lines
-        .iter()
-        .take_while(|line| is_inside(column, line))
-        .count()
+    let mut count = 0;
+    let mut rest = text;
+    while !rest.is_empty() {
+        let (line, behind) = first_line(rest);
+        if !is_inside(column, line) {
+            return (count, rest);
+        }
+        count += 1;
+        rest = behind;
+    }
+    (count, rest)
 }
 
-/// The text of the help whose `help` stands before the lines, and how many of them belong to it: lines of blanks
+/// How many lines belong to the help whose `help` stands before a text, and the text behind them: lines of blanks
 /// alone first, and then those that are indented as far as the first other one. Where that one is not indented the
-/// text is empty.
-pub(crate) fn read_help<'a>(
-    alloc: Global,
-    lines: &[&'a str],
-) -> Result<(HelpText<'a>, usize), AllocError>
-    ensures text { IfOk result (λ r. r.0 ≡ help_text (texts_of lines.now)) }
-    ensures lines { IfOk result (λ r. r.1 ≡ help_len (texts_of lines.now)) }
-    ensures within { IfOk result (λ r. r.1 ≤ length lines.now) }
+/// help text is empty.
+pub(crate) fn skip_help(text: &str) -> (usize, &str)
+    ensures count { result.0 ≡ help_len (lines text.now) }
+    ensures rest { lines result.1.now ≡ drop result.0 (lines text.now) }
+    ensures within { result.0 + length result.1.now ≤ length text.now }
 {
-    let passed = passed_lines(lines);
-    let (_, behind) = lines.split_at(passed);
-    let column = first_indentation(behind);
-    let len = text_len(column, behind);
-    let (taken, _) = behind.split_at(len);
-    let (text, _) = taken.split_at(len - blank_lines_at_end(taken));
-    let help = HelpText::new(alloc, text)?;
-    Ok((help, passed + len))
+    let (passed, behind) = skip_blank_lines(text);
+    let (len, rest) = skip_inside(first_indentation(behind), behind);
+    (passed + len, rest)
 }

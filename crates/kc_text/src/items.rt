@@ -1,11 +1,13 @@
 //! How the lines of a file are taken together.
 
-ghost use Rattle.std.specs.Prelude.{◌≡◌, ◌+◌, ◌<◌, ◌≤◌, length, flat_map, IfOk};
-ghost use Rattle.kc_text.specs.Items.{before_backslash, ends_in_backslash, first_item, joined, joined_more};
-ghost use Rattle.kc_text.specs.Scanning.{item_of, joined_text, texts_of};
+ghost use Rattle.std.specs.Prelude.{◌≡◌, ◌+◌, ◌<◌, ◌≤◌, drop, length, IfOk};
+ghost use Rattle.std.specs.Str.Lines.{lines};
+ghost use Rattle.kc_text.specs.Items.{before_backslash, behind_joined, ends_in_backslash, first_item, joined, joined_more};
+ghost use Rattle.kc_text.specs.Scanning.{item_of, joined_text};
 
-use crate::help::{is_help, read_help};
+use crate::help::{is_help, skip_help};
 use crate::help_text::HelpText;
+use crate::physical::first_line;
 use crate::text::Text;
 use std::alloc::{AllocError, Global};
 
@@ -38,6 +40,8 @@ pub(crate) struct Item<'a> {
     pub(crate) help: Option<HelpText<'a>>,
     /// How many lines it takes beside the first.
     pub(crate) more: usize,
+    /// The file behind these lines.
+    pub(crate) rest: &'a str,
 }
 
 /// Whether a line is joined with the next one.
@@ -47,70 +51,77 @@ fn ends_in_backslash(line: &str) -> bool
     line.as_bytes().last() == Some(&b'\\')
 }
 
-/// How many lines are joined to the first one.
-fn joined_more(lines: &[&str]) -> usize
-    requires { 0 < length lines.now }
-    ensures count { result ≡ joined_more (texts_of lines.now) }
-    ensures within { result < length lines.now }
+/// A line without the backslash at its end.
+fn before_backslash(line: &str) -> &str
+    ensures { result.now ≡ before_backslash line.now }
 {
-    let (but_last, _) = lines.split_at(lines.len() - 1);
-    but_last
-        .iter()
-        .take_while(|line| ends_in_backslash(line))
-        .count()
+    if ends_in_backslash(line) {
+        &line[..line.len() - 1]
+    } else {
+        line
+    }
 }
 
-/// The text of lines that are joined.
-fn join_parts(alloc: Global, lines: &[&str]) -> Result<Text, AllocError>
-    ensures { IfOk result (λ t. t ≡ flat_map before_backslash (texts_of lines.now)) }
+/// The text of the first line of a file and those that are joined to it, how many these are, and the file behind
+/// them.
+fn join_lines<'a>(alloc: Global, file: &'a str) -> Result<(Text, usize, &'a str), AllocError>
+    requires some { 0 < length file.now }
+    ensures text { IfOk result (λ r. r.0 ≡ joined (lines file.now)) }
+    ensures more { IfOk result (λ r. r.1 ≡ joined_more (lines file.now)) }
+    ensures rest { IfOk result (λ r. lines r.2.now ≡ behind_joined (lines file.now)) }
+    ensures within { IfOk result (λ r. r.1 + length r.2.now < length file.now) }
 {
     let mut out = String::new(alloc);
-    for line in lines {
-        let len = if ends_in_backslash(line) {
-            line.len() - 1
-        } else {
-            line.len()
-        };
-        out.push_str(&line[..len])?;
+    let mut more = 0;
+    let (mut line, mut rest) = first_line(file);
+    while ends_in_backslash(line) && !rest.is_empty() {
+        out.push_str(before_backslash(line))?;
+        more += 1;
+        let (next, behind) = first_line(rest);
+        line = next;
+        rest = behind;
     }
-    Ok(Text::new(out))
+    out.push_str(before_backslash(line))?;
+    Ok((Text::new(out), more, rest))
 }
 
-/// The text of the first line and those that are joined to it, and how many these are.
-fn join_first<'a>(alloc: Global, lines: &[&'a str]) -> Result<(Joined<'a>, usize), AllocError>
-    requires { 0 < length lines.now }
-    ensures text { IfOk result (λ r. joined_text r.0 ≡ joined (texts_of lines.now)) }
-    ensures more { IfOk result (λ r. r.1 ≡ joined_more (texts_of lines.now)) }
-    ensures within { IfOk result (λ r. r.1 < length lines.now) }
+/// The same, where one line that is joined to none is lent.
+fn join_first<'a>(alloc: Global, file: &'a str) -> Result<(Joined<'a>, usize, &'a str), AllocError>
+    requires some { 0 < length file.now }
+    ensures text { IfOk result (λ r. joined_text r.0 ≡ joined (lines file.now)) }
+    ensures more { IfOk result (λ r. r.1 ≡ joined_more (lines file.now)) }
+    ensures rest { IfOk result (λ r. lines r.2.now ≡ behind_joined (lines file.now)) }
+    ensures within { IfOk result (λ r. r.1 + length r.2.now < length file.now) }
 {
-    let first = lines[0];
+    let (first, rest) = first_line(file);
     if !ends_in_backslash(first) {
-        return Ok((Joined::One(first), 0));
+        return Ok((Joined::One(first), 0, rest));
     }
-    let more = joined_more(lines);
-    let (parts, _) = lines.split_at(more + 1);
-    Ok((Joined::Many(join_parts(alloc, parts)?), more))
+    let (text, more, rest) = join_lines(alloc, file)?;
+    Ok((Joined::Many(text), more, rest))
 }
 
-/// The item that begins with the first line.
-pub(crate) fn first_item<'a>(alloc: Global, lines: &[&'a str]) -> Result<Item<'a>, AllocError>
-    requires { 0 < length lines.now }
-    ensures item { IfOk result (λ i. item_of i ≡ first_item (texts_of lines.now)) }
-    ensures within { IfOk result (λ i. i.more < length lines.now) }
+/// The item that a file begins with.
+pub(crate) fn first_item<'a>(alloc: Global, file: &'a str) -> Result<Item<'a>, AllocError>
+    requires some { 0 < length file.now }
+    ensures item { IfOk result (λ i. item_of i ≡ first_item (lines file.now)) }
+    ensures rest { IfOk result (λ i. lines i.rest.now ≡ drop (i.more + 1) (lines file.now)) }
+    ensures within { IfOk result (λ i. i.more + length i.rest.now < length file.now) }
 {
-    let (text, more) = join_first(alloc, lines)?;
+    let (text, more, behind) = join_first(alloc, file)?;
     if !is_help(text.as_str()) {
         return Ok(Item {
             text,
             help: None,
             more,
+            rest: behind,
         });
     }
-    let (_, behind) = lines.split_at(more + 1);
-    let (help, taken) = read_help(alloc, behind)?;
+    let (taken, rest) = skip_help(behind);
     Ok(Item {
         text,
-        help: Some(help),
+        help: Some(HelpText::new(behind)),
         more: more + taken,
+        rest,
     })
 }

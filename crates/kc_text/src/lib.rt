@@ -11,6 +11,7 @@ mod help_text;
 mod items;
 mod line;
 mod lines;
+mod physical;
 mod place;
 mod quotes;
 mod reading;

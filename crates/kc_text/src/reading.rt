@@ -1,13 +1,12 @@
 //! Files that are read line by line, each `source` line with the file that it names in its place.
 
-ghost use Rattle.std.specs.Prelude.{◌≡◌, ◌≤◌, length, IfOk, OnOk, MatchOption, None, Some, Ok};
-ghost use Rattle.std.specs.Str.Lines.{lines};
+ghost use Rattle.std.specs.Prelude.{◌≡◌, ◌≤◌, length, OnOk, MatchOption, None, Some, Ok};
 ghost use Rattle.kc_text.specs.Faults.{GivesAfter, GivesBy, ReadsBy};
 ghost use Rattle.kc_text.specs.Definitions.{defined};
 ghost use Rattle.kc_text.specs.Expansion.{is_among, names_in, texts_in, then_on};
 ghost use Rattle.kc_text.specs.Tokens.{line_tokens};
 ghost use Rattle.kc_text.specs.Reading.{at_place, file_read, item_read, logical_lines_of, source_path, with_names};
-ghost use Rattle.kc_text.specs.Scanning.{item_of, joined_text, names_of, outside_of, place_of, placing, state_of, texts_of};
+ghost use Rattle.kc_text.specs.Scanning.{item_of, joined_text, names_of, outside_of, place_of, placing, state_of};
 
 use crate::defining::define;
 use crate::definition::{Definition, definition_of};
@@ -20,13 +19,10 @@ use crate::sources::Sources;
 use crate::state::State;
 use crate::tokens::{owned_tokens, tokens};
 use crate::vars::Vars;
-use std::alloc::{AllocError, Global};
+use std::alloc::Global;
 
 /// The most bytes of a logical line.
 const MAX_LINE_BYTES: usize = 65_536;
-
-/// How many bytes a line has at least in most files.
-const USUAL_LINE_BYTES: usize = 24;
 
 /// The most bytes that `source` lines put in place.
 const MAX_PLACED: usize = 16_777_216;
@@ -74,15 +70,6 @@ fn source_path<'b>(tokens: &'b [Token<'_>]) -> Option<&'b str>
     }
 }
 
-/// The lines of a text, without their ends.
-fn lines_of<'a>(alloc: Global, text: &'a str) -> Result<Vec<&'a str>, AllocError>
-    ensures { IfOk result (λ v. texts_of v.items ≡ lines text.now) }
-{
-    let mut lines = Vec::with_capacity(alloc, text.len() / USUAL_LINE_BYTES + 1)?;
-    lines.extend(text.lines())?;
-    Ok(lines)
-}
-
 /// Reads a file, whose end stands behind its lines. The paths `around` are those of the files that are open, this
 /// one last.
 #[cycle(read)]
@@ -98,22 +85,18 @@ fn read_file<'a>(
     ensures reads { GivesAfter result (state_of state.new) (file_read (outside_of reader.entry) (placing reader.entry around.old.items) path.now run text.now (state_of state.old)) }
     ensures around { OnOk result (around.new.items ≡ around.old.items) }
 {
-    let lines = lines_of(reader.alloc, text)?;
-    let mut at = 0;
-    while at < lines.len() {
-        let (_, rest) = lines.as_slice().split_at(at);
+    let mut rest = text;
+    let mut number = 1;
+    while !rest.is_empty() {
         let item = first_item(reader.alloc, rest)?;
         let taken = item.more + 1;
-        let number = at + 1;
+        let behind = item.rest;
         let place = Place { path, run, number };
         read_item(reader, around, place, item, state)?;
-        at += taken;
+        number += taken;
+        rest = behind;
     }
-    let end = Place {
-        path,
-        run,
-        number: at + 1,
-    };
+    let end = Place { path, run, number };
     state.push_end(reader.alloc, end)?;
     Ok(())
 }
@@ -135,6 +118,7 @@ fn read_item<'a>(
         text,
         help,
         more: _,
+        rest: _,
     } = item;
     if text.as_str().len() > MAX_LINE_BYTES {
         return Err(place.problem(reader.alloc, TextProblem::Limit));

@@ -2,7 +2,6 @@ ghost use Rattle.std.specs.Prelude.{◌≡◌, List, ℕ, IfOk, Some};
 ghost use Rattle.std.specs.String.{string_bytes};
 
 use std::alloc::{AllocError, Global};
-use std::borrow::CowStr;
 use std::fmt;
 use std::marker::Model;
 
@@ -92,16 +91,23 @@ impl<'a> TextRef<'a> {
 /// Contracts see its bytes.
 #[derive(Drop, Debug)]
 pub struct TokenText<'a> {
-    content: CowStr<'a, Global>,
+    content: Content<'a>,
+}
+
+/// A text that is lent or owned. Few texts are owned, so they stand elsewhere.
+#[derive(Drop, Debug)]
+enum Content<'a> {
+    Lent(&'a str),
+    Owned(Box<Text>),
 }
 
 impl<'a> Model for TokenText<'a> {
     ghost use Rattle.std.specs.Prelude.{List, ℕ};
-    ghost use Rattle.std.specs.Cow.{cow_str_bytes};
+    ghost use Rattle.kc_text.specs.TokenBytes.{bytes_in};
 
     ghost Value = { List ℕ };
 
-    ghost view = { λ t. cow_str_bytes t.content };
+    ghost view = { λ t. bytes_in t.content };
 }
 
 impl<'a> TokenText<'a> {
@@ -110,33 +116,34 @@ impl<'a> TokenText<'a> {
         ensures { result ≡ text.entry.now }
     {
         TokenText {
-            content: CowStr::Borrowed(text),
+            content: Content::Lent(text),
         }
     }
 
-    /// The text of a string, which takes no memory.
-    pub fn owned(content: String) -> TokenText<'a>
-        ensures { result ≡ string_bytes content }
+    /// The text of a string.
+    pub fn owned(alloc: Global, content: String) -> Result<TokenText<'a>, AllocError>
+        ensures { IfOk result (λ t. t ≡ string_bytes content) }
     {
-        TokenText {
-            content: CowStr::Owned(content),
-        }
+        let text = Box::new(alloc, Text::new(content))?;
+        Ok(TokenText {
+            content: Content::Owned(text),
+        })
     }
 
     /// A copy that owns its text.
     pub(crate) fn owned_copy<'b>(&self, alloc: Global) -> Result<TokenText<'b>, AllocError>
         ensures { IfOk result (λ t. t ≡ self.now) }
     {
-        let content = String::from_str(alloc, self.content.as_str())?;
-        Ok(TokenText {
-            content: CowStr::Owned(content),
-        })
+        TokenText::owned(alloc, String::from_str(alloc, self.as_str())?)
     }
 
     /// The text.
     pub fn as_str(&self) -> &str
         ensures { result.now ≡ self.now }
     {
-        self.content.as_str()
+        match &self.content {
+            Content::Lent(text) => text,
+            Content::Owned(text) => text.as_str(),
+        }
     }
 }

@@ -28,7 +28,7 @@ fn is_reference(piece: &Piece<'_>) -> bool
 fn word<'a>(scope: Scope<'_>, pieces: &[Piece<'_>]) -> Result<Token<'a>, LineFault>
     ensures { ReadsBy (λ t. t) result (token_of (names_in scope.entry.variables.now) (texts_in scope.entry.outside.now) (a_word (pieces_of pieces.now))) }
 {
-    let text = TokenText::owned(expanded_text(scope, pieces)?);
+    let text = TokenText::owned(scope.alloc, expanded_text(scope, pieces)?)?;
     if pieces.iter().any(is_reference) {
         return Ok(Token::Expanded(text));
     }
@@ -46,7 +46,7 @@ fn token<'a>(scope: Scope<'_>, raw: RawToken<'a>) -> Result<Token<'a>, LineFault
         RawToken::Spliced(pieces) => word(scope, pieces.as_slice()),
         RawToken::QuotedParts(pieces) => {
             let text = expanded_text(scope, pieces.as_slice())?;
-            Ok(Token::Quoted(TokenText::owned(text)))
+            Ok(Token::Quoted(TokenText::owned(scope.alloc, text)?))
         }
         RawToken::Unclosed(pieces) => {
             let _ = expanded_text(scope, pieces.as_slice())?;

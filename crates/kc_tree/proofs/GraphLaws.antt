@@ -1,9 +1,13 @@
 -- A graph with an order has no loop, and a closed one names only its own nodes.
-use Rattle.std.proofs.Common.{◌≡◌, ℕ, ◌+◌, ◌-◌, ◌<◌, List, [], Vec, Global, All, length, zero, suc, get_or, slice_index, inl, inr, ap, sym, ◌∙◌, arith}
+use Rattle.std.proofs.Common.{◌≡◌, ℕ, ◌+◌, ◌-◌, ◌<◌, List, [], ◌∷◌, All, Contains, length, zero, suc, get_or, map, slice_index, inl, inr, refl, ap, sym, subst, ◌∙◌, arith}
 use Rattle.std.proofs.lemmas.Bool.{cases_lt}
-use Rattle.std.proofs.lemmas.List.{get_or_past, get_or_default, get_or-map, length-map}
+use Rattle.std.proofs.lemmas.List.{get_or_past, get_or_default, length-map}
 use Rattle.std.proofs.lemmas.List.Elements.{All-contains, All-get_or, All-map, Contains-get_or}
-use Rattle.kc_tree.specs.Graph.{row, Uses, IsClosed, IsOrder, IsLoop, lists}
+use Rattle.kc_tree.specs.declared.node.Node.{Node}
+use Rattle.kc_tree.specs.Graph.{row, Uses, IsClosed, IsOrder, IsLoop}
+use Rattle.kc_tree.specs.NodeRows.{numbers_of}
+use Rattle.kc_tree.specs.Nodes.{number_of}
+use Rattle.kc_tree.proofs.NodeNumbers.{Contains-map}
 
 -- a node that uses another one has a row
 pub user-within : (g : List (List ℕ)) (p q : ℕ) → Uses g p q → p < length g
@@ -36,20 +40,23 @@ no_loop g order is_order nodes loop =
     let placed = is_order.complete (slice_index nodes 0) (user-within g _ _ n.2) in
     none_below g order nodes is_order loop (placed.0 + 1) 0 placed.0 loop.some placed.1 (get_or_default order placed.0 _ _ placed.1 ∙ placed.2) (omega arith)
 
--- a row of a list of `Vec`s, as it is read
-pub row-lists : (rows : List (Vec ℕ Global)) (i : ℕ) (v : Vec ℕ Global) → i < length rows → v ≡ get_or rows i v → row (lists rows) i ≡ v.items
-row-lists rows i v inside read = get_or-map (λ r. r.items) rows i v [] inside ∙ ap (λ r. r.items) (sym read)
+-- a row of numbers is made of that of the nodes
+pub row_of_nodes : (rows : List (List Node)) (i : ℕ) → row (numbers_of rows) i ≡ map number_of (get_or rows i [])
+row_of_nodes [] i = refl
+row_of_nodes (r ∷ rows) zero = refl
+row_of_nodes (r ∷ rows) (suc i) = row_of_nodes rows i
 
--- the entries of a row of a closed graph, as it lies in memory
-pub row_within : (rows : List (Vec ℕ Global)) (g : List (List ℕ)) (uses : Vec ℕ Global) (node : ℕ) → lists rows ≡ g → IsClosed (lists rows) → node < length g → uses ≡ get_or rows node uses → All (λ used. used < length g) uses.items
-row_within rows g uses node view closed inside read =
-    let placed : node < length rows = omega (arith, ap length view, length-map rows (λ r. r.items)) in
-    let placed_row = row-lists rows node uses placed read in
-    λ k d h. rw (← view) (closed node (get_or uses.items k d) (rw placed_row (Contains-get_or uses.items k d h)))
+-- the nodes of a row of a closed graph, as it lies in memory
+pub row_within : (rows : List (List Node)) (g : List (List ℕ)) (uses : List Node) (node : ℕ) → numbers_of rows ≡ g → IsClosed (numbers_of rows) → uses ≡ get_or rows node [] → All (λ used. number_of used < length g) uses
+row_within rows g uses node view closed read =
+    let is : row (numbers_of rows) node ≡ map number_of uses = row_of_nodes rows node ∙ ap (map number_of) (sym read) in
+    λ k d h.
+    let P : List ℕ → Type 0 = λ ks. Contains ks (number_of (get_or uses k d)) in
+    rw (← view) (closed node (number_of (get_or uses k d)) (subst P (sym is) (Contains-map number_of uses (get_or uses k d) (Contains-get_or uses k d h))))
 
 -- rows whose entries are all below their number are closed
-pub IsClosed-from_all : (rows : List (Vec ℕ Global)) → All (λ r. All (λ used. used < length rows) r.items) rows → IsClosed (lists rows)
-IsClosed-from_all rows each = λ p q u.
-    let each_row = All-map (λ us. All (λ used. used < length rows) us) (λ r. r.items) rows each in
-    let of_p = All-get_or (λ us. All (λ used. used < length rows) us) (lists rows) p [] (user-within (lists rows) p q u) each_row in
-    omega (arith, length-map rows (λ r. r.items), All-contains (λ used. used < length rows) (row (lists rows) p) q of_p u)
+pub IsClosed-from_all : {X : Type 0} (numbers : X → List ℕ) (rows : List X) → All (λ r. All (λ used. used < length rows) (numbers r)) rows → IsClosed (map numbers rows)
+IsClosed-from_all numbers rows each = λ p q u.
+    let each_row = All-map (λ us. All (λ used. used < length rows) us) numbers rows each in
+    let of_p = All-get_or (λ us. All (λ used. used < length rows) us) (map numbers rows) p [] (user-within (map numbers rows) p q u) each_row in
+    omega (arith, length-map rows numbers, All-contains (λ used. used < length rows) (row (map numbers rows) p) q of_p u)

@@ -1,23 +1,43 @@
 -- From an order or a loop of numbers to what the tree says of its nodes.
-use Rattle.std.proofs.Common.{subst, ◌∷◌, ◌≡◌, ℕ, ◌+◌, ◌-◌, ◌^◌, ◌<◌, ◌≤◌, List, [], length, get_or, map, refl, sym, ap, inl, inr, ◌⊎◌, arith}
-use Rattle.std.specs.List.{All}
+use Rattle.std.proofs.Common.{subst, ◌∷◌, ◌≡◌, ℕ, ◌+◌, ◌-◌, ◌<◌, ◌≤◌, List, [], length, get_or, map, refl, sym, ap, inl, inr, ◌⊎◌, arith}
+use Rattle.std.specs.List.{All, Contains}
+use Rattle.std.proofs.lemmas.List.{get_or_past}
 use Rattle.std.proofs.lemmas.List.Elements.{All-from_get_or, All-map}
 use Rattle.std.proofs.lemmas.Bool.{cases_lt}
 use Rattle.kc_tree.specs.declared.fault.NamedNode.{NamedNode}
 use Rattle.kc_tree.specs.declared.node.Node.{Node}
 use Rattle.kc_tree.specs.TreeValue.{TreeValue}
 use Rattle.kc_tree.specs.Nodes.{number_of, node_at}
+use Rattle.kc_tree.specs.NodeRows.{numbers_of}
 use Rattle.kc_tree.specs.Order.{IsOrder, IsLoop}
-use Rattle.kc_tree.specs.Uses.{Uses}
 use Rattle.kc_tree.specs.declared.tree.Tree.TheInside.{Inside}
 use Rattle.kc_tree.specs.Inside.{tree_view, IsWellMade}
-use Rattle.kc_tree.specs.Accepted.{IsTableOf}
-use Rattle.kc_tree.specs.Known.{HasKnownTerms}
-use Rattle.kc_tree.specs.Linked.{linked, named_node, IsNamed, IsNamedLoop, IsLoopless}
+use Rattle.kc_tree.specs.Accepted.{IsEntryOf}
+use Rattle.kc_tree.specs.Faults.{IsNamed, IsNamedLoop, IsLoopless}
+use Rattle.kc_tree.specs.Linked.{named_node}
 use Rattle.kc_tree.specs.Graph as graph
 use Rattle.kc_tree.specs.NodeGraph.{IsGraphOf}
-use Rattle.kc_tree.proofs.KnownLaws.{has_row, used_within, closed_graph}
-use Rattle.kc_tree.proofs.NodeGraphLaws.{loop_of_nodes, loop_of_numbers, node_rows, table_of_uses, table_of_users}
+use Rattle.kc_tree.proofs.NodeNumbers.{number_of-node_at, symbol_below, at_below}
+use Rattle.kc_tree.proofs.WithinLaws.{used_within}
+use Rattle.kc_tree.proofs.NodeGraphLaws.{loop_of_nodes, loop_of_numbers, table_of_uses, table_of_users}
+
+-- a node that uses one has a row
+pub has_row : (g : List (List ℕ)) (p q : ℕ) → graph.Uses g p q → p < length g
+has_row g p q u = at (cases_lt p (length g))
+  where
+    at : (p < length g) ⊎ (length g ≤ p) → p < length g
+    at (inl l) = l
+    at (inr l) =
+        let P : List ℕ → Type 0 = λ ks. Contains ks q in
+        let none = subst P (get_or_past g p [] l) u in
+        absurd (omega (arith, none.1))
+
+pub closed_graph : (t : TreeValue) (g : List (List ℕ)) → IsGraphOf t g → graph.IsClosed g
+closed_graph t g i p q u =
+    let row = has_row g p q u in
+    let below = at_below p (length t.symbols) (omega (arith, i.whole)) in
+    let there = used_within t (node_at p) (node_at q) below ((i.exact p q).0 u) in
+    omega (arith, i.whole, number_of-node_at q, symbol_below (node_at q) (length t.symbols) there)
 
 pub order_below : (g : List (List ℕ)) (b : ℕ) (order : List ℕ) → length g < b → graph.IsOrder g order → All (λ k. k < b) order
 order_below g b order l o = All-from_get_or (λ k. k < b) order 0 (λ i h. let below = o.within i h in omega arith)
@@ -53,30 +73,17 @@ named_loop t g names numbers nodes l e n h =
 pub loopless_nodes : (t : TreeValue) (g : List (List ℕ)) → graph.HasNoLoop g → IsGraphOf t g → IsLoopless t
 loopless_nodes t g none h nodes l = none (map number_of nodes) (loop_of_numbers t g h nodes l)
 
--- the numbers that rows have are small
-pub small_uses : (t : TreeValue) (g : List (List ℕ)) → length t.symbols ≤ 65535 → HasKnownTerms t.symbols → IsGraphOf t g → (p q : ℕ) → graph.Uses g p q → q < 2 ^ 32
-small_uses t g few known h p q u = let below = closed_graph t g known h p q u in omega (arith, h.whole)
-
-pub small_users : (t : TreeValue) (g users : List (List ℕ)) → length t.symbols ≤ 65535 → IsGraphOf t g → graph.IsConverse g users → (p q : ℕ) → graph.Uses users p q → q < 2 ^ 32
-small_users t g users few h c p q u = let below = has_row g q p (c.to_use p q u) in omega (arith, h.whole)
-
 -- the fields of a tree, from the graph of its nodes
-pub well_made : (a : Inside) (g users : List (List ℕ)) → length a.symbols.items ≤ 65535 → length a.names ≡ length a.symbols.items → HasKnownTerms a.symbols.items → a.entries.items ≡ (linked a.names a.symbols.items).entries → IsGraphOf (tree_view a) g → IsOrder (tree_view a) a.order.items → a.uses ≡ node_rows g → graph.IsConverse g users → a.used_by ≡ node_rows users → IsWellMade a
-well_made a g users few named known entries h order uses converse used_by = record {
+pub well_made : (a : Inside) → length a.symbols.items ≤ 65535 → length a.names ≡ length a.symbols.items → All (IsEntryOf (tree_view a)) a.entries.items → IsGraphOf (tree_view a) (numbers_of a.uses) → IsOrder (tree_view a) a.order.items → graph.IsConverse (numbers_of a.uses) (numbers_of a.used_by) → IsWellMade a
+well_made a few named entries h order converse = record {
   accepted = record {
     few = few;
     named = named;
-    within = used_within (tree_view a) known;
+    within = used_within (tree_view a);
     ordered = (a.order.items, order);
+    entries = entries;
   };
-  entries = entries;
   order = order;
-  uses = subst P (sym uses) (table_of_uses (tree_view a) g h);
-  used_by = subst Q (sym used_by) (table_of_users (tree_view a) g users h converse);
+  uses = table_of_uses (tree_view a) a.uses h;
+  used_by = table_of_users (tree_view a) (numbers_of a.uses) a.used_by h converse;
 }
-  where
-    P : List (List Node) → Type 0
-    P rows = IsTableOf (tree_view a) (Uses (tree_view a)) rows
-
-    Q : List (List Node) → Type 0
-    Q rows = IsTableOf (tree_view a) (λ n m. Uses (tree_view a) m n) rows

@@ -1,5 +1,5 @@
 -- What is known of the graph of a tree's nodes by number is known of the nodes.
-use Rattle.std.proofs.Common.{subst, zero, suc, ◌∷◌, ◌≡◌, ℕ, ◌+◌, ◌-◌, ◌<◌, List, [], map, length, get_or, take, Some, refl, sym, ap, ◌∙◌, arith, ◌↔◌}
+use Rattle.std.proofs.Common.{subst, zero, suc, ◌∷◌, ◌≡◌, ℕ, ◌+◌, ◌-◌, ◌<◌, List, [], map, length, get_or, take, Some, refl, sym, ap, ◌∙◌, arith}
 use Rattle.std.specs.List.{Contains, slice_get}
 use Rattle.std.proofs.lemmas.List.{get_or-map, length-map, take-map, get_or-take, length-take-le, get_or_default}
 use Rattle.std.proofs.lemmas.Option.{slice_get-get_or}
@@ -11,7 +11,8 @@ use Rattle.kc_tree.specs.Order.{IsOrder, IsLoop}
 use Rattle.kc_tree.specs.Accepted.{IsTableOf}
 use Rattle.kc_tree.specs.NodeGraph.{IsGraphOf}
 use Rattle.kc_tree.specs.Graph as graph
-use Rattle.kc_tree.proofs.NodeNumbers.{node_at-number_of, symbol_below, at_below, Contains-at, Contains-from_at, place_at}
+use Rattle.kc_tree.specs.NodeRows.{numbers_of}
+use Rattle.kc_tree.proofs.NodeNumbers.{node_at-number_of, same_node, Contains-map, Contains-from_map, symbol_below, at_below, Contains-at, Contains-from_at, place_at}
 
 -- use between nodes and between their numbers
 pub use_of_numbers : (t : TreeValue) (g : List (List ℕ)) → IsGraphOf t g → (n m : Node) → Uses t n m → graph.Uses g (number_of n) (number_of m)
@@ -111,32 +112,32 @@ loop_of_numbers t g h nodes l = record {
         let To : ℕ → Type 0 = λ x. graph.Uses g (number_of n) x in
         subst From (sym e) (subst To (sym f) (use_of_numbers t g h n m u))
 
--- the rows of a table, each with its numbers as nodes
-abbrev pub node_rows : List (List ℕ) → List (List Node)
-node_rows g = map (λ r. map node_at r) g
+-- ---- tables of rows
+-- the numbers of a row
+pub row_numbers : (rows : List (List Node)) (p : ℕ) → graph.row (numbers_of rows) p ≡ map number_of (get_or rows p [])
+row_numbers [] p = refl
+row_numbers (r ∷ rows) zero = refl
+row_numbers (r ∷ rows) (suc p) = row_numbers rows p
 
-node_row : (g : List (List ℕ)) (k : ℕ) → get_or (node_rows g) k [] ≡ map node_at (get_or g k [])
-node_row [] k = refl
-node_row (r ∷ g) zero = refl
-node_row (r ∷ g) (suc k) = node_row g k
+in_row : (rows : List (List Node)) (n m : Node) → Contains (get_or rows (number_of n) []) m → graph.Uses (numbers_of rows) (number_of n) (number_of m)
+in_row rows n m c = subst (λ (ks : List ℕ). Contains ks (number_of m)) (sym (row_numbers rows (number_of n))) (Contains-map number_of (get_or rows (number_of n) []) m c)
 
-in_node_row : (g : List (List ℕ)) (n m : Node) → Contains (get_or (node_rows g) (number_of n) []) m ↔ graph.Uses g (number_of n) (number_of m)
-in_node_row g n m =
-    let P : List Node → Type 0 = λ xs. Contains xs m in
-    let r = graph.row g (number_of n) in
-    (λ c. Contains-from_at r m (subst P (node_row g (number_of n)) c), λ c. subst P (sym (node_row g (number_of n))) (Contains-at r m c))
+from_row : (rows : List (List Node)) (n m : Node) → graph.Uses (numbers_of rows) (number_of n) (number_of m) → Contains (get_or rows (number_of n) []) m
+from_row rows n m u =
+    let r = Contains-from_map number_of (get_or rows (number_of n) []) (number_of m) (subst (λ (ks : List ℕ). Contains ks (number_of m)) (row_numbers rows (number_of n)) u) in
+    subst (λ (x : Node). Contains (get_or rows (number_of n) []) x) (same_node r.0 m r.2) r.1
 
-pub table_of_uses : (t : TreeValue) (g : List (List ℕ)) → IsGraphOf t g → IsTableOf t (Uses t) (node_rows g)
-table_of_uses t g h = record {
-  whole = length-map g (λ r. map node_at r) ∙ h.whole;
-  exact = λ n m i. (λ c. use_of_nodes t g h n m ((in_node_row g n m).0 c), λ u. (in_node_row g n m).1 (use_of_numbers t g h n m u));
+pub table_of_uses : (t : TreeValue) (rows : List (List Node)) → IsGraphOf t (numbers_of rows) → IsTableOf t (Uses t) rows
+table_of_uses t rows h = record {
+  whole = sym (length-map rows (map number_of)) ∙ h.whole;
+  exact = λ n m i. (λ c. use_of_nodes t (numbers_of rows) h n m (in_row rows n m c), λ u. from_row rows n m (use_of_numbers t (numbers_of rows) h n m u));
 }
 
-pub table_of_users : (t : TreeValue) (g users : List (List ℕ)) → IsGraphOf t g → graph.IsConverse g users → IsTableOf t (λ n m. Uses t m n) (node_rows users)
-table_of_users t g users h c = record {
-  whole = length-map users (λ r. map node_at r) ∙ c.size ∙ h.whole;
+pub table_of_users : (t : TreeValue) (g : List (List ℕ)) (rows : List (List Node)) → IsGraphOf t g → graph.IsConverse g (numbers_of rows) → IsTableOf t (λ n m. Uses t m n) rows
+table_of_users t g rows h c = record {
+  whole = sym (length-map rows (map number_of)) ∙ c.size ∙ h.whole;
   exact = λ n m i. (
-    λ b. use_of_nodes t g h m n (c.to_use (number_of n) (number_of m) ((in_node_row users n m).0 b)),
-    λ u. (in_node_row users n m).1 (c.from_use (number_of m) (number_of n) (use_of_numbers t g h m n u)),
+    λ b. use_of_nodes t g h m n (c.to_use (number_of n) (number_of m) (in_row rows n m b)),
+    λ u. from_row rows n m (c.from_use (number_of m) (number_of n) (use_of_numbers t g h m n u)),
   );
 }

@@ -1,13 +1,23 @@
 -- The users of a graph's nodes are collected a use, and a node, at a time.
-use Rattle.std.proofs.Common.{◌≡◌, ℕ, ◌+◌, ◌<◌, ◌≤◌, ◌⊎◌, List, [], ◌∷◌, ◌++◌, length, get_or, set, take, Contains, inl, inr, sym, ap, ◌∙◌, arith, length-set}
+use Rattle.std.proofs.Common.{◌≡◌, ℕ, ◌+◌, ◌<◌, ◌≤◌, ◌⊎◌, List, [], ◌∷◌, ◌++◌, length, zero, suc, get_or, set, take, replicate, Contains, inl, inr, refl, sym, ap, ◌∙◌, arith, length-set}
 use Rattle.std.proofs.lemmas.Bool.{cases_lt}
-use Rattle.std.proofs.lemmas.List.{length_push, take_more}
+use Rattle.std.proofs.lemmas.List.{length-replicate, length_push, take_more}
 use Rattle.std.proofs.lemmas.List.Elements.{Contains-append_left, Contains-push, Contains-push_cases}
-use Rattle.std.proofs.lemmas.List.Sums.{sum_by-set, sum_by_more}
-use Rattle.kc_tree.specs.Graph.{row, Uses, IsConverse}
+use Rattle.std.proofs.lemmas.List.Sums.{sum_by-cons, sum_by-set, sum_by_more}
+use Rattle.kc_tree.specs.Graph.{row, use_count, Uses, IsConverse}
 use Rattle.kc_tree.specs.Users.{AddsUser, IsConverseBelow}
 use Rattle.kc_tree.proofs.GraphLaws.{user-within}
 use Rattle.kc_tree.proofs.ListLaws.{set_cases}
+
+-- a user is added at none of its uses
+pub AddsUser-none : (old : List (List ℕ)) (user : ℕ) → AddsUser old old [] user
+AddsUser-none old user = record {
+  size = refl;
+  kept = λ q p u. u;
+  added = λ q c. let k : c.0 < 0 = c.1 in absurd (omega arith);
+  only = λ q p u. inl u;
+  count = omega arith;
+}
 
 -- a user is added at the next of its uses
 pub AddsUser-more : (old now : List (List ℕ)) (uses : List ℕ) (user k used : ℕ) → AddsUser old now (take k uses) user → k < length uses → get_or uses k 0 ≡ used → used < length now → AddsUser old (set now used (row now used ++ user ∷ [])) (take (k + 1) uses) user
@@ -54,6 +64,27 @@ IsConverseBelow-more g users new n s inside a = record {
   to_use = λ p q u. elim (a.only p q u) [ inl h ↦ s.to_use p q h | inr h ↦ rw h.0 h.1 ];
   count = omega (arith, a.count, s.count, sum_by_more (λ us. length us) g n [] inside);
 }
+
+-- no node was added to empty rows
+pub IsConverseBelow-none : (g users : List (List ℕ)) → users ≡ replicate (length g) [] → IsConverseBelow g users 0
+IsConverseBelow-none g users e = record {
+  size = ap length e ∙ length-replicate (length g) [];
+  from_use = λ p q h u. absurd (omega arith);
+  to_use = λ p q u.
+      let none : row users p ≡ [] = ap (λ rows. row rows p) e ∙ row_of_none (length g) p in
+      let k : u.0 < length (row users p) = u.1 in
+      absurd (omega (arith, k, ap length none));
+  count = ap use_count e ∙ count_of_none (length g);
+}
+  where
+    row_of_none : (n p : ℕ) → row (replicate n []) p ≡ []
+    row_of_none zero p = refl
+    row_of_none (suc n) zero = refl
+    row_of_none (suc n) (suc p) = row_of_none n p
+
+    count_of_none : (n : ℕ) → use_count (replicate n []) ≡ 0
+    count_of_none zero = refl
+    count_of_none (suc n) = omega (arith, sum_by-cons (λ (uses : List ℕ). length uses) [] (replicate n []), count_of_none n)
 
 -- all nodes were added
 pub IsConverse-from_below : (g users : List (List ℕ)) (n : ℕ) → IsConverseBelow g users n → length g ≤ n → IsConverse g users

@@ -1,23 +1,29 @@
 -- What is known of every tree that was read: this project's own.
-use Rattle.std.specs.Prelude.{◌≡◌, ◌≤◌, List, length, map, Contains, slice_index_or, [], ◌↔◌}
-use Rattle.std.specs.List.{range_with_len}
+use Rattle.std.specs.Prelude.{◌≡◌, ◌≤◌, ◌<◌, List, length, All, Contains, slice_index_or, [], ◌↔◌}
 use Rattle.kc_tree.specs.declared.node.Node.{Node}
-use Rattle.kc_tree.specs.declared.tree.Entry.TheVariants.{Symbol}
+use Rattle.kc_tree.specs.declared.tree.Entry.{Entry}
+use Rattle.kc_tree.specs.declared.tree.Entry.TheVariants.{Symbol, Again, Menu, EndMenu, Comment}
 use Rattle.kc_tree.specs.TreeValue.{TreeValue}
 use Rattle.kc_tree.specs.Nodes.{IsNodeOf, node_count, number_of}
 use Rattle.kc_tree.specs.Uses.{Uses}
 use Rattle.kc_tree.specs.Order.{IsOrder}
 
--- symbols by number, each with a name; the uses of a node are nodes; the nodes have an order
+-- an entry of a symbol names one of the tree
+abbrev pub IsEntryOf : TreeValue → Entry → Type 0
+IsEntryOf t (Symbol s) = s.0 < length t.symbols
+IsEntryOf t (Again s) = s.0 < length t.symbols
+IsEntryOf t (Menu b) = Unit {0}
+IsEntryOf t (EndMenu b) = Unit {0}
+IsEntryOf t (Comment c) = Unit {0}
+
+-- symbols by number, each with a name; the uses of a node are nodes; the nodes have an order; each entry of a
+-- symbol names one
 pub record IsAccepted (t : TreeValue) : Type 0 where
   pub few : length t.symbols ≤ 65535
   pub named : length t.names ≡ length t.symbols
   pub within : (n m : Node) → IsNodeOf t n → Uses t n m → IsNodeOf t m
   pub ordered : (order : List Node) × IsOrder t order
-
--- the entries are those of all symbols, by number
-abbrev pub HasEachEntry : TreeValue → Type 0
-HasEachEntry t = t.entries ≡ map (λ k. Symbol (record { 0 = k })) (range_with_len 0 (length t.symbols))
+  pub entries : All (IsEntryOf t) t.entries
 
 -- row k of a table has exactly what the relation gives for the node of number k
 pub record IsTableOf (t : TreeValue) (R : Node → Node → Type 0) (rows : List (List Node)) : Type 0 where

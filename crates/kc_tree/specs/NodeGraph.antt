@@ -1,14 +1,9 @@
 -- The graph of the nodes of a tree, by number: this project's own.
-use Rattle.std.specs.Prelude.{◌≡◌, ℕ, List, length, map, Contains, ◌↔◌}
-use Rattle.kc_tree.specs.declared.node.Node.{Node}
+use Rattle.std.specs.Prelude.{◌≡◌, ℕ, List, length, ◌↔◌}
 use Rattle.kc_tree.specs.TreeValue.{TreeValue}
-use Rattle.kc_tree.specs.Nodes.{number_of, node_at, node_count}
+use Rattle.kc_tree.specs.Nodes.{node_at, node_count}
 use Rattle.kc_tree.specs.Uses.{Uses}
 use Rattle.kc_tree.specs.Graph as graph
-
--- the numbers are just those of the nodes
-abbrev pub AreNumbersOf : List Node → List ℕ → Type 0
-AreNumbersOf nodes numbers = (k : ℕ) → Contains numbers k ↔ Contains (map number_of nodes) k
 
 -- each node has a row, and a row has the numbers of just the nodes that its node is computed from
 pub record IsGraphOf (t : TreeValue) (g : List (List ℕ)) : Type 0 where

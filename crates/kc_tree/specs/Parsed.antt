@@ -5,26 +5,26 @@ use Rattle.kc_text.specs.LineValue.{LineValue}
 use Rattle.kc_tree.specs.declared.fault.TreeFault.{TreeFault}
 use Rattle.kc_tree.specs.declared.fault.TreeFault.TheVariants.{Line, Symbol, Loop, NoMemory}
 use Rattle.kc_tree.specs.TreeValue.{TreeValue}
-use Rattle.kc_tree.specs.TreeOf.{names_of, symbols_of}
-use Rattle.kc_tree.specs.Faults.{HasNoLineFault, first_untyped, IsReadFault}
-use Rattle.kc_tree.specs.Linked.{linked, IsLoopless, IsNamedLoop}
+use Rattle.kc_tree.specs.TreeOf.{IsOutlineOf}
+use Rattle.kc_tree.specs.SymbolFaults.{symbol_fault}
+use Rattle.kc_tree.specs.Faults.{IsReadFault, IsTreeProblem, IsLoopless}
 
--- the tree that lines define
-abbrev pub tree_of : List LineValue → TreeValue
-tree_of lines = linked (names_of lines) (symbols_of lines)
-
--- the lines have no fault, and this is their tree
+-- no line, no symbol and no node has a fault, and this is the tree of the lines
 pub record IsTreeOf (lines : List LineValue) (t : TreeValue) : Type 0 where
-  pub faultless : HasNoLineFault lines
-  pub typed : first_untyped lines ≡ None
-  pub tree : t ≡ tree_of lines
-  pub loopless : IsLoopless (tree_of lines)
+  pub outline : IsOutlineOf lines t
+  pub symbols : symbol_fault t ≡ None
+  pub loopless : IsLoopless t
 
--- The first fault of lines: that of the first line with one, else the first symbol without a type, else a loop.
--- Want of memory says nothing of the lines.
+-- a fault of what the lines say, none of which has a fault itself
+pub record IsFaultOfOutline (lines : List LineValue) (fault : TreeFault) : Type 0 where
+  pub tree : TreeValue
+  pub outline : IsOutlineOf lines tree
+  pub is : IsTreeProblem tree fault
+
+-- The first fault of lines: that of the first line with one, else that of the first symbol, else a loop. Want of
+-- memory says nothing of the lines.
 abbrev pub IsFaultOf : List LineValue → TreeFault → Type 0
 IsFaultOf lines (Line problem path number) = IsReadFault lines (Line problem path number)
-IsFaultOf lines (Symbol problem name) = IsReadFault lines (Symbol problem name)
-IsFaultOf lines (Loop nodes) =
-    HasNoLineFault lines × (first_untyped lines ≡ None) × IsNamedLoop (tree_of lines) nodes.items
+IsFaultOf lines (Symbol problem name) = IsFaultOfOutline lines (Symbol problem name)
+IsFaultOf lines (Loop nodes) = IsFaultOfOutline lines (Loop nodes)
 IsFaultOf lines NoMemory = Unit {0}

@@ -1,69 +1,103 @@
--- The statements and their forms: kconfig-language.rst, "Menu entries" and "Menu attributes", cut down to bool symbols.
-use Rattle.std.specs.Prelude.{ℕ, Bool, List, [], ◌∷◌, Option, Some, None, option_map, option_and_then, not, ◌&&◌, ◌||◌, ◌==◌, if◌then◌else◌, drop, codes}
-use Rattle.std.specs.Str.{bytes_eq}
-use Rattle.std.specs.List.{list_all}
-use Rattle.std.specs.Char.{is_ascii_alphanumeric}
+-- The forms of statements and attributes: kconfig-language.rst, "Menu entries" and "Menu attributes".
+use Rattle.std.specs.Prelude.{◌≡◌, ◌⊎◌, ℕ, List, [], ◌∷◌, ◌++◌, Option, Some, None, codes}
 use Rattle.kc_text.specs.LineValue.{LineValue}
 use Rattle.kc_text.specs.declared.line.LineKind.{LineKind}
-use Rattle.kc_text.specs.declared.line.LineKind.TheVariants.{EndOfFile}
 use Rattle.kc_text.specs.declared.line.LineKind.TheVariants.{Statement as StatementLine}
+use Rattle.kc_text.specs.declared.line.LineKind.TheVariants.{EndOfFile as EndLine}
 use Rattle.kc_text.specs.declared.line.Token.{Token}
 use Rattle.kc_text.specs.declared.line.Token.TheVariants.{Word, Quoted}
-use Rattle.kc_tree.specs.declared.statement.Keyword.{Keyword}
-use Rattle.kc_tree.specs.declared.statement.Keyword.TheVariants.{Config, Default, Depends, Help}
-use Rattle.kc_tree.specs.declared.statement.Keyword.TheVariants.{Bool as BoolWord}
+use Rattle.kc_tree.specs.declared.id.SymId.{SymId}
+use Rattle.kc_tree.specs.declared.expr.Expr.{Expr}
+use Rattle.kc_tree.specs.declared.definition.Prompt.{Prompt}
+use Rattle.kc_tree.specs.declared.definition.DefaultValue.{DefaultValue}
+use Rattle.kc_tree.specs.declared.symbol.SymbolType.{SymbolType}
+use Rattle.kc_tree.specs.declared.symbol.SymbolType.TheVariants as kind
+use Rattle.kc_tree.specs.declared.keyword.Keyword.{Keyword}
+use Rattle.kc_tree.specs.declared.keyword.Keyword.TheVariants as keyword
 use Rattle.kc_tree.specs.declared.statement.Statement.{Statement}
-use Rattle.kc_tree.specs.declared.statement.Statement.TheVariants.{Definition, Prompt, DefaultValue, DependsOn, HelpText}
-use Rattle.kc_tree.specs.Terms.{joined_terms, term_word, token_word}
+use Rattle.kc_tree.specs.declared.statement.Statement.TheVariants as statement
+use Rattle.kc_tree.specs.Keywords.{first_keyword}
+use Rattle.kc_tree.specs.Names.{name_word}
+use Rattle.kc_tree.specs.Grammar.{IsExpression}
+use Rattle.kc_tree.specs.TreeValue.{symbol_among}
 
--- letters, digits and `_`
-abbrev pub is_name_byte : ℕ → Bool
-is_name_byte b = is_ascii_alphanumeric b || b == 95
+-- ---- parts of forms
+-- an unquoted word without reference
+abbrev pub fixed : List ℕ → Token
+fixed w = Word w
 
--- the words of letters, digits and `_` that name no symbol
-abbrev pub is_reserved : List ℕ → Bool
-is_reserved w =
-    bytes_eq w (codes "n") || bytes_eq w (codes "m") || bytes_eq w (codes "y") || bytes_eq w (codes "if")
+-- `if` and its condition, or nothing
+abbrev pub IsCondition : List (List ℕ) → List Token → Option Expr → Type 0
+IsCondition names tokens None = tokens ≡ []
+IsCondition names tokens (Some e) = (rest : List Token) × (tokens ≡ fixed (codes "if") ∷ rest) × IsExpression names rest e
 
--- whether a word names a symbol: one or more letters, digits and `_`, and not n, m, y or if
-abbrev pub is_name : List ℕ → Bool
-is_name w = not (bytes_eq w []) && list_all is_name_byte w && not (is_reserved w)
+-- a text in quotes, and perhaps a condition
+abbrev pub IsPrompt : List (List ℕ) → List Token → Prompt → Type 0
+IsPrompt names tokens p =
+    (rest : List Token) × (tokens ≡ Quoted p.text ∷ rest) × IsCondition names rest p.condition
 
-abbrev pub keyword_named : List ℕ → Option Keyword
-keyword_named w =
-    if bytes_eq w (codes "config") then Some Config
-    else (if bytes_eq w (codes "bool") then Some BoolWord
-    else (if bytes_eq w (codes "default") then Some Default
-    else (if bytes_eq w (codes "depends") then Some Depends
-    else (if bytes_eq w (codes "help") || bytes_eq w (codes "---help---") then Some Help
-    else None))))
+-- an expression, and perhaps a condition
+abbrev pub IsDefault : List (List ℕ) → List Token → DefaultValue → Type 0
+IsDefault names tokens d =
+    (value rest : List Token) × (tokens ≡ value ++ rest) × IsExpression names value d.value × IsCondition names rest d.condition
 
-abbrev pub first_keyword : List Token → Option Keyword
-first_keyword (Word w ∷ rest) = keyword_named w
-first_keyword _ = None
+-- a name, and perhaps a condition
+abbrev pub IsSelection : List (List ℕ) → List Token → Option SymId → Option Expr → Type 0
+IsSelection names tokens symbol condition =
+    (t : Token) × (name : List ℕ) × (rest : List Token) × (tokens ≡ t ∷ rest) × (name_word t ≡ Some name)
+    × (symbol ≡ symbol_among names name) × IsCondition names rest condition
 
-abbrev pub keyword_at : LineKind → List Token → Option Keyword
-keyword_at StatementLine tokens = first_keyword tokens
-keyword_at EndOfFile tokens = None
+-- a word and an expression
+abbrev pub IsWordAndExpression : List (List ℕ) → List ℕ → List Token → Expr → Type 0
+IsWordAndExpression names w tokens e = (rest : List Token) × (tokens ≡ fixed w ∷ rest) × IsExpression names rest e
 
--- what a line is by its first word; an end of file is nothing
-abbrev pub keyword_of : LineValue → Option Keyword
-keyword_of l = keyword_at l.kind l.tokens
+abbrev pub IsQuoted : List Token → List ℕ → Type 0
+IsQuoted tokens title = tokens ≡ Quoted title ∷ []
 
--- the name that a token is
-abbrev pub name_word : Token → Option (List ℕ)
-name_word t = option_and_then (λ w. if is_name w then Some w else None) (token_word t)
+-- the words that name a type alone, or with a default
+abbrev pub type_word : SymbolType → Keyword
+type_word kind.Bool = keyword.Bool
+type_word kind.Tristate = keyword.Tristate
 
--- the forms, by the keyword and the tokens after it
-abbrev pub statement_after : Keyword → List Token → Option Statement
-statement_after Config (t ∷ []) = option_map Definition (name_word t)
-statement_after BoolWord (Quoted prompt ∷ []) = Some (Prompt prompt)
-statement_after Default (t ∷ []) = option_map DefaultValue (term_word t)
-statement_after Depends (Word on ∷ terms) =
-    if bytes_eq on (codes "on") then option_map DependsOn (joined_terms terms) else None
-statement_after Help [] = Some HelpText
-statement_after _ _ = None
+abbrev pub default_word : SymbolType → Keyword
+default_word kind.Bool = keyword.DefBool
+default_word kind.Tristate = keyword.DefTristate
 
--- what a line says, if it has one of the forms
-abbrev pub statement_of : LineValue → Option Statement
-statement_of l = option_and_then (λ k. statement_after k (drop 1 l.tokens)) (keyword_of l)
+-- ---- the forms: the keyword, and the tokens after it
+abbrev pub HasFormAfter : List (List ℕ) → Keyword → List Token → Statement → Type 0
+HasFormAfter names k tokens statement.EndOfFile = ⊥
+HasFormAfter names k tokens (statement.Config symbol) =
+    (k ≡ keyword.Config) × (t : Token) × (name : List ℕ) × (tokens ≡ t ∷ []) × (name_word t ≡ Some name) × (symbol ≡ symbol_among names name)
+HasFormAfter names k tokens (statement.Menu title) = (k ≡ keyword.Menu) × IsQuoted tokens title
+HasFormAfter names k tokens statement.EndMenu = (k ≡ keyword.EndMenu) × (tokens ≡ [])
+HasFormAfter names k tokens (statement.If e) = (k ≡ keyword.If) × IsExpression names tokens e
+HasFormAfter names k tokens statement.EndIf = (k ≡ keyword.EndIf) × (tokens ≡ [])
+HasFormAfter names k tokens (statement.Comment title) = (k ≡ keyword.Comment) × IsQuoted tokens title
+HasFormAfter names k tokens statement.MainMenu = (k ≡ keyword.MainMenu) × (title : List ℕ) × IsQuoted tokens title
+HasFormAfter names k tokens (statement.Type kind) = (k ≡ type_word kind) × (tokens ≡ [])
+HasFormAfter names k tokens (statement.TypeAndPrompt kind p) = (k ≡ type_word kind) × IsPrompt names tokens p
+HasFormAfter names k tokens (statement.TypeAndDefault kind d) = (k ≡ default_word kind) × IsDefault names tokens d
+HasFormAfter names k tokens (statement.Prompt p) = (k ≡ keyword.Prompt) × IsPrompt names tokens p
+HasFormAfter names k tokens (statement.Default d) = (k ≡ keyword.Default) × IsDefault names tokens d
+HasFormAfter names k tokens (statement.DependsOn e) = (k ≡ keyword.Depends) × IsWordAndExpression names (codes "on") tokens e
+HasFormAfter names k tokens (statement.VisibleIf e) = (k ≡ keyword.Visible) × IsWordAndExpression names (codes "if") tokens e
+HasFormAfter names k tokens (statement.Select s c) = (k ≡ keyword.Select) × IsSelection names tokens s c
+HasFormAfter names k tokens (statement.Imply s c) = (k ≡ keyword.Imply) × IsSelection names tokens s c
+HasFormAfter names k tokens statement.Modules =
+    ((k ≡ keyword.Modules) × (tokens ≡ [])) ⊎ ((k ≡ keyword.Option) × (tokens ≡ fixed (codes "modules") ∷ []))
+HasFormAfter names k tokens statement.AllNoConfigYes = (k ≡ keyword.Option) × (tokens ≡ fixed (codes "allnoconfig_y") ∷ [])
+HasFormAfter names k tokens statement.Help = (k ≡ keyword.Help) × (tokens ≡ [])
+
+-- an end of file says that alone
+abbrev pub HasFormOf : List (List ℕ) → LineKind → List Token → Statement → Type 0
+HasFormOf names EndLine tokens s = s ≡ statement.EndOfFile
+HasFormOf names StatementLine [] s = ⊥
+HasFormOf names StatementLine (t ∷ rest) s = (k : Keyword) × (first_keyword (t ∷ rest) ≡ Some k) × HasFormAfter names k rest s
+
+-- a line says this
+unfoldable pub HasForm : List (List ℕ) → LineValue → Statement → Type 0
+HasForm names l s = HasFormOf names l.kind l.tokens s
+
+-- a line says nothing
+abbrev pub HasNoForm : List (List ℕ) → LineValue → Type 0
+HasNoForm names l = (s : Statement) → HasForm names l s → ⊥

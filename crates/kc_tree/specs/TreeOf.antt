@@ -1,112 +1,284 @@
--- What logical lines define: kconfig-language.rst, "Menu entries", "Menu attributes" and "Menu dependencies", cut down to bool symbols.
-use Rattle.std.specs.Prelude.{ℕ, Bool, true, false, List, [], ◌∷◌, Option, Some, None, option_and_then, unwrap_or, if◌then◌else◌, map, filter, filter_map, flat_map, take_while, position, slice_get, codes}
-use Rattle.std.specs.Option.{option_map_or}
-use Rattle.std.specs.Str.{bytes_eq}
+-- The tree of logical lines: kconfig-language.rst, "Menu entries", "Menu attributes", "Menu dependencies" and "Menu
+-- structure". Each part of the tree is found from the whole list of what the lines say and where they stand.
+use Rattle.std.specs.Prelude.{◌≡◌, ℕ, ◌+◌, ◌==◌, Bool, true, false, not, ◌&&◌, List, [], ◌∷◌, ◌++◌, Option, Some, None, option_map, if◌then◌else◌, nat_lt, length, map, reverse, filter_map, slice_get}
+use Rattle.std.specs.List.{list_any, range_with_len}
 use Rattle.kc_text.specs.LineValue.{LineValue}
-use Rattle.kc_tree.specs.declared.tri.Tri.TheVariants.{No, Yes}
-use Rattle.kc_tree.specs.declared.symbol.Term.{Term}
-use Rattle.kc_tree.specs.declared.symbol.Term.TheVariants.{Tri, Symbol, Undefined}
-use Rattle.kc_tree.specs.declared.statement.Keyword.{Keyword}
-use Rattle.kc_tree.specs.declared.statement.Keyword.TheVariants.{Config, Default, Depends, Help}
-use Rattle.kc_tree.specs.declared.statement.Keyword.TheVariants.{Bool as BoolWord}
+use Rattle.kc_tree.specs.declared.id.SymId.{SymId}
+use Rattle.kc_tree.specs.declared.id.BlockId.{BlockId}
+use Rattle.kc_tree.specs.declared.expr.Expr.{Expr}
+use Rattle.kc_tree.specs.declared.definition.Prompt.{Prompt}
+use Rattle.kc_tree.specs.declared.definition.DefaultValue.{DefaultValue}
+use Rattle.kc_tree.specs.declared.symbol.SymbolType.{SymbolType}
+use Rattle.kc_tree.specs.declared.symbol.SymbolType.TheVariants as kind
+use Rattle.kc_tree.specs.declared.symbol.Reverse.{Reverse}
+use Rattle.kc_tree.specs.declared.block.BlockKind.{BlockKind}
+use Rattle.kc_tree.specs.declared.block.BlockKind.TheVariants as block_kind
+use Rattle.kc_tree.specs.declared.place.Owner.{Owner}
+use Rattle.kc_tree.specs.declared.place.Owner.TheVariants as owner
 use Rattle.kc_tree.specs.declared.statement.Statement.{Statement}
-use Rattle.kc_tree.specs.declared.statement.Statement.TheVariants.{Definition, Prompt, DefaultValue, DependsOn}
-use Rattle.kc_tree.specs.Statements.{keyword_of, statement_of}
-use Rattle.kc_tree.specs.SymbolValue.{SymbolValue}
+use Rattle.kc_tree.specs.declared.statement.Statement.TheVariants as statement
+use Rattle.kc_tree.specs.declared.tree.Entry.{Entry}
+use Rattle.kc_tree.specs.declared.tree.Entry.TheVariants as entry
+use Rattle.kc_tree.specs.Names.{names_of}
+use Rattle.kc_tree.specs.Places.{open_blocks, innermost, owner_at}
+use Rattle.kc_tree.specs.LineFaults.{IsSound}
+use Rattle.kc_tree.specs.TreeValue.{TreeValue, SymbolValue, DefinitionValue, BlockValue, CommentValue}
 
--- ---- kinds of lines, by their first words alone
-abbrev pub begins_entry : Option Keyword → Bool
-begins_entry (Some Config) = true
-begins_entry _ = false
+-- ---- what a line says and where it stands: the innermost block that is open before it, and what owns it
+pub record Reading : Type 0 where
+  pub statement : Statement
+  pub block : Option BlockId
+  pub owner : Option Owner
 
-abbrev pub belongs_to_entry : Option Keyword → Bool
-belongs_to_entry (Some BoolWord) = true
-belongs_to_entry (Some Default) = true
-belongs_to_entry (Some Depends) = true
-belongs_to_entry (Some Help) = true
-belongs_to_entry _ = false
+-- a line after those before it, which stand in reverse, is read as this
+pub record IsReading (names : List (List ℕ)) (earlier : List LineValue) (is_last : Bool) (l : LineValue) (r : Reading) : Type 0 where
+  pub sound : IsSound names earlier is_last l r.statement
+  pub block : r.block ≡ innermost (open_blocks earlier)
+  pub owner : r.owner ≡ owner_at names (l ∷ earlier)
 
-abbrev pub gives_type : Option Keyword → Bool
-gives_type (Some BoolWord) = true
-gives_type _ = false
+-- no line has a problem, and each is read as its reading, in their order; so many lines follow
+abbrev pub AreReadingsBefore : List (List ℕ) → ℕ → List LineValue → List Reading → Type 0
+AreReadingsBefore names following [] [] = Unit {0}
+AreReadingsBefore names following [] (r ∷ rs) = ⊥
+AreReadingsBefore names following (l ∷ earlier) [] = ⊥
+AreReadingsBefore names following (l ∷ earlier) (r ∷ rs) =
+    IsReading names earlier (following == 0) l r × AreReadingsBefore names (following + 1) earlier rs
 
-abbrev pub is_config : LineValue → Bool
-is_config l = begins_entry (keyword_of l)
+-- the readings of lines
+abbrev pub AreReadings : List LineValue → List Reading → Type 0
+AreReadings lines rs = AreReadingsBefore (names_of lines) 0 (reverse lines) (reverse rs)
 
-abbrev pub is_attribute : LineValue → Bool
-is_attribute l = belongs_to_entry (keyword_of l)
+-- ---- what a statement has
+abbrev pub type_in : Statement → Option SymbolType
+type_in (statement.Type k) = Some k
+type_in (statement.TypeAndPrompt k p) = Some k
+type_in (statement.TypeAndDefault k d) = Some k
+type_in _ = None
 
-abbrev pub is_type_line : LineValue → Bool
-is_type_line l = gives_type (keyword_of l)
-
--- ---- names
-abbrev pub defined_name : Statement → Option (List ℕ)
-defined_name (Definition name) = Some name
-defined_name _ = None
-
--- the name that a `config` line defines, empty for a line that defines none
-abbrev pub config_name : LineValue → List ℕ
-config_name l = unwrap_or (option_and_then defined_name (statement_of l)) []
-
--- the names of the `config` lines in order
-abbrev pub names_of : List LineValue → List (List ℕ)
-names_of lines = map config_name (filter is_config lines)
-
--- ---- entries
--- a `config` line and the attributes directly after it
-pub record EntryLines : Type 0 where
-  pub config : LineValue
-  pub attributes : List LineValue
-
-abbrev pub entries_of : List LineValue → List EntryLines
-entries_of [] = []
-entries_of (l ∷ ls) =
-    if is_config l then record { config = l; attributes = take_while is_attribute ls } ∷ entries_of ls
-    else entries_of ls
-
--- ---- what an attribute says
-abbrev pub prompt_in : Statement → Option (List ℕ)
-prompt_in (Prompt text) = Some text
+abbrev pub prompt_in : Statement → Option Prompt
+prompt_in (statement.TypeAndPrompt k p) = Some p
+prompt_in (statement.Prompt p) = Some p
 prompt_in _ = None
 
-abbrev pub default_in : Statement → Option (List ℕ)
-default_in (DefaultValue word) = Some word
+abbrev pub default_in : Statement → Option DefaultValue
+default_in (statement.TypeAndDefault k d) = Some d
+default_in (statement.Default d) = Some d
 default_in _ = None
 
-abbrev pub terms_in : Statement → List (List ℕ)
-terms_in (DependsOn words) = words
-terms_in _ = []
+abbrev pub depends_in : Statement → Option Expr
+depends_in (statement.DependsOn e) = Some e
+depends_in _ = None
 
--- the prompt of the first `bool` line
-abbrev pub prompt_of : List LineValue → Option (List ℕ)
-prompt_of attributes = slice_get (filter_map (λ l. option_and_then prompt_in (statement_of l)) attributes) 0
+abbrev pub visible_in : Statement → Option Expr
+visible_in (statement.VisibleIf e) = Some e
+visible_in _ = None
 
--- the words of the `default` lines in order
-abbrev pub defaults_of : List LineValue → List (List ℕ)
-defaults_of attributes = filter_map (λ l. option_and_then default_in (statement_of l)) attributes
+abbrev pub says_modules : Statement → Bool
+says_modules statement.Modules = true
+says_modules _ = false
 
--- the words of the terms of all `depends on` lines in order
-abbrev pub dependencies_of : List LineValue → List (List ℕ)
-dependencies_of attributes = flat_map (λ l. option_map_or terms_in (statement_of l) []) attributes
+abbrev pub says_yes_in_allnoconfig : Statement → Bool
+says_yes_in_allnoconfig statement.AllNoConfigYes = true
+says_yes_in_allnoconfig _ = false
 
--- ---- symbols
--- a word that is no constant: the symbol that it names, wherever that is defined, or a word that names none
-abbrev pub named_term : List (List ℕ) → List ℕ → Term
-named_term names word =
-    option_map_or (λ k. Symbol (record { 0 = k })) (position (bytes_eq word) names) (Undefined word)
+-- ---- owners
+abbrev pub is_of_definition : ℕ → Option Owner → Bool
+is_of_definition j (Some (owner.Definition s i)) = i == j
+is_of_definition j _ = false
 
-abbrev pub term_of : List (List ℕ) → List ℕ → Term
-term_of names word =
-    if bytes_eq word (codes "y") then Tri Yes
-    else (if bytes_eq word (codes "n") then Tri No else named_term names word)
+abbrev pub is_of_symbol : SymId → Option Owner → Bool
+is_of_symbol s (Some (owner.Definition r i)) = r.0 == s.0
+is_of_symbol s _ = false
 
-abbrev pub symbol_of : List (List ℕ) → EntryLines → SymbolValue
-symbol_of names e = record {
-  prompt = unwrap_or (prompt_of e.attributes) [];
-  defaults = map (λ w. term_of names w ∷ []) (defaults_of e.attributes);
-  dependencies = map (term_of names) (dependencies_of e.attributes);
+abbrev pub is_of_menu : ℕ → Option Owner → Bool
+is_of_menu b (Some (owner.Menu m)) = m.0 == b
+is_of_menu b _ = false
+
+abbrev pub is_of_comment : ℕ → Option Owner → Bool
+is_of_comment c (Some (owner.Comment m)) = m.0 == c
+is_of_comment c _ = false
+
+-- what the statements say of those that an owner has
+abbrev pub said : {A : Type 0} → (Option Owner → Bool) → (Statement → Option A) → List Reading → List A
+said is_owner say rs = filter_map (λ r. if is_owner r.owner then say r.statement else None) rs
+
+-- whether a statement of an owner says so
+abbrev pub is_said : (Option Owner → Bool) → (Statement → Bool) → List Reading → Bool
+is_said is_owner says rs = list_any (λ r. is_owner r.owner && says r.statement) rs
+
+-- ---- definitions
+abbrev pub defined_in : Statement → Option SymId
+defined_in (statement.Config s) = s
+defined_in _ = None
+
+-- the j-th, whose line stands in this block
+abbrev pub definition_at : List Reading → ℕ → Option BlockId → SymId → DefinitionValue
+definition_at rs j block s = record {
+  symbol = s;
+  block = block;
+  depends = said (is_of_definition j) depends_in rs;
+  prompt = slice_get (said (is_of_definition j) prompt_in rs) 0;
+  has_second_prompt = nat_lt 1 (length (said (is_of_definition j) prompt_in rs));
+  defaults = said (is_of_definition j) default_in rs;
 }
 
--- the symbols by number, with the terms of all the names
-abbrev pub symbols_of : List LineValue → List SymbolValue
-symbols_of lines = map (symbol_of (names_of lines)) (entries_of lines)
+-- the blocks and symbols of the definitions, in the order of their lines
+abbrev pub definition_heads : List Reading → List (Option BlockId × SymId)
+definition_heads rs = filter_map (λ r. option_map (λ s. (r.block, s)) (defined_in r.statement)) rs
+
+-- what a function makes of each element and its place, counted from a number
+abbrev pub map_placed : {A B : Type 0} → (ℕ → A → B) → ℕ → List A → List B
+map_placed f k [] = []
+map_placed f k (x ∷ xs) = f k x ∷ map_placed f (k + 1) xs
+
+abbrev pub definitions_in : List Reading → List DefinitionValue
+definitions_in rs = map_placed (λ j h. definition_at rs j h.0 h.1) 0 (definition_heads rs)
+
+-- ---- symbols
+abbrev pub same_type : SymbolType → SymbolType → Bool
+same_type kind.Bool kind.Bool = true
+same_type kind.Bool kind.Tristate = false
+same_type kind.Tristate kind.Bool = false
+same_type kind.Tristate kind.Tristate = true
+
+abbrev pub differ_from_first : List SymbolType → Bool
+differ_from_first [] = false
+differ_from_first (k ∷ ks) = list_any (λ j. not (same_type k j)) ks
+
+-- the number of the definition that a line makes of a symbol
+abbrev pub definition_number : SymId → Reading → Option ℕ
+definition_number s r = if defines s r.statement then number_in r.owner else None where
+  defines : SymId → Statement → Bool
+  defines s (statement.Config (Some d)) = d.0 == s.0
+  defines s _ = false
+
+  number_in : Option Owner → Option ℕ
+  number_in (Some (owner.Definition d j)) = Some j
+  number_in _ = None
+
+-- a `select` or an `imply` of a symbol, and where it stands
+abbrev pub reverse_at : SymId → Option SymId → Option Expr → Option Owner → Option Reverse
+reverse_at s (Some target) c (Some (owner.Definition by j)) =
+    if target.0 == s.0 then Some (record { by = by; definition = j; condition = c }) else None
+reverse_at s _ c _ = None
+
+abbrev pub selection_of : SymId → Reading → Option Reverse
+selection_of s r = in_statement r.statement where
+  in_statement : Statement → Option Reverse
+  in_statement (statement.Select target c) = reverse_at s target c r.owner
+  in_statement _ = None
+
+abbrev pub implication_of : SymId → Reading → Option Reverse
+implication_of s r = in_statement r.statement where
+  in_statement : Statement → Option Reverse
+  in_statement (statement.Imply target c) = reverse_at s target c r.owner
+  in_statement _ = None
+
+abbrev pub symbol_at : List Reading → SymId → SymbolValue
+symbol_at rs s = record {
+  kind = slice_get (said (is_of_symbol s) type_in rs) 0;
+  has_other_type = differ_from_first (said (is_of_symbol s) type_in rs);
+  definitions = filter_map (definition_number s) rs;
+  selected = filter_map (selection_of s) rs;
+  implied = filter_map (implication_of s) rs;
+  has_modules = is_said (is_of_symbol s) says_modules rs;
+  is_yes_in_allnoconfig = is_said (is_of_symbol s) says_yes_in_allnoconfig rs;
+}
+
+-- so many symbols, by number
+abbrev pub symbols_in : ℕ → List Reading → List SymbolValue
+symbols_in count rs = map (λ k. symbol_at rs (record { 0 = k })) (range_with_len 0 count)
+
+-- ---- blocks and comments
+-- what opens a block, and what it says itself
+abbrev pub opened_in : Statement → Option (BlockKind × List Expr)
+opened_in (statement.Menu title) = Some (block_kind.Menu title, [])
+opened_in (statement.If e) = Some (block_kind.If, e ∷ [])
+opened_in _ = None
+
+abbrev pub block_heads : List Reading → List (Option BlockId × (BlockKind × List Expr))
+block_heads rs = filter_map (λ r. option_map (λ o. (r.block, o)) (opened_in r.statement)) rs
+
+-- the b-th, whose line stands in this block
+abbrev pub block_at : List Reading → ℕ → Option BlockId → BlockKind × List Expr → BlockValue
+block_at rs b parent o = record {
+  kind = o.0;
+  parent = parent;
+  depends = o.1 ++ said (is_of_menu b) depends_in rs;
+  visible = said (is_of_menu b) visible_in rs;
+}
+
+abbrev pub blocks_in : List Reading → List BlockValue
+blocks_in rs = map_placed (λ b h. block_at rs b h.0 h.1) 0 (block_heads rs)
+
+abbrev pub title_in : Statement → Option (List ℕ)
+title_in (statement.Comment title) = Some title
+title_in _ = None
+
+abbrev pub comment_heads : List Reading → List (Option BlockId × List ℕ)
+comment_heads rs = filter_map (λ r. option_map (λ title. (r.block, title)) (title_in r.statement)) rs
+
+abbrev pub comment_at : List Reading → ℕ → Option BlockId → List ℕ → CommentValue
+comment_at rs c block title = record {
+  title = title;
+  block = block;
+  depends = said (is_of_comment c) depends_in rs;
+}
+
+abbrev pub comments_in : List Reading → List CommentValue
+comments_in rs = map_placed (λ c h. comment_at rs c h.0 h.1) 0 (comment_heads rs)
+
+-- ---- entries
+-- a symbol at its first definition, and again at the others
+abbrev pub symbol_entry : List Reading → SymId → Entry
+symbol_entry earlier s = first_or_again (filter_map (definition_number s) earlier) where
+  first_or_again : List ℕ → Entry
+  first_or_again [] = entry.Symbol s
+  first_or_again (j ∷ js) = entry.Again s
+
+abbrev pub menu_entry : Option Owner → Option Entry
+menu_entry (Some (owner.Menu b)) = Some (entry.Menu b)
+menu_entry _ = None
+
+abbrev pub comment_entry : Option Owner → Option Entry
+comment_entry (Some (owner.Comment c)) = Some (entry.Comment c)
+comment_entry _ = None
+
+-- the entry of a line after those before it; an `if` has none
+abbrev pub entry_at : List Reading → Reading → Option Entry
+entry_at earlier r = in_statement r.statement where
+  in_statement : Statement → Option Entry
+  in_statement (statement.Config s) = option_map (symbol_entry earlier) s
+  in_statement (statement.Menu title) = menu_entry r.owner
+  in_statement statement.EndMenu = option_map entry.EndMenu r.block
+  in_statement (statement.Comment title) = comment_entry r.owner
+  in_statement _ = None
+
+abbrev pub with_entry : List Entry → Option Entry → List Entry
+with_entry es None = es
+with_entry es (Some e) = es ++ e ∷ []
+
+-- of readings in reverse, the last first
+abbrev pub entries_before : List Reading → List Entry
+entries_before [] = []
+entries_before (r ∷ earlier) = with_entry (entries_before earlier) (entry_at (reverse earlier) r)
+
+abbrev pub entries_in : List Reading → List Entry
+entries_in rs = entries_before (reverse rs)
+
+-- ---- the tree
+abbrev pub tree_of : List (List ℕ) → List Reading → TreeValue
+tree_of names rs = record {
+  names = names;
+  symbols = symbols_in (length names) rs;
+  definitions = definitions_in rs;
+  blocks = blocks_in rs;
+  comments = comments_in rs;
+  entries = entries_in rs;
+}
+
+-- no line has a problem, and this is the tree of what they say
+pub record IsOutlineOf (lines : List LineValue) (t : TreeValue) : Type 0 where
+  pub readings : List Reading
+  pub read : AreReadings lines readings
+  pub tree : t ≡ tree_of (names_of lines) readings

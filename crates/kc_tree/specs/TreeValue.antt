@@ -1,20 +1,90 @@
 -- A tree as contracts see it: this project's own record of what its lines say.
-use Rattle.std.specs.Prelude.{ℕ, List, [], Option, option_map, position, slice_index_or}
+use Rattle.std.specs.Prelude.{ℕ, zero, suc, Bool, List, [], ◌∷◌, Option, Some, None, option_map, position, unwrap_or, filter_map, slice_get, slice_index_or, codes}
+use Rattle.std.specs.Option.{option_map_or}
 use Rattle.std.specs.Str.{bytes_eq}
-use Rattle.kc_tree.specs.declared.symbol.SymId.{SymId}
+use Rattle.kc_tree.specs.declared.id.SymId.{SymId}
+use Rattle.kc_tree.specs.declared.id.BlockId.{BlockId}
+use Rattle.kc_tree.specs.declared.expr.Expr.{Expr}
+use Rattle.kc_tree.specs.declared.definition.Prompt.{Prompt}
+use Rattle.kc_tree.specs.declared.definition.DefaultValue.{DefaultValue}
+use Rattle.kc_tree.specs.declared.symbol.SymbolType.{SymbolType}
+use Rattle.kc_tree.specs.declared.symbol.SymbolType.TheVariants.{Bool as BoolType}
+use Rattle.kc_tree.specs.declared.symbol.Reverse.{Reverse}
+use Rattle.kc_tree.specs.declared.block.BlockKind.{BlockKind}
 use Rattle.kc_tree.specs.declared.tree.Entry.{Entry}
-use Rattle.kc_tree.specs.SymbolValue.{SymbolValue}
 
--- the names and the symbols by number, and the entries in the order of their lines
+-- one definition of a symbol: the innermost block around it, its own `depends on` lines, its first prompt and
+-- whether it has another, and its defaults, in the order of the lines
+pub record DefinitionValue : Type 0 where
+  pub symbol : SymId
+  pub block : Option BlockId
+  pub depends : List Expr
+  pub prompt : Option Prompt
+  pub has_second_prompt : Bool
+  pub defaults : List DefaultValue
+
+-- a symbol: its first type and whether a line gives it another, the numbers of its definitions, the `select` and
+-- `imply` lines that name it, and whether it has a `modules` and an `option allnoconfig_y` line
+pub record SymbolValue : Type 0 where
+  pub kind : Option SymbolType
+  pub has_other_type : Bool
+  pub definitions : List ℕ
+  pub selected : List Reverse
+  pub implied : List Reverse
+  pub has_modules : Bool
+  pub is_yes_in_allnoconfig : Bool
+
+-- a menu or an `if`: the innermost block around it, what all inside depends on, and the `visible if` lines
+pub record BlockValue : Type 0 where
+  pub kind : BlockKind
+  pub parent : Option BlockId
+  pub depends : List Expr
+  pub visible : List Expr
+
+pub record CommentValue : Type 0 where
+  pub title : List ℕ
+  pub block : Option BlockId
+  pub depends : List Expr
+
+-- the names and the symbols by number; definitions, blocks and comments by number, which is the order of their
+-- lines; and the entries in the order of their lines
 pub record TreeValue : Type 0 where
   pub names : List (List ℕ)
   pub symbols : List SymbolValue
+  pub definitions : List DefinitionValue
+  pub blocks : List BlockValue
+  pub comments : List CommentValue
   pub entries : List Entry
 
 -- the symbol of a name
+abbrev pub symbol_among : List (List ℕ) → List ℕ → Option SymId
+symbol_among names name = option_map (λ k. record { 0 = k }) (position (bytes_eq name) names)
+
 abbrev pub symbol_named : TreeValue → List ℕ → Option SymId
-symbol_named t name = option_map (λ k. record { 0 = k }) (position (bytes_eq name) t.names)
+symbol_named t name = symbol_among t.names name
 
 -- the name of a symbol, empty for a number that the tree doesn't have
 abbrev pub name_of : TreeValue → SymId → List ℕ
 name_of t s = slice_index_or t.names s.0 []
+
+-- the type of a symbol, bool where no line gives it one
+abbrev pub kind_of : SymbolValue → SymbolType
+kind_of x = unwrap_or x.kind BoolType
+
+-- the symbol that says whether modules are built
+abbrev pub modules_symbol : TreeValue → Option SymId
+modules_symbol t = symbol_named t (codes "MODULES")
+
+-- the definitions of a symbol, in the order of their lines
+abbrev pub definitions_of : TreeValue → SymbolValue → List DefinitionValue
+definitions_of t x = filter_map (slice_get t.definitions) x.definitions
+
+-- the blocks around, from the innermost outwards, as many as may be nested
+abbrev pub blocks_from : List BlockValue → ℕ → Option BlockId → List BlockValue
+blocks_from blocks zero id = []
+blocks_from blocks (suc n) None = []
+blocks_from blocks (suc n) (Some id) =
+    option_map_or (λ b. b ∷ blocks_from blocks n b.parent) (slice_get blocks id.0) []
+
+abbrev pub blocks_around : TreeValue → Option BlockId → List BlockValue
+blocks_around t id = blocks_from t.blocks 64 id

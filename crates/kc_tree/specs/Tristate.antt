@@ -28,3 +28,14 @@ is_no Yes = false
 abbrev pub least_of : List Tri → Tri
 least_of [] = Yes
 least_of (x ∷ xs) = least x (least_of xs)
+
+-- the greatest of all, which is n where there is none
+abbrev pub greatest_of : List Tri → Tri
+greatest_of [] = No
+greatest_of (x ∷ xs) = greatest x (greatest_of xs)
+
+-- `!`
+abbrev pub complement : Tri → Tri
+complement No = Yes
+complement Module = Module
+complement Yes = No

@@ -1,6 +1,50 @@
--- This project's own: the users of the nodes of a graph, while they are being collected.
-use Rattle.std.specs.Prelude.{◌≡◌, ℕ, ◌+◌, ◌<◌, ◌⊎◌, List, length, take, Contains}
+-- This project's own: the users of the nodes of a graph, while they are being counted and collected.
+use Rattle.std.specs.Prelude.{◌≡◌, ◌≢◌, ◌==◌, ℕ, ◌+◌, ◌<◌, ◌≤◌, ◌^◌, ◌⊎◌, List, length, take, slice_index, slice_index_or, Contains, count_by, flat_map}
 use Rattle.kc_tree.specs.Graph.{Uses, use_count}
+use Rattle.kc_tree.specs.NodeRows.{rows_in, numbers_of}
+use Rattle.kc_tree.specs.declared.node_rows.Span.{Span}
+use Rattle.kc_tree.specs.declared.graph.users.UserRows.{UserRows}
+
+-- how often a list names node q
+abbrev pub times : List ℕ → ℕ → ℕ
+times uses q = count_by (λ used. used == q) uses
+
+-- the uses of all rows, one after another
+abbrev pub uses_in : List (List ℕ) → List ℕ
+uses_in g = flat_map (λ uses. uses) g
+
+-- each count has grown by how often the uses name its node
+pub record AddsCounts (old new uses : List ℕ) : Type 0 where
+  pub size : length new ≡ length old
+  pub each : (q : ℕ) → q < length old → slice_index new q ≡ slice_index old q + times uses q
+
+abbrev pub start_at : List Span → ℕ → ℕ
+start_at spans i = (slice_index_or spans i (record { start = 0; end = 0 })).start
+
+abbrev pub end_at : List Span → ℕ → ℕ
+end_at spans i = (slice_index_or spans i (record { start = 0; end = 0 })).end
+
+-- the spans stand one after another within n places, span i with room i free places behind it
+pub record HasRoom (spans : List Span) (n : ℕ) (room : ℕ → ℕ) : Type 0 where
+  pub small : n < 2 ^ 32
+  pub ordered : (i : ℕ) → i < length spans → start_at spans i ≤ end_at spans i
+  pub within : (i : ℕ) → i < length spans → end_at spans i + room i ≤ n
+  pub apart : (i j : ℕ) → i < j → j < length spans → end_at spans i + room i ≤ start_at spans j
+
+-- the place behind span q is in no other span
+pub record HasPlace (spans : List Span) (n q : ℕ) : Type 0 where
+  pub small : n < 2 ^ 32
+  pub ordered : start_at spans q ≤ end_at spans q
+  pub within : end_at spans q < n
+  pub apart : (i : ℕ) → i < length spans → i ≢ q → (end_at spans i ≤ end_at spans q) ⊎ (end_at spans q < start_at spans i)
+
+-- the numbers of the users so far
+abbrev pub users_in : UserRows → List (List ℕ)
+users_in u = numbers_of (rows_in u.nodes.items u.spans.items)
+
+-- the rows of users have room for so many more
+abbrev pub HasRoomFor : UserRows → (ℕ → ℕ) → Type 0
+HasRoomFor u room = HasRoom u.spans.items (length u.nodes.items) room
 
 -- the user was added once at each of its uses, and nothing else has changed
 pub record AddsUser (old new : List (List ℕ)) (uses : List ℕ) (user : ℕ) : Type 0 where

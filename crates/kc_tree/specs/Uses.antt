@@ -1,38 +1,125 @@
--- Which nodes a node is computed from: kconfig-language.rst, "Menu dependencies", cut down to bool symbols.
-use Rattle.std.specs.Prelude.{List, [], ◌∷◌, ◌++◌, Option, Some, None, map, Contains, filter_map, slice_get}
+-- Which nodes a node is computed from: kconfig-language.rst, "Menu dependencies" and "Menu attributes".
+use Rattle.std.specs.Prelude.{Bool, true, false, ◌||◌, List, [], ◌∷◌, ◌++◌, Option, Some, None, Contains, flat_map, slice_get}
 use Rattle.std.specs.Option.{option_map_or}
-use Rattle.kc_tree.specs.declared.symbol.SymId.{SymId}
-use Rattle.kc_tree.specs.declared.symbol.Term.{Term}
-use Rattle.kc_tree.specs.declared.symbol.Term.TheVariants.{Tri, Symbol, Undefined}
+use Rattle.kc_tree.specs.declared.id.SymId.{SymId}
+use Rattle.kc_tree.specs.declared.tri.Tri.TheVariants.{No, Module, Yes}
+use Rattle.kc_tree.specs.declared.expr.Term.{Term}
+use Rattle.kc_tree.specs.declared.expr.Term.TheVariants.{Tri, Text, Symbol, Undefined}
+use Rattle.kc_tree.specs.declared.expr.Expr.{Expr}
+use Rattle.kc_tree.specs.declared.definition.DefaultValue.{DefaultValue}
+use Rattle.kc_tree.specs.declared.symbol.Reverse.{Reverse}
+use Rattle.kc_tree.specs.declared.symbol.SymbolType.TheVariants.{Tristate}
 use Rattle.kc_tree.specs.declared.node.Node.{Node}
 use Rattle.kc_tree.specs.declared.node.Node.TheVariants.{Vis, Val}
-use Rattle.kc_tree.specs.SymbolValue.{SymbolValue}
-use Rattle.kc_tree.specs.TreeValue.{TreeValue}
+use Rattle.kc_tree.specs.Grammar.{Formula, atom, compare, negation, group, both, either, formula}
+use Rattle.kc_tree.specs.TreeOf.{same_type}
+use Rattle.kc_tree.specs.TreeValue.{TreeValue, SymbolValue, DefinitionValue, BlockValue, modules_symbol, kind_of, definitions_of, blocks_around}
 
-abbrev pub term_symbol : Term → Option SymId
-term_symbol (Tri v) = None
-term_symbol (Symbol s) = Some s
-term_symbol (Undefined w) = None
+-- ---- what an expression reads
+-- the value of a symbol of the tree
+abbrev pub symbol_nodes : TreeValue → SymId → List Node
+symbol_nodes t s = option_map_or (λ x. Val s ∷ []) (slice_get t.symbols s.0) []
 
--- the values that an expression reads: those of its symbols
-abbrev pub expr_nodes : List Term → List Node
-expr_nodes terms = map Val (filter_map term_symbol terms)
+-- a constant and an undefined word give no node
+abbrev pub term_nodes : TreeValue → Term → List Node
+term_nodes t (Tri v) = []
+term_nodes t (Text w) = []
+term_nodes t (Symbol s) = symbol_nodes t s
+term_nodes t (Undefined w) = []
 
-abbrev pub exprs_nodes : List (List Term) → List Node
-exprs_nodes [] = []
-exprs_nodes (e ∷ es) = expr_nodes e ++ exprs_nodes es
+abbrev pub formula_nodes : TreeValue → Formula → List Node
+formula_nodes t (atom x) = term_nodes t x
+formula_nodes t (compare c x y) = term_nodes t x ++ term_nodes t y
+formula_nodes t (negation f) = formula_nodes t f
+formula_nodes t (group f) = formula_nodes t f
+formula_nodes t (both f g) = formula_nodes t f ++ formula_nodes t g
+formula_nodes t (either f g) = formula_nodes t f ++ formula_nodes t g
 
--- the visibility of a symbol reads its dependencies, the condition of its prompt
-abbrev pub visibility_nodes : SymbolValue → List Node
-visibility_nodes x = expr_nodes x.dependencies
+abbrev pub value_nodes : TreeValue → Expr → List Node
+value_nodes t e = formula_nodes t (formula e)
 
--- its value reads its visibility, its defaults, and its dependencies, their condition
-abbrev pub value_nodes : SymId → SymbolValue → List Node
-value_nodes s x = Vis s ∷ (exprs_nodes x.defaults ++ expr_nodes x.dependencies)
+-- the value of MODULES, where it is defined
+abbrev pub modules_nodes : TreeValue → List Node
+modules_nodes t = option_map_or (symbol_nodes t) (modules_symbol t) []
+
+abbrev pub is_module_term : Term → Bool
+is_module_term (Tri Module) = true
+is_module_term (Tri No) = false
+is_module_term (Tri Yes) = false
+is_module_term (Text w) = false
+is_module_term (Symbol s) = false
+is_module_term (Undefined w) = false
+
+-- whether `m` stands alone in it, not in a comparison
+abbrev pub has_bare_module : Formula → Bool
+has_bare_module (atom x) = is_module_term x
+has_bare_module (compare c x y) = false
+has_bare_module (negation f) = has_bare_module f
+has_bare_module (group f) = has_bare_module f
+has_bare_module (both f g) = has_bare_module f || has_bare_module g
+has_bare_module (either f g) = has_bare_module f || has_bare_module g
+
+-- a condition reads MODULES too where `m` stands alone in it
+abbrev pub nodes_if : Bool → List Node → List Node
+nodes_if true nodes = nodes
+nodes_if false nodes = []
+
+abbrev pub condition_nodes : TreeValue → Expr → List Node
+condition_nodes t e = value_nodes t e ++ nodes_if (has_bare_module (formula e)) (modules_nodes t)
+
+abbrev pub conditions_nodes : TreeValue → List Expr → List Node
+conditions_nodes t es = flat_map (condition_nodes t) es
+
+abbrev pub own_condition_nodes : TreeValue → Option Expr → List Node
+own_condition_nodes t None = []
+own_condition_nodes t (Some e) = condition_nodes t e
+
+-- ---- what the parts of a definition read
+-- what all inside some blocks depends on
+abbrev pub depends_nodes : TreeValue → List BlockValue → List Node
+depends_nodes t blocks = flat_map (λ b. conditions_nodes t b.depends) blocks
+
+-- what the prompts inside depend on besides
+abbrev pub visible_nodes : TreeValue → List BlockValue → List Node
+visible_nodes t blocks = flat_map (λ b. conditions_nodes t b.visible) blocks
+
+-- the dependencies of a definition: its own, and those of the blocks around it
+abbrev pub dependency_nodes : TreeValue → DefinitionValue → List Node
+dependency_nodes t d = conditions_nodes t d.depends ++ depends_nodes t (blocks_around t d.block)
+
+abbrev pub prompt_nodes : TreeValue → DefinitionValue → List Node
+prompt_nodes t d = option_map_or
+    (λ p. own_condition_nodes t p.condition ++ (dependency_nodes t d ++ visible_nodes t (blocks_around t d.block)))
+    d.prompt []
+
+abbrev pub default_nodes : TreeValue → DefaultValue → List Node
+default_nodes t d = value_nodes t d.value ++ own_condition_nodes t d.condition
+
+abbrev pub definition_nodes : TreeValue → DefinitionValue → List Node
+definition_nodes t d = flat_map (default_nodes t) d.defaults ++ dependency_nodes t d
+
+-- a `select` or `imply` reads the value of its symbol and its condition
+abbrev pub reverse_nodes : TreeValue → Reverse → List Node
+reverse_nodes t r =
+    symbol_nodes t r.by ++ (own_condition_nodes t r.condition
+    ++ option_map_or (dependency_nodes t) (slice_get t.definitions r.definition) [])
+
+-- ---- what a node is computed from
+-- a tristate acts as bool where there are no modules
+abbrev pub type_nodes : TreeValue → SymbolValue → List Node
+type_nodes t x = nodes_if (same_type (kind_of x) Tristate) (modules_nodes t)
+
+abbrev pub visibility_nodes : TreeValue → SymbolValue → List Node
+visibility_nodes t x = flat_map (prompt_nodes t) (definitions_of t x) ++ type_nodes t x
+
+abbrev pub symbol_value_nodes : TreeValue → SymId → SymbolValue → List Node
+symbol_value_nodes t s x =
+    Vis s ∷ (flat_map (definition_nodes t) (definitions_of t x)
+    ++ (flat_map (reverse_nodes t) x.selected ++ (flat_map (reverse_nodes t) x.implied ++ type_nodes t x)))
 
 abbrev pub used_nodes : TreeValue → Node → List Node
-used_nodes t (Vis s) = option_map_or visibility_nodes (slice_get t.symbols s.0) []
-used_nodes t (Val s) = option_map_or (value_nodes s) (slice_get t.symbols s.0) []
+used_nodes t (Vis s) = option_map_or (visibility_nodes t) (slice_get t.symbols s.0) []
+used_nodes t (Val s) = option_map_or (symbol_value_nodes t s) (slice_get t.symbols s.0) []
 
 -- p is computed from q
 unfoldable pub Uses : TreeValue → Node → Node → Type 0

@@ -9,14 +9,26 @@ use thiserror::Error;
 /// What is wrong with a line or a symbol.
 #[derive(Clone, Copy, Debug, PartialEq, Eq)]
 pub enum TreeProblem {
-    /// A limit is passed (K01).
+    /// A limit is passed (K01): of blocks in one another, parentheses, `!` in a row, or symbols.
     Limit,
+    /// A line that begins with no known word (K04).
+    UnknownStatement,
     /// A line that has not the form of a statement (K05).
     Malformed,
-    /// An attribute without an entry (K06).
+    /// An attribute whose nearest statement doesn't take it, or without one (K06).
     StrayAttribute,
+    /// A block closed wrongly, or not closed in its file (K07).
+    UnbalancedBlock,
     /// A symbol that no definition gives a type (K12).
     NoType,
+    /// A symbol with two types (K13).
+    TypeConflict,
+    /// A definition with two prompts (K14).
+    SecondPrompt,
+    /// `MODULES` that is no bool, or `modules` in another symbol (K18).
+    BadModules,
+    /// A word or a form of Kconfig that is left out (K20).
+    LeftOut,
 }
 
 /// A node with the name of its symbol.
@@ -68,9 +80,15 @@ impl TreeProblem {
     {
         match self {
             TreeProblem::Limit => 1,
+            TreeProblem::UnknownStatement => 4,
             TreeProblem::Malformed => 5,
             TreeProblem::StrayAttribute => 6,
+            TreeProblem::UnbalancedBlock => 7,
             TreeProblem::NoType => 12,
+            TreeProblem::TypeConflict => 13,
+            TreeProblem::SecondPrompt => 14,
+            TreeProblem::BadModules => 18,
+            TreeProblem::LeftOut => 20,
         }
     }
 }

@@ -4,35 +4,40 @@
 //! Both walks are loops over vectors, with no recursion: their cost grows with the number of nodes
 //! and uses.
 
-ghost use Rattle.std.specs.Prelude.{◌≡◌, ◌==◌, ◌<◌, IfErr, IfOk, OnOk, All, length};
-ghost use Rattle.kc_tree.specs.Graph.{IsClosed, IsConverse, IsOrder, HasNoLoop, lists, row, use_count};
+ghost use Rattle.std.specs.Prelude.{◌≡◌, ◌+◌, ◌<◌, ◌^◌, IfErr, IfOk, IfSome, OnOk, All, length, map, slice_get};
+ghost use Rattle.kc_tree.specs.Graph.{IsClosed, IsConverse, IsOrder, HasNoLoop, row, use_count};
+ghost use Rattle.kc_tree.specs.NodeRows.{numbers_of};
+ghost use Rattle.kc_tree.specs.Nodes.{number_of};
 
 mod search;
 #[cfg(test)]
 mod tests;
 mod users;
 
+use crate::node::Node;
+use crate::node_rows::NodeRows;
 use search::Search;
 use std::alloc::{AllocError, Global};
 use std::marker::Model;
-use users::{add_uses, empty_rows};
+use users::{UserRows, use_counts};
 
-/// The nodes that each node uses. Nodes are numbered from 0, and row `p` holds the nodes that node `p`
-/// uses.
-#[derive(Debug, Drop)]
-pub struct Graph {
-    rows: Vec<Vec<usize>>,
+/// The nodes that each node uses, over rows of nodes. Nodes are numbered from 0, and row `p` holds the nodes
+/// that node `p` uses. Contracts see the numbers of each row.
+#[derive(Drop)]
+pub struct Graph<'a> {
+    rows: &'a NodeRows,
 }
 
-impl Model for Graph {
+impl<'a> Model for Graph<'a> {
     ghost use Rattle.std.specs.Prelude.{ℕ, List};
-    ghost use Rattle.kc_tree.specs.Graph.{IsClosed, lists};
+    ghost use Rattle.kc_tree.specs.Graph.{IsClosed};
+    ghost use Rattle.kc_tree.specs.NodeRows.{numbers_of};
 
     ghost Value = { List (List ℕ) };
 
-    ghost view = { λ a. lists a.rows.items };
+    ghost view = { λ a. numbers_of a.rows.now };
 
-    ghost invariant = { λ a. IsClosed (lists a.rows.items) };
+    ghost invariant = { λ a. IsClosed (numbers_of a.rows.now) };
 }
 
 /// Why no order of a graph was made.
@@ -56,13 +61,13 @@ impl From<AllocError> for OrderFault {
     }
 }
 
-impl Graph {
+impl<'a> Graph<'a> {
     ghost use Rattle.kc_tree.specs.OrderFault.{IsTrueFault};
 
-    /// The graph with these rows. Each node that a row names has a row of its own.
-    pub fn from_rows(rows: Vec<Vec<usize>>) -> Graph
-        requires { IsClosed (lists rows.items) }
-        ensures { result ≡ lists rows.items }
+    /// The graph of rows. Each node that a row names has a row of its own.
+    pub fn of(rows: &'a NodeRows) -> Graph<'a>
+        requires { IsClosed (numbers_of rows.now) }
+        ensures { result ≡ numbers_of rows.entry.now }
     {
         Graph { rows }
     }
@@ -74,20 +79,24 @@ impl Graph {
         self.rows.len()
     }
 
-    /// Whether there is no node.
-    pub fn is_empty(&self) -> bool
-        ensures { result ≡ (length self.now == 0) }
+    /// The nodes that a node uses.
+    pub fn row(&self, node: usize) -> &[Node]
+        requires { node < length self.now }
+        ensures nodes { map number_of result.now ≡ row self.now node }
+        ensures within { All (λ used. number_of used < length self.now) result.now }
     {
-        self.rows.is_empty()
+        self.rows.row(node)
     }
 
-    /// The nodes that a node uses.
-    pub fn row(&self, node: usize) -> &[usize]
+    /// The number of the node at a place of a row.
+    pub fn use_at(&self, node: usize, place: usize) -> Option<usize>
         requires { node < length self.now }
-        ensures nodes { result.now ≡ row self.now node }
-        ensures within { All (λ used. used < length self.now) result.now }
+        ensures used { result ≡ slice_get (row self.now node) place }
+        ensures within { IfSome result (λ used. used < length self.now) }
+        ensures next { IfSome result (λ _. place + 1 < 2 ^ 64) }
     {
-        self.rows[node].as_slice()
+        let used = self.row(node).get(place)?;
+        Some(used.number())
     }
 
     /// The nodes in an order in which each comes after all that it uses, or a loop where there is one.
@@ -108,16 +117,17 @@ impl Graph {
 
     /// The users of each node: row `q` holds the nodes that use node `q`, each as often as it does.
     ///
-    /// It fails only where memory runs out.
-    pub fn users(&self, alloc: Global) -> Result<Vec<Vec<usize>>, AllocError>
-        ensures converse { IfOk result (λ users. IsConverse self.now (lists users.items)) }
-        ensures count { IfOk result (λ users. use_count (lists users.items) ≡ use_count self.now) }
+    /// It fails where memory runs out, and where 32 bits do not count the nodes or the uses.
+    pub fn users(&self, alloc: Global) -> Result<NodeRows, AllocError>
+        ensures converse { IfOk result (λ users. IsConverse self.now (numbers_of users)) }
+        ensures count { IfOk result (λ users. use_count (numbers_of users) ≡ use_count self.now) }
     {
-        let nodes = self.len();
-        let mut users = empty_rows(alloc, nodes)?;
+        let nodes = u32::try_from(self.len()).map_err(|_| AllocError)?;
+        let counts = use_counts(alloc, self)?;
+        let mut users = UserRows::with_room(alloc, counts.as_slice())?;
         for user in 0..nodes {
-            add_uses(&mut users, self.row(user), user)?;
+            users.add_uses(self, user);
         }
-        Ok(users)
+        Ok(users.into_rows())
     }
 }

@@ -1,209 +1,224 @@
-ghost use Rattle.std.specs.Prelude.{◌≡◌, ◌≤◌, [], ◌∷◌, ◌++◌, false, None, ◌&&◌, ◌||◌, if◌then◌else◌, is_some, length, OnOk, IfOk, IfErr};
-ghost use Rattle.kc_tree.specs.Statements.{statement_of};
-ghost use Rattle.kc_tree.specs.TreeOf.{config_name, is_attribute, is_config, is_type_line, names_of};
-ghost use Rattle.kc_tree.specs.Faults.{is_end, is_malformed, is_past_limit, problem_in, HasNoLineFault, IsLineFault, IsReadFault};
+//! What is wrong with a line.
 
-use crate::entry_lines::{begins_entry, belongs_to_entry, gives_type};
-use crate::fault::{TreeFault, TreeProblem};
-use crate::names::Names;
-use crate::statement::{Keyword, Statement, read_form, read_keyword};
-use kc_text::{Line, LineKind, Text};
-use std::alloc::{AllocError, Global};
-use std::marker::Model;
+ghost use Rattle.std.specs.Prelude.{◌≡◌, Some, reverse, drop};
+ghost use Rattle.std.specs.List.{list_any};
+ghost use Rattle.kc_tree.specs.Keywords.{keyword_of};
+ghost use Rattle.kc_tree.specs.LineFaults.{block_problem, closes_wrongly, early_problem, has_condition, is_fixed, is_left_out, is_past_limit, is_stray, is_unquoted, late_problem, opens_too_deep, starts_with, word_problem};
+ghost use Rattle.kc_tree.specs.Places.{open_blocks, nearest_statement};
 
-/// The number of symbols that a tree may have.
-const MOST_SYMBOLS: usize = 65_535;
+mod nesting;
 
-/// The number of lines that most entries have at least, by which room for names is made at once.
-const USUAL_LINES: usize = 4;
+use crate::fault::TreeProblem;
+use crate::keyword::Keyword;
+use crate::line_faults::nesting::nests_too_deep;
+use crate::place::{OpenBlocks, Place};
+use crate::statement::Statement;
+use kc_text::{Line, LineKind, Token};
 
-/// A line with its keyword and what it says, each read once. Contracts see the line.
-#[derive(Drop)]
-struct ReadLine<'a> {
-    line: &'a Line<'a>,
+/// The number of blocks that may be open in one another.
+const MOST_BLOCKS: usize = 64;
+
+/// Whether a token is this word, unquoted and without reference.
+fn is_fixed(word: &str, token: &Token<'_>) -> bool
+    ensures { result ≡ is_fixed word.now token.now }
+{
+    match token {
+        Token::Word(text) => text.as_str() == word,
+        Token::Expanded(_) => false,
+        Token::Quoted(_) => false,
+        Token::Operator(_) => false,
+    }
+}
+
+/// Whether tokens begin with this word, unquoted and without reference.
+fn starts_with_word(tokens: &[Token<'_>], word: &str) -> bool
+    ensures { result ≡ starts_with (is_fixed word.now) tokens.now }
+{
+    tokens.first().is_some_and(|token| is_fixed(word, token))
+}
+
+/// Whether this word is among tokens, unquoted and without reference.
+fn has_word(tokens: &[Token<'_>], word: &str) -> bool
+    ensures { result ≡ list_any (is_fixed word.now) tokens.now }
+{
+    tokens.iter().any(|token| is_fixed(word, token))
+}
+
+/// Whether tokens begin with an unquoted word.
+fn starts_unquoted(tokens: &[Token<'_>]) -> bool
+    ensures { result ≡ starts_with is_unquoted tokens.now }
+{
+    match tokens.first() {
+        Some(Token::Word(_)) => true,
+        Some(Token::Expanded(_)) => true,
+        Some(Token::Quoted(_)) => false,
+        Some(Token::Operator(_)) => false,
+        None => false,
+    }
+}
+
+/// The tokens after the first.
+fn after_first<'a, 'b>(tokens: &'a [Token<'b>]) -> &'a [Token<'b>]
+    ensures { result.now ≡ drop 1 tokens.now }
+{
+    let Some((_, rest)) = tokens.split_first() else {
+        return tokens;
+    };
+    rest
+}
+
+/// Whether the tokens after `depends` have a condition of their own.
+fn has_condition(tokens: &[Token<'_>]) -> bool
+    ensures { result ≡ has_condition tokens.now }
+{
+    starts_with_word(tokens, "on") && has_word(after_first(tokens), "if")
+}
+
+/// Whether a form is left out, by its keyword and the tokens after that.
+fn is_left_out(keyword: Keyword, tokens: &[Token<'_>]) -> bool
+    ensures { result ≡ is_left_out keyword tokens.now }
+{
+    match keyword {
+        Keyword::LeftOut => true,
+        Keyword::Option => {
+            starts_with_word(tokens, "env") || starts_with_word(tokens, "defconfig_list")
+        }
+        Keyword::Depends => has_condition(tokens),
+        _ => keyword.wants_quotes() && starts_unquoted(tokens),
+    }
+}
+
+/// Whether an attribute stands where the nearest statement doesn't take it.
+fn is_stray(place: &Place, seen: &[Line<'_>], keyword: Keyword) -> bool
+    requires { place.now.statement ≡ nearest_statement (reverse seen.now) }
+    ensures { result ≡ is_stray (reverse seen.now) keyword }
+{
+    keyword.is_attribute()
+        && !place
+            .statement()
+            .is_some_and(|statement| statement.takes(keyword))
+}
+
+/// Whether a closer of a run stands where the innermost block is not of its kind and run.
+fn closes_wrongly(blocks: &OpenBlocks, keyword: Keyword, run: usize) -> bool
+    ensures { result ≡ closes_wrongly blocks.now keyword run }
+{
+    keyword.closes()
+        && !blocks.innermost().is_some_and(|block| keyword.is_end_of(block.keyword)
+            && block.run == run)
+}
+
+/// Whether a line of this keyword closes a block wrongly, or is the last and leaves one open.
+fn block_problem(
+    place: &Place,
+    seen: &[Line<'_>],
+    line: &Line<'_>,
+    keyword: Keyword,
+    is_last: bool,
+) -> bool
+    requires stack { place.now.stack ≡ open_blocks (reverse seen.now) }
+    requires keyword { keyword_of line.now ≡ Some keyword }
+    ensures { result ≡ block_problem (reverse seen.now) is_last keyword line.now }
+{
+    let blocks = place.open_blocks();
+    closes_wrongly(blocks, keyword, line.run()) || is_last && blocks.stays_open(keyword)
+}
+
+/// The problem of a line of a keyword, before its form is looked at.
+fn word_problem(
+    place: &Place,
+    seen: &[Line<'_>],
+    line: &Line<'_>,
+    keyword: Keyword,
+    is_last: bool,
+) -> Option<TreeProblem>
+    requires stack { place.now.stack ≡ open_blocks (reverse seen.now) }
+    requires statement { place.now.statement ≡ nearest_statement (reverse seen.now) }
+    requires keyword { keyword_of line.now ≡ Some keyword }
+    ensures { result ≡ word_problem (reverse seen.now) is_last keyword line.now }
+{
+    if is_left_out(keyword, after_first(line.tokens())) {
+        Some(TreeProblem::LeftOut)
+    } else if is_stray(place, seen, keyword) {
+        Some(TreeProblem::StrayAttribute)
+    } else if block_problem(place, seen, line, keyword, is_last) {
+        Some(TreeProblem::UnbalancedBlock)
+    } else if nests_too_deep(line.tokens()) {
+        Some(TreeProblem::Limit)
+    } else {
+        None
+    }
+}
+
+/// The problem of a line of this keyword, before its form is looked at. `seen` are the lines before it, after which
+/// the place is; `is_last` says that no line follows.
+pub(crate) fn early_problem(
+    place: &Place,
+    seen: &[Line<'_>],
+    line: &Line<'_>,
     keyword: Option<Keyword>,
-    statement: Option<Statement<'a>>,
-}
-
-impl<'a> Model for ReadLine<'a> {
-    ghost use Rattle.kc_text.specs.LineValue.{LineValue};
-    ghost use Rattle.kc_tree.specs.Faults.{IsRead};
-
-    ghost Value = { LineValue };
-
-    ghost view = { λ r. r.line.now };
-
-    ghost invariant = { λ r. IsRead r.line.now r.keyword r.statement };
-}
-
-impl<'a> ReadLine<'a> {
-    /// Reads a line.
-    fn of(line: &'a Line<'a>) -> ReadLine<'a>
-        ensures { result ≡ line.now }
-    {
-        let keyword = read_keyword(line);
-        ReadLine {
-            line,
-            keyword,
-            statement: read_form(line, keyword),
-        }
-    }
-
-    /// Whether it is the end of a file.
-    fn is_end(&self) -> bool
-        ensures { result ≡ is_end self.now.kind }
-    {
-        self.line.kind() == LineKind::EndOfFile
-    }
-
-    /// Whether it has the form of a statement.
-    fn has_form(&self) -> bool
-        ensures { result ≡ is_some (statement_of self.now) }
-    {
-        self.statement.is_some()
-    }
-
-    /// Whether it begins an entry.
-    fn is_config(&self) -> bool
-        ensures { result ≡ is_config self.now }
-    {
-        begins_entry(self.keyword)
-    }
-
-    /// Whether it belongs to the entry before it.
-    fn is_attribute(&self) -> bool
-        ensures { result ≡ is_attribute self.now }
-    {
-        belongs_to_entry(self.keyword)
-    }
-
-    /// Whether it gives its entry the type.
-    fn is_type_line(&self) -> bool
-        ensures { result ≡ is_type_line self.now }
-    {
-        gives_type(self.keyword)
-    }
-
-    /// The name that it defines, empty for a line that defines none.
-    fn config_name(&self) -> &str
-        ensures { result.now ≡ config_name self.now }
-    {
-        match &self.statement {
-            Some(Statement::Definition(name)) => name.as_str(),
-            _ => "",
-        }
-    }
-}
-
-/// What is known of the lines so far.
-#[derive(Drop)]
-struct LinesSoFar {
-    names: Names,
-    /// Whether an attribute that came next would belong to an entry.
-    in_entry: bool,
-    /// Whether that entry has its `bool` line.
-    typed: bool,
-}
-
-impl LinesSoFar {
-    /// Before the first of so many lines.
-    fn new(alloc: Global, lines: usize) -> Result<LinesSoFar, AllocError>
-        ensures names { IfOk result (λ l. l.names ≡ []) }
-        ensures in_entry { IfOk result (λ l. l.in_entry ≡ false) }
-        ensures typed { IfOk result (λ l. l.typed ≡ false) }
-    {
-        Ok(LinesSoFar {
-            names: Names::with_capacity(alloc, (lines / USUAL_LINES).min(MOST_SYMBOLS))?,
-            in_entry: false,
-            typed: false,
-        })
-    }
-
-    /// Whether a line has no form, defines a name again or gives its entry a second type.
-    fn is_malformed(&self, line: &ReadLine<'_>) -> bool
-        ensures { result ≡ is_malformed self.now.names self.now.typed line.now }
-    {
-        !line.has_form()
-            || line.is_config() && self.names.contains(line.config_name())
-            || line.is_type_line() && self.typed
-    }
-
-    /// Whether a line defines one symbol more than there may be.
-    fn is_past_limit(&self, line: &ReadLine<'_>) -> bool
-        ensures { result ≡ is_past_limit self.now.names line.now }
-    {
-        line.is_config() && self.names.len() >= MOST_SYMBOLS
-    }
-
-    /// The problem of the line that comes next.
-    fn problem(&self, line: &ReadLine<'_>) -> Option<TreeProblem>
-        ensures { result ≡ problem_in self.now.names self.now.in_entry self.now.typed line.now }
-    {
-        if line.is_end() {
-            None
-        } else if line.is_attribute() && !self.in_entry {
-            Some(TreeProblem::StrayAttribute)
-        } else if self.is_malformed(line) {
-            Some(TreeProblem::Malformed)
-        } else if self.is_past_limit(line) {
-            Some(TreeProblem::Limit)
-        } else {
-            None
-        }
-    }
-
-    /// Goes past a line that has no problem.
-    fn take(&mut self, alloc: Global, line: &ReadLine<'_>) -> Result<(), AllocError>
-        requires { problem_in self.old.names self.old.in_entry self.old.typed line.now ≡ None }
-        ensures names { OnOk result (self.new.names ≡ (if is_config line.now then self.old.names ++ config_name line.now ∷ [] else self.old.names)) }
-        ensures in_entry { OnOk result (self.new.in_entry ≡ (if is_attribute line.now then self.old.in_entry else is_config line.now)) }
-        ensures typed { OnOk result (self.new.typed ≡ (is_attribute line.now && (is_type_line line.now || self.old.typed))) }
-    {
-        match line.keyword {
-            Some(Keyword::Config) => {
-                self.names.add(alloc, line.config_name())?;
-                self.in_entry = true;
-                self.typed = false;
-            }
-            Some(Keyword::Bool) => self.typed = true,
-            Some(Keyword::Default | Keyword::Depends | Keyword::Help) => {}
-            None => {
-                self.in_entry = false;
-                self.typed = false;
-            }
-        }
-        Ok(())
-    }
-}
-
-/// The fault of a line with a problem, or that its path could not be copied.
-fn line_fault(alloc: Global, problem: TreeProblem, line: &Line<'_>) -> TreeFault
-    ensures { IsLineFault problem line.now result }
+    is_last: bool,
+) -> Option<TreeProblem>
+    requires stack { place.now.stack ≡ open_blocks (reverse seen.now) }
+    requires statement { place.now.statement ≡ nearest_statement (reverse seen.now) }
+    requires keyword { keyword ≡ keyword_of line.now }
+    ensures { result ≡ early_problem (reverse seen.now) is_last line.now }
 {
-    match Text::copy_of(alloc, line.path()) {
-        Ok(path) => TreeFault::Line {
-            problem,
-            path,
-            line: line.number(),
+    match line.kind() {
+        LineKind::Statement => match keyword {
+            Some(word) => word_problem(place, seen, line, word, is_last),
+            None => Some(TreeProblem::UnknownStatement),
         },
-        Err(_) => TreeFault::NoMemory,
+        LineKind::EndOfFile => {
+            let blocks = place.open_blocks();
+            if blocks.has_run(line.run()) || is_last && blocks.len() > 0 {
+                Some(TreeProblem::UnbalancedBlock)
+            } else {
+                None
+            }
+        }
     }
 }
 
-/// The names of the symbols that lines define, or the fault of the first line with a problem.
-pub(crate) fn read_names(alloc: Global, lines: &[Line<'_>]) -> Result<Names, TreeFault>
-    ensures names { IfOk result (λ names. names ≡ names_of lines.now) }
-    ensures few { IfOk result (λ names. length names ≤ 65535) }
-    ensures faultless { OnOk result (HasNoLineFault lines.now) }
-    ensures fault { IfErr result (IsReadFault lines.now) }
+/// Whether a line opens one block more than may be open.
+fn opens_too_deep(
+    place: &Place,
+    seen: &[Line<'_>],
+    line: &Line<'_>,
+    keyword: Option<Keyword>,
+) -> bool
+    requires stack { place.now.stack ≡ open_blocks (reverse seen.now) }
+    requires keyword { keyword ≡ keyword_of line.now }
+    ensures { result ≡ opens_too_deep (reverse seen.now) line.now }
 {
-    let mut so_far = LinesSoFar::new(alloc, lines.len())?;
-    for line in lines {
-        let read = ReadLine::of(line);
-        if let Some(problem) = so_far.problem(&read) {
-            return Err(line_fault(alloc, problem, line));
-        }
-        so_far.take(alloc, &read).map_err(|_| TreeFault::NoMemory)?;
+    match keyword {
+        Some(word) => word.opens() && place.open_blocks().len() >= MOST_BLOCKS,
+        None => false,
     }
-    Ok(so_far.names)
+}
+
+/// Whether a statement defines one symbol more than there may be.
+fn is_past_limit(statement: &Statement) -> bool
+    ensures { result ≡ is_past_limit statement.now }
+{
+    matches!(statement, Statement::Config(None))
+}
+
+/// The problem of a line that has a form: a block too deep, or a symbol too many.
+pub(crate) fn late_problem(
+    place: &Place,
+    seen: &[Line<'_>],
+    line: &Line<'_>,
+    keyword: Option<Keyword>,
+    statement: &Statement,
+) -> Option<TreeProblem>
+    requires stack { place.now.stack ≡ open_blocks (reverse seen.now) }
+    requires keyword { keyword ≡ keyword_of line.now }
+    ensures { result ≡ late_problem (reverse seen.now) line.now statement.now }
+{
+    if opens_too_deep(place, seen, line, keyword) || is_past_limit(statement) {
+        Some(TreeProblem::Limit)
+    } else {
+        None
+    }
 }

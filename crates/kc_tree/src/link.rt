@@ -1,21 +1,23 @@
-//! From names and symbols to a tree: the order of its nodes or a loop, and what each node uses and is used by.
+//! From what lines define to a tree: the faults of symbols, the order of the nodes or a loop, and what each node uses
+//! and is used by.
 
-ghost use Rattle.std.specs.Prelude.{◌≡◌, ◌≤◌, ◌<◌, ◌^◌, IfErr, IfOk, OnOk, length, map, All};
-ghost use Rattle.std.specs.List.{range_with_len};
+ghost use Rattle.std.specs.Prelude.{◌≡◌, ◌≤◌, ◌<◌, ◌^◌, IfErr, IfOk, OnOk, None, All, length, map};
 ghost use Rattle.kc_tree.specs.TreeValue.{TreeValue};
 ghost use Rattle.kc_tree.specs.Nodes.{node_at};
-ghost use Rattle.kc_tree.specs.Order.{IsOrder};
-ghost use Rattle.kc_tree.specs.Known.{HasKnownTerms};
 ghost use Rattle.kc_tree.specs.NodeGraph.{IsGraphOf};
-ghost use Rattle.kc_tree.specs.Linked.{linked, named_node, IsLoopless, IsLinkFault};
+ghost use Rattle.kc_tree.specs.Order.{IsOrder};
+ghost use Rattle.kc_tree.specs.Accepted.{IsEntryOf};
+ghost use Rattle.kc_tree.specs.SymbolFaults.{symbol_fault};
+ghost use Rattle.kc_tree.specs.Faults.{IsLoopless, IsTreeProblem};
+ghost use Rattle.kc_tree.specs.Linked.{named_node, IsLinkFault};
 
 use crate::fault::{NamedNode, TreeFault};
 use crate::graph::{Graph, OrderFault};
 use crate::names::Names;
 use crate::node::Node;
-use crate::node_rows::NodeRows;
-use crate::symbol::{SymId, Symbol};
-use crate::tree::{Entry, Tree};
+use crate::outline::Outline;
+use crate::symbol_faults::symbol_fault;
+use crate::tree::Tree;
 use crate::uses::used_rows;
 use kc_text::Text;
 use std::alloc::{AllocError, Global};
@@ -49,20 +51,10 @@ fn named_nodes(
     Ok(nodes)
 }
 
-/// The entry of each of some symbols.
-fn entries(alloc: Global, symbols: usize) -> Result<Vec<Entry>, AllocError>
-    requires { symbols ≤ 65535 }
-    ensures { IfOk result (λ entries. entries.items ≡ map (λ k. Entry.Symbol (record { 0 = k })) (range_with_len 0 symbols)) }
-{
-    (0..symbols)
-        .map(|number| Entry::Symbol(SymId(number as u32)))
-        .collect(alloc)
-}
-
 /// The nodes in an order in which each comes after all that it uses.
 ///
 /// It fails where nodes form a loop, with the nodes of one, and where memory is refused.
-fn node_order(alloc: Global, names: &Names, graph: &Graph) -> Result<Vec<Node>, TreeFault>
+fn node_order(alloc: Global, names: &Names, graph: &Graph<'_>) -> Result<Vec<Node>, TreeFault>
     requires { length graph.now < 2 ^ 32 }
     ensures order { IfOk result (λ order. (t : TreeValue) → IsGraphOf t graph.now → IsOrder t order.items) }
     ensures loopless { OnOk result ((t : TreeValue) → IsGraphOf t graph.now → IsLoopless t) }
@@ -79,28 +71,44 @@ fn node_order(alloc: Global, names: &Names, graph: &Graph) -> Result<Vec<Node>, 
     Ok(nodes(alloc, numbers.as_slice())?)
 }
 
-/// The tree of names and symbols, with an entry for each symbol.
-///
-/// It fails where nodes form a loop, with the nodes of one and their names, and where memory is refused.
-pub(crate) fn link(alloc: Global, names: Names, symbols: Vec<Symbol>) -> Result<Tree, TreeFault>
-    requires few { length symbols.items ≤ 65535 }
-    requires named { length names ≡ length symbols.items }
-    requires known { HasKnownTerms symbols.items }
-    ensures tree { IfOk result (λ tree. tree ≡ linked names symbols.items) }
-    ensures loopless { OnOk result (IsLoopless (linked names symbols.items)) }
-    ensures fault { IfErr result (IsLinkFault (linked names symbols.items)) }
+/// The fault of the first symbol that has one, with its name.
+fn check_symbols(alloc: Global, outline: &Outline) -> Result<(), TreeFault>
+    requires { length outline.now.symbols ≤ 65535 }
+    ensures faultless { OnOk result (symbol_fault outline.now ≡ None) }
+    ensures fault { IfErr result (IsTreeProblem outline.now) }
 {
-    let rows = used_rows(alloc, symbols.as_slice())?;
-    let uses = NodeRows::of(alloc, rows.as_slice())?;
-    let graph = Graph::from_rows(rows);
-    let order = node_order(alloc, &names, &graph)?;
-    let users = graph.users(alloc)?;
-    let used_by = NodeRows::of(alloc, users.as_slice())?;
-    let entries = entries(alloc, symbols.len())?;
+    let Some((problem, symbol)) = symbol_fault(outline) else {
+        return Ok(());
+    };
+    let name = Text::copy_of(alloc, outline.names.get(symbol.0 as usize))?;
+    Err(TreeFault::Symbol { problem, name })
+}
+
+/// The tree of what lines define.
+///
+/// It fails with the first fault of a symbol; else where nodes form a loop, with the nodes of one and their names; and
+/// where memory is refused.
+pub(crate) fn link(alloc: Global, outline: Outline) -> Result<Tree, TreeFault>
+    requires few { length outline.symbols ≤ 65535 }
+    requires named { length outline.names ≡ length outline.symbols }
+    requires entries { All (IsEntryOf outline) outline.entries }
+    ensures tree { IfOk result (λ tree. tree ≡ outline) }
+    ensures symbols { OnOk result (symbol_fault outline ≡ None) }
+    ensures loopless { OnOk result (IsLoopless outline) }
+    ensures fault { IfErr result (IsTreeProblem outline) }
+{
+    check_symbols(alloc, &outline)?;
+    let uses = used_rows(alloc, &outline)?;
+    let graph = Graph::of(&uses);
+    let order = node_order(alloc, &outline.names, &graph)?;
+    let used_by = graph.users(alloc)?;
     Ok(Tree {
-        names,
-        symbols,
-        entries,
+        names: outline.names,
+        symbols: outline.symbols,
+        definitions: outline.definitions,
+        blocks: outline.blocks,
+        comments: outline.comments,
+        entries: outline.entries,
         order,
         uses,
         used_by,

@@ -1,7 +1,7 @@
 ghost use Rattle.std.specs.Prelude.{◌≡◌, ◌<◌, ◌^◌};
 ghost use Rattle.kc_tree.specs.Nodes.{number_of, node_symbol, node_at};
 
-use crate::symbol::SymId;
+use crate::id::SymId;
 
 /// What is computed of a tree: two nodes for each symbol.
 #[derive(Clone, Copy, Debug, PartialEq, Eq)]

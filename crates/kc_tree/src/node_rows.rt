@@ -1,8 +1,8 @@
 //! Rows of nodes in one vector, of which a row takes no memory of its own.
 
-ghost use Rattle.std.specs.Prelude.{◌≡◌, ◌<◌, ◌^◌, ◌++◌, ℕ, [], All, IfOk, OnOk, map, slice_index_or};
+ghost use Rattle.std.specs.Prelude.{◌≡◌, ◌≤◌, ◌<◌, ◌^◌, [], ◌∷◌, ◌++◌, All, IfOk, OnOk, length, map, slice_index_or};
 ghost use Rattle.kc_tree.specs.Nodes.{node_at};
-ghost use Rattle.kc_tree.specs.Graph.{lists, Uses};
+ghost use Rattle.kc_tree.specs.NodeRows.{rows_in, FitsIn};
 
 use crate::node::Node;
 use std::alloc::{AllocError, Global};
@@ -10,9 +10,9 @@ use std::marker::Model;
 
 /// Where a row stands among the nodes.
 #[derive(Clone, Copy)]
-struct Span {
-    start: usize,
-    end: usize,
+pub(crate) struct Span {
+    pub(crate) start: u32,
+    pub(crate) end: u32,
 }
 
 /// Rows of nodes, one after another. Contracts see the list of the rows.
@@ -23,30 +23,29 @@ pub(crate) struct NodeRows {
 }
 
 impl Model for NodeRows {
-    ghost use Rattle.std.specs.Prelude.{List, All, length, map};
+    ghost use Rattle.std.specs.Prelude.{List, All, length};
     ghost use Rattle.kc_tree.specs.declared.node.Node.{Node};
-    ghost use Rattle.kc_tree.specs.NodeRows.{row_in, FitsIn};
+    ghost use Rattle.kc_tree.specs.NodeRows.{rows_in, FitsIn};
 
     ghost Value = { List (List Node) };
 
-    ghost view = { λ r. map (row_in r.nodes.items) r.spans.items };
+    ghost view = { λ r. rows_in r.nodes.items r.spans.items };
 
     ghost invariant = { λ r. All (FitsIn (length r.nodes.items)) r.spans.items };
 }
 
-/// How many numbers rows have.
-fn count_of(rows: &[Vec<usize>]) -> usize {
-    let mut count = 0usize;
-    for row in rows {
-        count = count.saturating_add(row.len());
-    }
-    count
+/// The place behind the last node, in the 32 bits of a span.
+fn end_of(nodes: &[Node]) -> Result<u32, AllocError>
+    ensures { IfOk result (λ end. end ≡ length nodes.now) }
+{
+    u32::try_from(nodes.len()).map_err(|_| AllocError)
 }
 
 /// Adds the nodes of numbers.
 fn add_nodes(nodes: &mut Vec<Node>, numbers: &[usize]) -> Result<(), AllocError>
     requires { All (λ k. k < 2 ^ 32) numbers.now }
-    ensures { OnOk result (nodes.new.items ≡ nodes.old.items ++ map node_at numbers.now) }
+    ensures added { OnOk result (nodes.new.items ≡ nodes.old.items ++ map node_at numbers.now) }
+    ensures longer { length nodes.old.items ≤ length nodes.new.items }
 {
     for number in numbers {
         nodes.push(Node::at(*number))?;
@@ -55,20 +54,43 @@ fn add_nodes(nodes: &mut Vec<Node>, numbers: &[usize]) -> Result<(), AllocError>
 }
 
 impl NodeRows {
-    /// The nodes of each row of numbers.
-    pub(crate) fn of(alloc: Global, rows: &[Vec<usize>]) -> Result<NodeRows, AllocError>
-        requires { (p q : ℕ) → Uses (lists rows.now) p q → q < 2 ^ 32 }
-        ensures { IfOk result (λ table. table ≡ map (λ r. map node_at r) (lists rows.now)) }
+    /// No rows, with room for so many.
+    pub(crate) fn with_capacity(alloc: Global, rows: usize) -> Result<NodeRows, AllocError>
+        ensures { IfOk result (λ r. r ≡ []) }
     {
-        let mut spans = Vec::with_capacity(alloc, rows.len())?;
-        let mut nodes = Vec::with_capacity(alloc, count_of(rows))?;
-        for row in rows {
-            let start = nodes.len();
-            add_nodes(&mut nodes, row.as_slice())?;
-            let end = nodes.len();
-            spans.push(Span { start, end })?;
-        }
-        Ok(NodeRows { spans, nodes })
+        Ok(NodeRows {
+            spans: Vec::with_capacity(alloc, rows)?,
+            nodes: Vec::with_capacity(alloc, rows)?,
+        })
+    }
+
+    /// The rows that spans cut out of nodes.
+    pub(crate) fn of_spans(spans: Vec<Span>, nodes: Vec<Node>) -> NodeRows
+        requires { All (FitsIn (length nodes.items)) spans.items }
+        ensures { result ≡ rows_in nodes.items spans.items }
+    {
+        NodeRows { spans, nodes }
+    }
+
+    /// Adds a row with the nodes of numbers.
+    ///
+    /// It fails where memory runs out, and where 32 bits do not count the nodes of all rows.
+    pub(crate) fn add_row(&mut self, numbers: &[usize]) -> Result<(), AllocError>
+        requires { All (λ k. k < 2 ^ 32) numbers.now }
+        ensures { OnOk result (self.new ≡ self.old ++ map node_at numbers.now ∷ []) }
+    {
+        let start = end_of(self.nodes.as_slice())?;
+        add_nodes(&mut self.nodes, numbers)?;
+        let end = end_of(self.nodes.as_slice())?;
+        self.spans.push(Span { start, end })?;
+        Ok(())
+    }
+
+    /// How many rows there are.
+    pub(crate) fn len(&self) -> usize
+        ensures { result ≡ length self.now }
+    {
+        self.spans.len()
     }
 
     /// The row of a number, empty past the last.
@@ -76,7 +98,7 @@ impl NodeRows {
         ensures { result.now ≡ slice_index_or self.now number [] }
     {
         match self.spans.get(number) {
-            Some(span) => &self.nodes[span.start..span.end],
+            Some(span) => &self.nodes[span.start as usize..span.end as usize],
             None => &[],
         }
     }

@@ -1,124 +1,151 @@
-ghost use Rattle.std.specs.Prelude.{◌≡◌, [], ◌∷◌};
+ghost use Rattle.std.specs.Prelude.{◌≡◌, None, Some, true, false, OnOk};
+ghost use Rattle.kc_tree.specs.TreeValue.{kind_of};
+ghost use Rattle.kc_tree.specs.Adding.{new_symbol, symbol_after, with_definition, with_selection, with_implication};
 
-use crate::tri::Tri;
-use kc_text::Text;
+use crate::expr::Expr;
+use crate::id::SymId;
+use crate::room::push_one;
+use std::alloc::{AllocError, Global};
 use std::marker::Model;
-use std::slice;
 
-/// The number of a symbol, from 0 in the order of first definitions.
+/// The type of a symbol (kconfig-language.rst, "Menu attributes").
 #[derive(Clone, Copy, Debug, PartialEq, Eq)]
-pub struct SymId(pub u32);
+pub enum SymbolType {
+    /// `bool`: n or y.
+    Bool,
+    /// `tristate`: n, m or y.
+    Tristate,
+}
 
-/// A term of an expression.
+/// A `select` or `imply` of a symbol. It stands at the symbol that it names.
 #[derive(Debug, Drop)]
-pub enum Term {
-    /// One of the words n, m and y.
-    Tri(Tri),
-    /// A defined symbol.
-    Symbol(SymId),
-    /// A word that no definition names.
-    Undefined(Text),
+pub struct Reverse {
+    /// The symbol in whose definition the line stands.
+    pub by: SymId,
+    /// The number of that definition, whose dependencies are part of the condition.
+    pub definition: usize,
+    /// The condition after `if`.
+    pub condition: Option<Expr>,
 }
 
-/// The terms of an expression. One alone takes no memory of its own.
-#[derive(Debug, Drop)]
-enum Terms {
-    One(Term),
-    Many(Vec<Term>),
-}
-
-/// An expression: the `&&` of its terms, which is y where there is none. Contracts see the list of the terms.
-#[derive(Debug, Drop)]
-pub struct Expr {
-    terms: Terms,
-}
-
-impl Model for Expr {
-    ghost use Rattle.std.specs.Prelude.{List};
-    ghost use Rattle.kc_tree.specs.declared.symbol.Term.{Term};
-    ghost use Rattle.kc_tree.specs.ExprTerms.{term_list};
-
-    ghost Value = { List Term };
-
-    ghost view = { λ e. term_list e.terms };
-}
-
-impl Expr {
-    /// The expression of its terms.
-    pub fn new(terms: Vec<Term>) -> Expr
-        ensures { result ≡ terms.items }
-    {
-        Expr {
-            terms: Terms::Many(terms),
-        }
-    }
-
-    /// The expression of a term alone, which takes no memory.
-    pub fn single(term: Term) -> Expr
-        ensures { result ≡ term ∷ [] }
-    {
-        Expr {
-            terms: Terms::One(term),
-        }
-    }
-
-    /// The terms that `&&` joins.
-    pub fn terms(&self) -> &[Term]
-        ensures { result.now ≡ self.now }
-    {
-        match &self.terms {
-            Terms::One(term) => slice::from_ref(term),
-            Terms::Many(terms) => terms.as_slice(),
-        }
-    }
-}
-
-/// A bool symbol, without its name. Contracts see the record of its parts.
+/// A symbol without its name: its type, its definitions, and the `select` and `imply` lines that name it. Contracts
+/// see the record of its parts.
 #[derive(Debug, Drop)]
 pub struct Symbol {
-    prompt: Text,
-    defaults: Vec<Expr>,
-    dependencies: Expr,
+    pub(crate) kind: Option<SymbolType>,
+    pub(crate) has_other_type: bool,
+    pub(crate) definitions: Vec<usize>,
+    pub(crate) selected: Vec<Reverse>,
+    pub(crate) implied: Vec<Reverse>,
+    pub(crate) has_modules: bool,
+    pub(crate) is_yes_in_allnoconfig: bool,
 }
 
 impl Model for Symbol {
-    ghost use Rattle.kc_tree.specs.SymbolValue.{SymbolValue};
+    ghost use Rattle.kc_tree.specs.TreeValue.{SymbolValue};
+    ghost use Rattle.kc_tree.specs.contracts.expr.Expr as expr;
+    ghost use Rattle.std.specs.Coded.{codes};
 
     ghost Value = { SymbolValue };
 
-    ghost view = { λ s. record { prompt = s.prompt; defaults = s.defaults.items; dependencies = s.dependencies } };
+    ghost coded = { Prim.hlevel (codes, expr.the_row.coded) };
+
+    ghost view = { λ s. record { kind = s.kind; has_other_type = s.has_other_type; definitions = s.definitions.items; selected = s.selected.items; implied = s.implied.items; has_modules = s.has_modules; is_yes_in_allnoconfig = s.is_yes_in_allnoconfig } };
 }
 
 impl Symbol {
-    /// A symbol of its prompt, the values of its defaults and the terms of its `depends on` lines.
-    pub fn new(prompt: Text, defaults: Vec<Expr>, dependencies: Expr) -> Symbol
-        ensures { result ≡ record { prompt = prompt; defaults = defaults.items; dependencies = dependencies } }
+    /// Of which no line says anything yet.
+    pub(crate) fn new(alloc: Global) -> Symbol
+        ensures { result ≡ new_symbol }
     {
         Symbol {
-            prompt,
-            defaults,
-            dependencies,
+            kind: None,
+            has_other_type: false,
+            definitions: Vec::new(alloc),
+            selected: Vec::new(alloc),
+            implied: Vec::new(alloc),
+            has_modules: false,
+            is_yes_in_allnoconfig: false,
         }
     }
 
-    /// The text of the prompt.
-    pub fn prompt(&self) -> &str
-        ensures { result.now ≡ self.now.prompt }
+    /// Takes a type: the first one stays.
+    pub(crate) fn take_type(&mut self, kind: SymbolType)
+        ensures { self.new ≡ symbol_after (Some kind) false false self.old }
     {
-        self.prompt.as_str()
+        match self.kind {
+            None => self.kind = Some(kind),
+            Some(first) => self.has_other_type = self.has_other_type || first != kind,
+        }
     }
 
-    /// The values of the defaults, in the order of their lines.
-    pub fn defaults(&self) -> &[Expr]
-        ensures { result.now ≡ self.now.defaults }
+    /// Takes the number of a definition.
+    pub(crate) fn take_definition(&mut self, number: usize) -> Result<(), AllocError>
+        ensures { OnOk result (self.new ≡ with_definition number self.old) }
     {
-        self.defaults.as_slice()
+        push_one(&mut self.definitions, number)
     }
 
-    /// The `&&` of all `depends on` lines, the condition of the prompt and of each default.
-    pub fn dependencies(&self) -> &Expr
-        ensures { result.now ≡ self.now.dependencies }
+    /// Takes a `select` line that names it.
+    pub(crate) fn take_selection(&mut self, line: Reverse) -> Result<(), AllocError>
+        ensures { OnOk result (self.new ≡ with_selection line self.old) }
     {
-        &self.dependencies
+        push_one(&mut self.selected, line)
+    }
+
+    /// Takes an `imply` line that names it.
+    pub(crate) fn take_implication(&mut self, line: Reverse) -> Result<(), AllocError>
+        ensures { OnOk result (self.new ≡ with_implication line self.old) }
+    {
+        push_one(&mut self.implied, line)
+    }
+
+    /// Takes a `modules` line.
+    pub(crate) fn take_modules(&mut self)
+        ensures { self.new ≡ symbol_after None true false self.old }
+    {
+        self.has_modules = true;
+    }
+
+    /// Takes an `option allnoconfig_y` line.
+    pub(crate) fn take_yes_in_allnoconfig(&mut self)
+        ensures { self.new ≡ symbol_after None false true self.old }
+    {
+        self.is_yes_in_allnoconfig = true;
+    }
+
+    /// The type.
+    pub fn kind(&self) -> SymbolType
+        ensures { result ≡ kind_of self.now }
+    {
+        self.kind.unwrap_or(SymbolType::Bool)
+    }
+
+    /// The numbers of its definitions, in the order of their lines.
+    pub fn definitions(&self) -> &[usize]
+        ensures { result.now ≡ self.now.definitions }
+    {
+        self.definitions.as_slice()
+    }
+
+    /// The `select` lines that name it, in their order.
+    pub fn selected(&self) -> &[Reverse]
+        ensures { result.now ≡ self.now.selected }
+    {
+        self.selected.as_slice()
+    }
+
+    /// The `imply` lines that name it, in their order.
+    pub fn implied(&self) -> &[Reverse]
+        ensures { result.now ≡ self.now.implied }
+    {
+        self.implied.as_slice()
+    }
+
+    /// Whether the command `allno` gives it y, by `option allnoconfig_y`.
+    pub fn is_yes_in_allnoconfig(&self) -> bool
+        ensures { result ≡ self.now.is_yes_in_allnoconfig }
+    {
+        self.is_yes_in_allnoconfig
     }
 }

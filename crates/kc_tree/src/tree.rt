@@ -1,38 +1,52 @@
 ghost use Rattle.std.specs.Prelude.{◌≡◌, ◌<◌, IfSome, IfOk, IfErr, length, Contains, ◌↔◌};
-ghost use Rattle.kc_tree.specs.TreeValue.{symbol_named, name_of};
+ghost use Rattle.kc_tree.specs.TreeValue.{symbol_named, name_of, modules_symbol};
 ghost use Rattle.kc_tree.specs.Nodes.{all_nodes, node_count, IsNodeOf};
 ghost use Rattle.kc_tree.specs.Uses.{Uses};
 ghost use Rattle.kc_tree.specs.Order.{IsOrder};
-ghost use Rattle.kc_tree.specs.Accepted.{IsAccepted, HasEachEntry};
-ghost use Rattle.kc_tree.specs.Fits.{fits_bool};
+ghost use Rattle.kc_tree.specs.Accepted.{IsAccepted};
+ghost use Rattle.kc_tree.specs.Fits.{fits};
 
+use crate::block::{Block, Comment};
+use crate::definition::Definition;
 use crate::fault::TreeFault;
-use crate::lines::read_symbols;
+use crate::id::{BlockId, CommentId, SymId};
 use crate::link::link;
 use crate::names::Names;
 use crate::node::Node;
 use crate::node_rows::NodeRows;
 use crate::nodes::Nodes;
-use crate::symbol::{SymId, Symbol};
+use crate::reading::read_outline;
+use crate::symbol::{Symbol, SymbolType};
 use crate::tri::Tri;
 use crate::user_value::UserVal;
 use kc_text::Line;
 use std::alloc::Global;
 use std::marker::Model;
 
-/// An entry of the tree: what can have lines of its own in a `.config`.
+/// An entry of the tree: what can have lines of its own in a `.config`, and the ends of menus.
 #[derive(Clone, Copy, Debug, PartialEq, Eq)]
 pub enum Entry {
     /// The first definition of a symbol.
     Symbol(SymId),
+    /// Another definition of a symbol.
+    Again(SymId),
+    /// A menu, whose entries follow up to its end.
+    Menu(BlockId),
+    /// The end of a menu.
+    EndMenu(BlockId),
+    /// A comment.
+    Comment(CommentId),
 }
 
 /// The tree of a Kconfig: its symbols and entries, and the nodes with what each uses, in a topological
-/// order. Contracts see the names, the symbols and the entries.
+/// order. Contracts see all but the order and what nodes use.
 #[derive(Drop)]
 pub struct Tree {
     pub(crate) names: Names,
     pub(crate) symbols: Vec<Symbol>,
+    pub(crate) definitions: Vec<Definition>,
+    pub(crate) blocks: Vec<Block>,
+    pub(crate) comments: Vec<Comment>,
     pub(crate) entries: Vec<Entry>,
     pub(crate) order: Vec<Node>,
     pub(crate) uses: NodeRows,
@@ -41,8 +55,12 @@ pub struct Tree {
 
 impl Model for Tree {
     ghost use Rattle.kc_tree.specs.TreeValue.{TreeValue};
+    ghost use Rattle.kc_tree.specs.contracts.expr.Expr as expr;
+    ghost use Rattle.std.specs.Coded.{codes};
 
     ghost Value = { TreeValue };
+
+    ghost coded = { Prim.hlevel (codes, expr.the_row.coded) };
 
     ghost use Rattle.kc_tree.specs.Inside.{tree_view, IsWellMade};
 
@@ -58,16 +76,19 @@ impl Tree {
     ///
     /// # Errors
     ///
-    /// - `TreeFault::Line` with the first line that has not the form of a statement, or is at fault otherwise.
-    /// - `TreeFault::Symbol` where no line is at fault, with the first symbol that has no type.
+    /// - `TreeFault::Line` with the first line that is at fault: K04 its word is unknown, K20 it is left out, K06 its
+    ///   attribute belongs to nothing that takes it, K07 a block is closed wrongly or left open, K05 its form, and K01
+    ///   a limit of parentheses, blocks or symbols.
+    /// - `TreeFault::Symbol` where no line is at fault, with the first symbol without type (K12), else with two types
+    ///   (K13), else with two prompts in one definition (K14), else of a bad `modules` (K18).
     /// - `TreeFault::Loop` where there is no other fault, with nodes that form a loop.
     /// - `TreeFault::NoMemory` where memory was refused.
     pub fn parse(alloc: Global, lines: &[Line<'_>]) -> Result<Tree, TreeFault>
         ensures tree { IfOk result (IsTreeOf lines.now) }
         ensures fault { IfErr result (IsFaultOf lines.now) }
     {
-        let (names, symbols) = read_symbols(alloc, lines)?;
-        link(alloc, names, symbols)
+        let outline = read_outline(alloc, lines)?;
+        link(alloc, outline)
     }
 
     /// The symbol of a name.
@@ -94,10 +115,37 @@ impl Tree {
         self.symbols.as_slice()
     }
 
+    /// The definitions of symbols by number, which is the order of their lines.
+    pub fn definitions(&self) -> &[Definition]
+        ensures { result.now ≡ self.now.definitions }
+    {
+        self.definitions.as_slice()
+    }
+
+    /// The menus and `if` blocks by number, which is the order of the lines that open them.
+    pub fn blocks(&self) -> &[Block]
+        ensures { result.now ≡ self.now.blocks }
+    {
+        self.blocks.as_slice()
+    }
+
+    /// The comments by number, which is the order of their lines.
+    pub fn comments(&self) -> &[Comment]
+        ensures { result.now ≡ self.now.comments }
+    {
+        self.comments.as_slice()
+    }
+
+    /// The symbol `MODULES`, which says whether modules are built, if it is defined.
+    pub fn modules(&self) -> Option<SymId>
+        ensures { result ≡ modules_symbol self.now }
+    {
+        self.find("MODULES")
+    }
+
     /// The entries in the order of their lines.
     pub fn entries(&self) -> &[Entry]
         ensures entries { result.now ≡ self.now.entries }
-        ensures each { HasEachEntry self.now }
         ensures accepted { IsAccepted self.now }
     {
         self.entries.as_slice()
@@ -144,13 +192,19 @@ impl Tree {
         self.used_by.row(node.number())
     }
 
-    /// Whether a user value is one that the symbol takes: n or y, as each symbol is bool.
-    pub fn fits(&self, _symbol: SymId, value: &UserVal) -> bool
-        ensures { result ≡ fits_bool value.now }
+    /// Whether a user value is one that the symbol takes: a bool takes n and y, a tristate n, m and y. False for a
+    /// symbol that the tree doesn't have.
+    pub fn fits(&self, symbol: SymId, value: &UserVal) -> bool
+        ensures { result ≡ fits self.now symbol value.now }
     {
-        match value {
-            UserVal::Tri(Tri::No) | UserVal::Tri(Tri::Yes) => true,
-            UserVal::Tri(Tri::Module) | UserVal::Text(_) => false,
+        let Some(symbol) = self.symbols.get(symbol.0 as usize) else {
+            return false;
+        };
+        match (symbol.kind(), value) {
+            (_, UserVal::Tri(Tri::No)) | (_, UserVal::Tri(Tri::Yes)) => true,
+            (SymbolType::Tristate, UserVal::Tri(Tri::Module)) => true,
+            (SymbolType::Bool, UserVal::Tri(Tri::Module)) => false,
+            (_, UserVal::Text(_)) => false,
         }
     }
 }

@@ -1,5 +1,5 @@
 ghost use Rattle.std.specs.Prelude.{◌≡◌};
-ghost use Rattle.kc_tree.specs.Tristate.{least, greatest, is_no};
+ghost use Rattle.kc_tree.specs.Tristate.{least, greatest, complement, is_no};
 
 /// A tristate value, in the order n, m, y (kconfig-language.rst, "Menu dependencies").
 #[derive(Clone, Copy, Debug, PartialEq, Eq)]
@@ -32,6 +32,17 @@ impl Tri {
             (Tri::Yes, _) | (_, Tri::Yes) => Tri::Yes,
             (Tri::Module, _) | (_, Tri::Module) => Tri::Module,
             (Tri::No, Tri::No) => Tri::No,
+        }
+    }
+
+    /// What `!` gives: n for y, y for n, and m for itself.
+    pub fn complement(self) -> Tri
+        ensures { result ≡ complement self }
+    {
+        match self {
+            Tri::No => Tri::Yes,
+            Tri::Module => Tri::Module,
+            Tri::Yes => Tri::No,
         }
     }
 

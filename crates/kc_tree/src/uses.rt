@@ -1,88 +1,61 @@
-//! The rows of a graph: for each node the numbers of the nodes that it is computed from.
+//! What each node is computed from.
 
-ghost use Rattle.std.specs.Prelude.{◌≡◌, ◌≤◌, ◌<◌, ◌^◌, ◌++◌, ◌↔◌, ℕ, IfOk, OnOk, length, map, Contains};
-ghost use Rattle.std.specs.List.Sorted.{IsStrictlyIncreasing};
-ghost use Rattle.kc_tree.specs.TreeValue.{TreeValue};
-ghost use Rattle.kc_tree.specs.Nodes.{number_of};
-ghost use Rattle.kc_tree.specs.Uses.{expr_nodes, exprs_nodes, visibility_nodes, value_nodes};
-ghost use Rattle.kc_tree.specs.Graph.{lists};
-ghost use Rattle.kc_tree.specs.NodeGraph.{AreNumbersOf, IsGraphOf};
+ghost use Rattle.std.specs.Prelude.{◌≡◌, ◌≤◌, List, ◌∷◌, [], ◌++◌, length, slice_get, IfOk, OnOk, Some};
+ghost use Rattle.kc_tree.specs.declared.node.Node.{Node};
+ghost use Rattle.kc_tree.specs.declared.node.Node.TheVariants.{Vis, Val};
+ghost use Rattle.kc_tree.specs.NodeRows.{numbers_of};
+ghost use Rattle.kc_tree.specs.NodeGraph.{IsGraphOf};
+ghost use Rattle.kc_tree.specs.Uses.{used_nodes};
+ghost use Rattle.kc_tree.specs.Collected.{Holds};
 
+mod cache;
+mod reader;
+mod scratch;
 #[cfg(test)]
 mod tests;
 
-use crate::node::Node;
-use crate::symbol::{Expr, SymId, Symbol, Term};
+use crate::id::SymId;
+use crate::node_rows::NodeRows;
+use crate::outline::Outline;
+use crate::symbol::Symbol;
+use cache::Cache;
+use scratch::Scratch;
 use std::alloc::{AllocError, Global};
 
-/// Adds the numbers of the nodes that an expression reads.
-fn add_expr(row: &mut Vec<usize>, expr: &Expr) -> Result<(), AllocError>
-    ensures { OnOk result (row.new.items ≡ row.old.items ++ map number_of (expr_nodes expr.now)) }
+/// Adds the rows of the two nodes of a symbol.
+fn add_symbol(
+    cache: &Cache<'_>,
+    scratch: &mut Scratch,
+    row: &mut Vec<usize>,
+    rows: &mut NodeRows,
+    id: SymId,
+    symbol: &Symbol,
+) -> Result<(), AllocError>
+    requires few { length cache.now.reader.outline.now.symbols ≤ 65535 }
+    requires symbol { slice_get cache.now.reader.outline.now.symbols id.0 ≡ Some symbol.now }
+    ensures { OnOk result ((lists : List (List Node)) → Holds lists rows.old
+        → Holds ((lists ++ used_nodes cache.now.reader.outline.now (Vis id) ∷ []) ++ used_nodes cache.now.reader.outline.now (Val id) ∷ []) rows.new) }
 {
-    for term in expr.terms() {
-        if let Term::Symbol(symbol) = term {
-            row.push(Node::Val(*symbol).number())?;
-        }
-    }
-    Ok(())
+    cache.visibility_row(row, scratch, symbol)?;
+    rows.add_row(row.as_slice())?;
+    cache.value_row(row, scratch, id, symbol)?;
+    rows.add_row(row.as_slice())
 }
 
-/// Adds the numbers of the nodes that each of some expressions reads.
-fn add_exprs(row: &mut Vec<usize>, exprs: &[Expr]) -> Result<(), AllocError>
-    ensures { OnOk result (row.new.items ≡ row.old.items ++ map number_of (exprs_nodes exprs.now)) }
+/// The rows of all nodes by number, each without repeats: at a cost in proportion to the terms and the uses, but for
+/// the sort of each row. What the lines of a block read is collected once.
+pub(crate) fn used_rows(alloc: Global, outline: &Outline) -> Result<NodeRows, AllocError>
+    requires few { length outline.now.symbols ≤ 65535 }
+    requires named { length outline.now.names ≡ length outline.now.symbols }
+    ensures { IfOk result (λ rows. IsGraphOf outline.now (numbers_of rows)) }
 {
-    for expr in exprs {
-        add_expr(row, expr)?;
-    }
-    Ok(())
-}
-
-/// The numbers of a row in rising order, each once.
-fn without_repeats(row: Vec<usize>) -> Vec<usize>
-    ensures rises { IsStrictlyIncreasing result.items }
-    ensures same { (k : ℕ) → Contains result.items k ↔ Contains row.items k }
-{
-    let mut row = row;
-    row.sort_unstable();
-    row.dedup();
-    row
-}
-
-/// The row of a symbol's visibility.
-fn visibility_row(alloc: Global, symbol: &Symbol) -> Result<Vec<usize>, AllocError>
-    ensures { IfOk result (λ row. AreNumbersOf (visibility_nodes symbol.now) row.items) }
-{
-    let mut row = Vec::with_capacity(alloc, symbol.dependencies().terms().len())?;
-    add_expr(&mut row, symbol.dependencies())?;
-    Ok(without_repeats(row))
-}
-
-/// The row of a symbol's value.
-fn value_row(alloc: Global, id: SymId, symbol: &Symbol) -> Result<Vec<usize>, AllocError>
-    ensures { IfOk result (λ row. AreNumbersOf (value_nodes id symbol.now) row.items) }
-{
-    // the dependencies are the condition of each default
-    let condition = symbol.dependencies();
-    let room = condition
-        .terms()
-        .len()
-        .saturating_add(symbol.defaults().len());
-    let mut row = Vec::with_capacity(alloc, room.saturating_add(1))?;
-    row.push(Node::Vis(id).number())?;
-    add_exprs(&mut row, symbol.defaults())?;
-    add_expr(&mut row, condition)?;
-    Ok(without_repeats(row))
-}
-
-/// The rows of all nodes by number, at a cost in proportion to the terms, but for the sort of each row.
-pub(crate) fn used_rows(alloc: Global, symbols: &[Symbol]) -> Result<Vec<Vec<usize>>, AllocError>
-    requires { length symbols.now < 2 ^ 32 }
-    ensures { IfOk result (λ rows. (t : TreeValue) → t.symbols ≡ symbols.now → IsGraphOf t (lists rows.items)) }
-{
-    let mut rows = Vec::with_capacity(alloc, 2 * symbols.len())?;
-    for (number, symbol) in symbols.iter().enumerate() {
-        rows.push(visibility_row(alloc, symbol)?)?;
-        rows.push(value_row(alloc, SymId(number as u32), symbol)?)?;
+    let cache = Cache::new(alloc, outline)?;
+    let mut scratch = Scratch::new(alloc);
+    let mut row = Vec::new(alloc);
+    let mut rows = NodeRows::with_capacity(alloc, 2 * outline.symbols.len())?;
+    for (number, symbol) in outline.symbols.iter().enumerate() {
+        let id = SymId(number as u32);
+        add_symbol(&cache, &mut scratch, &mut row, &mut rows, id, symbol)?;
     }
     Ok(rows)
 }

@@ -1,51 +1,112 @@
--- What a bool can be given: n and y where it is visible.
-use Rattle.std.proofs.Common.{◌≡◌, ◌<◌, ◌||◌, [], ◌∷◌, Some, None, length, if◌then◌else◌, get_or-set_same, refl, ap, ◌∙◌, inl, inr, arith}
-use Rattle.std.specs.List.{slice_get, filter}
+-- The values that a symbol shows for some user value of its type.
+use Rattle.std.proofs.Common.{◌≡◌, ◌<◌, Bool, true, false, cond, ◌||◌, ◌&&◌, List, [], ◌∷◌, ◌++◌, Option, Some, None, length, if◌then◌else◌, get_or-set_same, refl, sym, ap, ◌∙◌, subst, arith}
+use Rattle.std.specs.List.{slice_get, filter, list_any}
 use Rattle.std.specs.Option.{option_map_or}
-use Rattle.std.proofs.lemmas.Option.{slice_get_cases}
-use Rattle.kc_tree.specs.declared.symbol.SymId.{SymId}
-use Rattle.kc_tree.specs.declared.node.Node.TheVariants.{Vis}
+use Rattle.kc_tree.specs.declared.id.SymId.{SymId}
+use Rattle.kc_tree.specs.declared.node.Node.{Node}
+use Rattle.kc_tree.specs.declared.node.Node.TheVariants.{Vis, Val}
+use Rattle.kc_tree.specs.declared.symbol.SymbolType.{SymbolType}
+use Rattle.kc_tree.specs.declared.symbol.SymbolType.TheVariants.{Bool as BoolType, Tristate}
 use Rattle.kc_tree.specs.declared.tri.Tri.{Tri}
 use Rattle.kc_tree.specs.declared.tri.Tri.TheVariants.{No, Module, Yes}
 use Rattle.kc_tree.specs.declared.user_value.UserVal.TheVariants.{Tri as TriVal}
-use Rattle.kc_tree.specs.SymbolValue.{SymbolValue}
-use Rattle.kc_tree.specs.TreeValue.{TreeValue}
-use Rattle.kc_tree.specs.Tristate.{is_no}
-use Rattle.kc_tree.specs.Nodes.{IsNodeOf}
+use Rattle.kc_tree.specs.TreeOf.{same_type}
+use Rattle.kc_tree.specs.TreeValue.{TreeValue, SymbolValue, kind_of}
+use Rattle.kc_tree.specs.Uses.{Uses}
 use Rattle.kc_value.specs.declared.value.Value.TheVariants.{Tri as Level}
-use Rattle.kc_value.specs.Assignment.{Assignment, as_tri}
+use Rattle.kc_tree.specs.Tristate.{is_no}
+use Rattle.kc_value.specs.declared.value.Value.{Value}
+use Rattle.kc_value.specs.Assignment.{Assignment, as_tri, assignment_of}
 use Rattle.kc_value.specs.UserValues.{UserValues, IsUserFor, user_value, with_value}
 use Rattle.kc_value.specs.Rule.{rule, symbol_rule}
-use Rattle.kc_value.specs.Assignable.{same_tri, shown_with, assignable_in}
+use Rattle.kc_value.specs.Assignable.{same_tri, shown_with, values_of_type, values_of, is_shown_with_some, assignable_in}
+use Rattle.kc_value.specs.Solution.{solution}
+use Rattle.kc_value.proofs.Agreement.{rule_agrees}
 
-module _ (t : TreeValue) (u : UserValues) (a : Assignment) (s : SymId) (sized : IsUserFor t u) where
-  abbrev shown : SymbolValue → Tri → Tri → Tri
-  shown x vis v = as_tri (symbol_rule a x vis (Some (TriVal v)))
+or_false : (x : Bool) → (x || false) ≡ x
+or_false true = refl
+or_false false = refl
+
+-- whether one of the values of a type gives the value
+one_of_type : (f : Tri → Tri) (k : SymbolType) (w : Tri)
+    → list_any (λ v. same_tri (f v) w) (values_of_type k) ≡ (same_tri (f No) w || ((same_type k Tristate && same_tri (f Module) w) || same_tri (f Yes) w))
+one_of_type f BoolType w = ap (λ b. same_tri (f No) w || b) (or_false (same_tri (f Yes) w))
+one_of_type f Tristate w = ap (λ b. same_tri (f No) w || (same_tri (f Module) w || b)) (or_false (same_tri (f Yes) w))
+
+-- a list with one more value where it is wanted
+abbrev pub pushed : Bool → Tri → List Tri → List Tri
+pushed b v l = if b then l ++ v ∷ [] else l
+
+pushed_all : (x y z : Bool)
+    → pushed z Yes (pushed y Module (pushed x No [])) ≡ cond x (No ∷ cond y (Module ∷ cond z (Yes ∷ []) []) (cond z (Yes ∷ []) [])) (cond y (Module ∷ cond z (Yes ∷ []) []) (cond z (Yes ∷ []) []))
+pushed_all true true true = refl
+pushed_all true true false = refl
+pushed_all true false true = refl
+pushed_all true false false = refl
+pushed_all false true true = refl
+pushed_all false true false = refl
+pushed_all false false true = refl
+pushed_all false false false = refl
+
+module _ (t : TreeValue) (u : UserValues) (a : Assignment) (s : SymId) (sized : IsUserFor t u) (x : SymbolValue) (within : s.0 < length t.symbols) (found : slice_get t.symbols s.0 ≡ Some x) where
+  abbrev shown : Tri → Tri
+  shown v = as_tri (symbol_rule t a x (as_tri (a (Vis s))) (Some (TriVal v)))
 
   -- what the symbol shows with a user value is the rule at that value
-  shown_at : (x : SymbolValue) (v : Tri) → s.0 < length t.symbols → slice_get t.symbols s.0 ≡ Some x → shown_with t u a s v ≡ shown x (as_tri (a (Vis s))) v
+  shown_at : (v : Tri) → shown_with t u a s v ≡ shown v
   unfolding rule
-  shown_at x v within found =
+  shown_at v =
       let room : s.0 < length u.values = omega (arith, within, sized) in
-      ap (λ o. as_tri (option_map_or (λ y. symbol_rule a y (as_tri (a (Vis s))) (user_value (with_value u s (Some (TriVal v))) s)) o (Level No))) found
-      ∙ ap (λ w. as_tri (symbol_rule a x (as_tri (a (Vis s))) w)) (get_or-set_same u.values s.0 (Some (TriVal v)) None room)
+      ap (λ o. as_tri (option_map_or (λ y. symbol_rule t a y (as_tri (a (Vis s))) (user_value (with_value u s (Some (TriVal v))) s)) o (Level No))) found
+      ∙ ap (λ w. as_tri (symbol_rule t a x (as_tri (a (Vis s))) w)) (get_or-set_same u.values s.0 (Some (TriVal v)) None room)
 
-  by_visibility : (x : SymbolValue) (vis : Tri)
-      → (if is_no vis then [] else filter (λ w. same_tri (shown x vis No) w || same_tri (shown x vis Yes) w) (No ∷ Module ∷ Yes ∷ [])) ≡ (if is_no vis then [] else No ∷ Yes ∷ [])
-  by_visibility x No = refl
-  by_visibility x Module = refl
-  by_visibility x Yes = refl
+  some_is : (w : Tri) → is_shown_with_some t u a s w ≡ (same_tri (shown No) w || ((same_type (kind_of x) Tristate && same_tri (shown Module) w) || same_tri (shown Yes) w))
+  some_is w =
+      ap (λ o. list_any (λ v. same_tri (shown_with t u a s v) w) (option_map_or (λ y. values_of_type (kind_of y)) o [])) found
+      ∙ ap (λ (f : Tri → Tri). list_any (λ v. same_tri (f v) w) (values_of_type (kind_of x))) (λ i v. shown_at v i)
+      ∙ one_of_type shown (kind_of x) w
 
-  found_assignable : (x : SymbolValue) → s.0 < length t.symbols → slice_get t.symbols s.0 ≡ Some x → assignable_in t u a s ≡ (if is_no (as_tri (a (Vis s))) then [] else No ∷ Yes ∷ [])
-  found_assignable x within found =
-      let vis = as_tri (a (Vis s)) in
-      ap (λ n. if is_no vis then [] else filter (λ w. same_tri n w || same_tri (shown_with t u a s Yes) w) (No ∷ Module ∷ Yes ∷ [])) (shown_at x No within found)
-      ∙ ap (λ y. if is_no vis then [] else filter (λ w. same_tri (shown x vis No) w || same_tri y w) (No ∷ Module ∷ Yes ∷ [])) (shown_at x Yes within found)
-      ∙ by_visibility x vis
+  -- the three values, each where it is shown with some
+  pub collected : (n m y : Tri) (k : SymbolType) (b₀ b₁ b₂ : Bool) (l₀ l₁ l₂ l₃ : List Tri) → n ≡ shown No → m ≡ shown Module → y ≡ shown Yes → k ≡ kind_of x
+      → b₀ ≡ (same_tri n No || ((same_type k Tristate && same_tri m No) || same_tri y No))
+      → b₁ ≡ (same_tri n Module || ((same_type k Tristate && same_tri m Module) || same_tri y Module))
+      → b₂ ≡ (same_tri n Yes || ((same_type k Tristate && same_tri m Yes) || same_tri y Yes))
+      → l₀ ≡ [] → l₁ ≡ pushed b₀ No l₀ → l₂ ≡ pushed b₁ Module l₁ → l₃ ≡ pushed b₂ Yes l₂
+      → l₃ ≡ filter (is_shown_with_some t u a s) (No ∷ Module ∷ Yes ∷ [])
+  collected n m y k b₀ b₁ b₂ l₀ l₁ l₂ l₃ en em ey ek e₀ e₁ e₂ f₀ f₁ f₂ f₃ =
+      let with_all : (w : Tri) → (same_tri n w || ((same_type k Tristate && same_tri m w) || same_tri y w)) ≡ is_shown_with_some t u a s w = λ w.
+      ap (λ v. same_tri v w || ((same_type k Tristate && same_tri m w) || same_tri y w)) en
+      ∙ ap (λ v. same_tri (shown No) w || ((same_type k Tristate && same_tri v w) || same_tri y w)) em
+      ∙ ap (λ v. same_tri (shown No) w || ((same_type k Tristate && same_tri (shown Module) w) || same_tri v w)) ey
+      ∙ ap (λ v. same_tri (shown No) w || ((same_type v Tristate && same_tri (shown Module) w) || same_tri (shown Yes) w)) ek
+      ∙ sym (some_is w)
+      in
+      f₃ ∙ ap (pushed b₂ Yes) (f₂ ∙ ap (pushed b₁ Module) (f₁ ∙ ap (pushed b₀ No) f₀))
+      ∙ ap (λ b. pushed b Yes (pushed b₁ Module (pushed b₀ No []))) (e₂ ∙ with_all Yes)
+      ∙ ap (λ b. pushed (is_shown_with_some t u a s Yes) Yes (pushed b Module (pushed b₀ No []))) (e₁ ∙ with_all Module)
+      ∙ ap (λ b. pushed (is_shown_with_some t u a s Yes) Yes (pushed (is_shown_with_some t u a s Module) Module (pushed b No []))) (e₀ ∙ with_all No)
+      ∙ pushed_all (is_shown_with_some t u a s No) (is_shown_with_some t u a s Module) (is_shown_with_some t u a s Yes)
 
-  pub assignable_is : IsNodeOf t (Vis s) → assignable_in t u a s ≡ (if is_no (as_tri (a (Vis s))) then [] else No ∷ Yes ∷ [])
-  assignable_is within =
-      elim (slice_get_cases t.symbols s.0).1 [
-        | inl p ↦ found_assignable p.0 within p.2
-        | inr p ↦ absurd (omega (arith, within, p.0))
-      ]
+-- assignments that agree on what the value of the symbol is computed from show the same
+pub shown_agrees : (t : TreeValue) (u : UserValues) (a b : Assignment) (s : SymId) → ((m : Node) → Uses t (Val s) m → a m ≡ b m)
+    → filter (is_shown_with_some t u a s) (No ∷ Module ∷ Yes ∷ []) ≡ filter (is_shown_with_some t u b s) (No ∷ Module ∷ Yes ∷ [])
+shown_agrees t u a b s same =
+    ap (λ (f : Tri → Tri). filter (λ w. list_any (λ v. same_tri (f v) w) (values_of t s)) (No ∷ Module ∷ Yes ∷ []))
+    (λ i v. as_tri (rule_agrees t (with_value u s (Some (TriVal v))) a b (Val s) same i))
+
+-- what was shown over the values of the used nodes is what can be given to a visible symbol
+pub visible_values : (t t₁ t₂ : TreeValue) (u u₁ : UserValues) (s : SymId) (env lent : List (Option Value)) (items : List Tri)
+    → t₁ ≡ t → u₁ ≡ u → t₂ ≡ t → lent ≡ env → IsUserFor t u
+    → ((n : Node) → Uses t₁ (Val s) n → assignment_of env n ≡ solution t₁ u₁ n)
+    → ((w : UserValues) → IsUserFor t₂ w → items ≡ filter (is_shown_with_some t₂ w (assignment_of lent) s) (No ∷ Module ∷ Yes ∷ []))
+    → is_no (as_tri (solution t u (Vis s))) ≡ false
+    → items ≡ assignable_in t u (solution t u) s
+visible_values t t₁ t₂ u u₁ s env lent items e₁ f₁ e₂ g sized right shown seen =
+    let same : (n : Node) → Uses t (Val s) n → assignment_of env n ≡ solution t u n = λ n uses.
+    right n (subst (λ x. Uses x (Val s) n) (sym e₁) uses) ∙ ap (λ x. solution x u₁ n) e₁ ∙ ap (λ w. solution t w n) f₁
+    in
+    shown u (subst (λ x. IsUserFor x u) (sym e₂) sized)
+    ∙ ap (λ x. filter (is_shown_with_some x u (assignment_of lent) s) (No ∷ Module ∷ Yes ∷ [])) e₂
+    ∙ ap (λ l. filter (is_shown_with_some t u (assignment_of l) s) (No ∷ Module ∷ Yes ∷ [])) g
+    ∙ shown_agrees t u (assignment_of env) (solution t u) s same
+    ∙ sym (ap (λ b. if b then [] else filter (is_shown_with_some t u (solution t u) s) (No ∷ Module ∷ Yes ∷ [])) seen)

@@ -1,6 +1,11 @@
 pub mod Agreement
 pub mod AssignableLemmas
-pub mod Examples
+pub mod BlockLemmas
+pub mod ConditionLemmas
+pub mod ExprLemmas
 pub mod FillLemmas
 pub mod FirstLemmas
+pub mod GatheringLemmas
+pub mod MarkLemmas
+pub mod NumeralLemmas
 pub mod SolutionLaws

@@ -1,11 +1,15 @@
 -- Which values a user can give a symbol with an effect: Kconfiglib, "assignable", stated by the values shown.
-use Rattle.std.specs.Prelude.{Bool, true, false, ◌||◌, List, [], ◌∷◌, Some, filter, if◌then◌else◌}
+use Rattle.std.specs.Prelude.{Bool, true, false, List, [], ◌∷◌, Some, filter, slice_get, if◌then◌else◌}
+use Rattle.std.specs.List.{list_any}
+use Rattle.std.specs.Option.{option_map_or}
 use Rattle.kc_tree.specs.declared.tri.Tri.{Tri}
 use Rattle.kc_tree.specs.declared.tri.Tri.TheVariants.{No, Module, Yes}
-use Rattle.kc_tree.specs.declared.symbol.SymId.{SymId}
+use Rattle.kc_tree.specs.declared.id.SymId.{SymId}
 use Rattle.kc_tree.specs.declared.node.Node.TheVariants.{Vis, Val}
 use Rattle.kc_tree.specs.declared.user_value.UserVal.TheVariants.{Tri as TriVal}
-use Rattle.kc_tree.specs.TreeValue.{TreeValue}
+use Rattle.kc_tree.specs.declared.symbol.SymbolType.{SymbolType}
+use Rattle.kc_tree.specs.declared.symbol.SymbolType.TheVariants.{Bool as BoolType, Tristate}
+use Rattle.kc_tree.specs.TreeValue.{TreeValue, kind_of}
 use Rattle.kc_tree.specs.Tristate.{is_no}
 use Rattle.kc_value.specs.Assignment.{Assignment, as_tri}
 use Rattle.kc_value.specs.UserValues.{UserValues, with_value}
@@ -27,9 +31,17 @@ same_tri Yes Yes = true
 abbrev pub shown_with : TreeValue → UserValues → Assignment → SymId → Tri → Tri
 shown_with t u a s v = as_tri (rule t (with_value u s (Some (TriVal v))) a (Val s))
 
--- whether some value of a bool, n or y, would show this one
+-- the values of the declared type
+abbrev pub values_of_type : SymbolType → List Tri
+values_of_type BoolType = No ∷ Yes ∷ []
+values_of_type Tristate = No ∷ Module ∷ Yes ∷ []
+
+abbrev pub values_of : TreeValue → SymId → List Tri
+values_of t s = option_map_or (λ x. values_of_type (kind_of x)) (slice_get t.symbols s.0) []
+
+-- whether some value of its type would show this one
 abbrev pub is_shown_with_some : TreeValue → UserValues → Assignment → SymId → Tri → Bool
-is_shown_with_some t u a s w = same_tri (shown_with t u a s No) w || same_tri (shown_with t u a s Yes) w
+is_shown_with_some t u a s w = list_any (λ v. same_tri (shown_with t u a s v) w) (values_of t s)
 
 -- of a visible symbol, the values that it shows for some user value of its type; else none
 abbrev pub assignable_in : TreeValue → UserValues → Assignment → SymId → List Tri

@@ -1,19 +1,114 @@
--- The value of an expression: kconfig-language.rst, "Menu dependencies", cut down to bool symbols.
-use Rattle.std.specs.Prelude.{List, map}
+-- The value of an expression: kconfig-language.rst, "Menu dependencies", and Kconfiglib, "expr_value".
+use Rattle.std.specs.Prelude.{ℕ, Bool, true, false, List, Option, Some, None, map, slice_get, codes, ℤ, pos}
+use Rattle.std.specs.Option.{option_map_or}
+use Rattle.std.specs.Cmp.Lexicographic.{slice_cmp}
+use Rattle.std.specs.declared.cmp.Ordering.{Ordering}
+use Rattle.std.specs.Ordering.{nat_cmp, int_cmp, is_eq, is_ne, is_lt, is_le, is_gt, is_ge}
+use Rattle.kc_tree.specs.declared.id.SymId.{SymId}
 use Rattle.kc_tree.specs.declared.tri.Tri.{Tri}
-use Rattle.kc_tree.specs.declared.tri.Tri.TheVariants.{No}
-use Rattle.kc_tree.specs.declared.symbol.Term.{Term}
-use Rattle.kc_tree.specs.declared.symbol.Term.TheVariants.{Tri as Constant, Symbol, Undefined}
+use Rattle.kc_tree.specs.declared.tri.Tri.TheVariants.{No, Module, Yes}
+use Rattle.kc_tree.specs.declared.expr.Term.{Term}
+use Rattle.kc_tree.specs.declared.expr.Term.TheVariants.{Tri as Constant, Text, Symbol, Undefined}
+use Rattle.kc_tree.specs.declared.expr.Comparison.{Comparison}
+use Rattle.kc_tree.specs.declared.expr.Comparison.TheVariants as comparison
+use Rattle.kc_tree.specs.declared.expr.Expr.{Expr}
 use Rattle.kc_tree.specs.declared.node.Node.TheVariants.{Val}
-use Rattle.kc_tree.specs.Tristate.{least_of}
+use Rattle.kc_tree.specs.Grammar.{Formula, atom, compare, negation, group, both, either, formula}
+use Rattle.kc_tree.specs.Tristate.{least, greatest, least_of, complement}
+use Rattle.kc_tree.specs.TreeValue.{TreeValue, modules_symbol}
 use Rattle.kc_value.specs.Assignment.{Assignment, as_tri}
+use Rattle.kc_value.specs.Numerals.{number_of_text}
 
--- a constant stands for itself, a symbol for its value, an undefined word for n
-abbrev pub term_value : Assignment → Term → Tri
-term_value a (Constant v) = v
-term_value a (Symbol s) = as_tri (a (Val s))
-term_value a (Undefined w) = No
+-- ---- terms
+-- a symbol stands for its value
+abbrev pub symbol_tri : TreeValue → Assignment → SymId → Tri
+symbol_tri t a s = option_map_or (λ x. as_tri (a (Val s))) (slice_get t.symbols s.0) No
 
--- the `&&` of the terms is the least of their values
-abbrev pub expr_value : Assignment → List Term → Tri
-expr_value a e = least_of (map (term_value a) e)
+-- the value of MODULES, n where it is not defined
+abbrev pub modules_value : TreeValue → Assignment → Tri
+modules_value t a = option_map_or (symbol_tri t a) (modules_symbol t) No
+
+-- the constant m alone stands for what is handed in, other constants for themselves, a text and an undefined word for n
+abbrev pub constant_tri : Tri → Tri → Tri
+constant_tri bare No = No
+constant_tri bare Module = bare
+constant_tri bare Yes = Yes
+
+abbrev pub term_tri : TreeValue → Assignment → Tri → Term → Tri
+term_tri t a bare (Constant v) = constant_tri bare v
+term_tri t a bare (Text w) = No
+term_tri t a bare (Symbol s) = symbol_tri t a s
+term_tri t a bare (Undefined w) = No
+
+-- ---- comparisons
+abbrev pub tri_letter : Tri → List ℕ
+tri_letter No = codes "n"
+tri_letter Module = codes "m"
+tri_letter Yes = codes "y"
+
+-- the text of a constant is itself, that of a symbol its value, that of an undefined word its name
+abbrev pub term_text : TreeValue → Assignment → Term → List ℕ
+term_text t a (Constant v) = tri_letter v
+term_text t a (Text w) = w
+term_text t a (Symbol s) = tri_letter (symbol_tri t a s)
+term_text t a (Undefined w) = w
+
+abbrev pub tri_number : Tri → ℤ
+tri_number No = pos 0
+tri_number Module = pos 1
+tri_number Yes = pos 2
+
+-- n, m and y count 0, 1 and 2; a text counts where it spells a number
+abbrev pub term_number : TreeValue → Assignment → Term → Option ℤ
+term_number t a (Constant v) = Some (tri_number v)
+term_number t a (Text w) = number_of_text w
+term_number t a (Symbol s) = Some (tri_number (symbol_tri t a s))
+term_number t a (Undefined w) = number_of_text w
+
+-- numbers are compared where both terms count, else texts by their bytes
+abbrev pub number_or_text_order : Option ℤ → Option ℤ → Ordering → Ordering
+number_or_text_order (Some x) (Some y) texts = int_cmp x y
+number_or_text_order (Some x) None texts = texts
+number_or_text_order None y texts = texts
+
+abbrev pub term_order : TreeValue → Assignment → Term → Term → Ordering
+term_order t a x y =
+    number_or_text_order (term_number t a x) (term_number t a y) (slice_cmp nat_cmp (term_text t a x) (term_text t a y))
+
+abbrev pub is_related : Comparison → Ordering → Bool
+is_related comparison.Equal o = is_eq o
+is_related comparison.NotEqual o = is_ne o
+is_related comparison.Less o = is_lt o
+is_related comparison.LessOrEqual o = is_le o
+is_related comparison.Greater o = is_gt o
+is_related comparison.GreaterOrEqual o = is_ge o
+
+abbrev pub yes_if : Bool → Tri
+yes_if true = Yes
+yes_if false = No
+
+-- ---- expressions
+abbrev pub formula_value : TreeValue → Assignment → Tri → Formula → Tri
+formula_value t a bare (atom x) = term_tri t a bare x
+formula_value t a bare (compare c x y) = yes_if (is_related c (term_order t a x y))
+formula_value t a bare (negation f) = complement (formula_value t a bare f)
+formula_value t a bare (group f) = formula_value t a bare f
+formula_value t a bare (both f g) = least (formula_value t a bare f) (formula_value t a bare g)
+formula_value t a bare (either f g) = greatest (formula_value t a bare f) (formula_value t a bare g)
+
+-- in the value of a default m stays m
+abbrev pub expr_value : TreeValue → Assignment → Expr → Tri
+expr_value t a e = formula_value t a Module (formula e)
+
+-- in a condition m alone means m && MODULES
+abbrev pub condition_value : TreeValue → Assignment → Expr → Tri
+condition_value t a e = formula_value t a (least Module (modules_value t a)) (formula e)
+
+-- several lines are joined by `&&`
+abbrev pub conditions_value : TreeValue → Assignment → List Expr → Tri
+conditions_value t a es = least_of (map (condition_value t a) es)
+
+-- the condition after `if`, y where there is none
+abbrev pub own_condition : TreeValue → Assignment → Option Expr → Tri
+own_condition t a None = Yes
+own_condition t a (Some e) = condition_value t a e

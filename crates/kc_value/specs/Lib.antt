@@ -1,8 +1,12 @@
+pub mod Assignable
 pub mod Assignment
-pub mod UserValues
+pub mod BareModule
+pub mod Conditions
+pub mod Counting
 pub mod ExprValue
+pub mod Fresh
+pub mod Marks
+pub mod Numerals
 pub mod Rule
 pub mod Solution
-pub mod Assignable
-pub mod Counting
-pub mod Fresh
+pub mod UserValues

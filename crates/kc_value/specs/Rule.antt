@@ -1,46 +1,77 @@
--- What a node gets from the values of the nodes that it uses: kconfig-language.rst, "Menu attributes",
--- and the computation of Kconfiglib, cut down to bool symbols.
-use Rattle.std.specs.Prelude.{Bool, not, ◌||◌, List, Option, Some, None, slice_get, find}
+-- What a node gets from the values of the nodes that it uses: kconfig-language.rst, "Menu attributes", and the
+-- computation of Kconfiglib.
+use Rattle.std.specs.Prelude.{Bool, not, ◌&&◌, ◌||◌, List, Option, Some, None, if◌then◌else◌, option_map, unwrap_or, slice_get, map, find, filter_map}
 use Rattle.std.specs.Option.{option_map_or}
 use Rattle.kc_tree.specs.declared.tri.Tri.{Tri}
 use Rattle.kc_tree.specs.declared.tri.Tri.TheVariants.{No, Module, Yes}
-use Rattle.kc_tree.specs.declared.symbol.Term.{Term}
+use Rattle.kc_tree.specs.declared.definition.DefaultValue.{DefaultValue}
+use Rattle.kc_tree.specs.declared.symbol.Reverse.{Reverse}
+use Rattle.kc_tree.specs.declared.symbol.SymbolType.TheVariants.{Tristate}
 use Rattle.kc_tree.specs.declared.node.Node.{Node}
 use Rattle.kc_tree.specs.declared.node.Node.TheVariants.{Vis, Val}
 use Rattle.kc_tree.specs.declared.user_value.UserVal.{UserVal}
 use Rattle.kc_tree.specs.declared.user_value.UserVal.TheVariants.{Tri as TriVal, Text}
-use Rattle.kc_tree.specs.SymbolValue.{SymbolValue}
-use Rattle.kc_tree.specs.Tristate.{least, is_no}
-use Rattle.kc_tree.specs.TreeValue.{TreeValue}
+use Rattle.kc_tree.specs.Tristate.{least, greatest, greatest_of, is_no}
+use Rattle.kc_tree.specs.TreeOf.{same_type}
+use Rattle.kc_tree.specs.TreeValue.{TreeValue, SymbolValue, DefinitionValue, kind_of, definitions_of}
 use Rattle.kc_value.specs.declared.value.Value.{Value}
 use Rattle.kc_value.specs.declared.value.Value.TheVariants.{Tri as Level, Shown}
 use Rattle.kc_value.specs.Assignment.{Assignment, as_tri}
 use Rattle.kc_value.specs.UserValues.{UserValues, user_value}
-use Rattle.kc_value.specs.ExprValue.{expr_value}
+use Rattle.kc_value.specs.ExprValue.{symbol_tri, modules_value, expr_value, own_condition}
+use Rattle.kc_value.specs.Conditions.{dependency, prompt_value}
 
+-- ---- types
 -- a bool knows no m: it stands for y
 abbrev pub in_bool : Tri → Tri
 in_bool No = No
 in_bool Module = Yes
 in_bool Yes = Yes
 
--- the condition of the prompt, of each default, and of the symbol itself
-abbrev pub condition : Assignment → SymbolValue → Tri
-condition a x = expr_value a x.dependencies
+-- a tristate acts as bool where MODULES is n
+abbrev pub has_modules : TreeValue → Assignment → SymbolValue → Bool
+has_modules t a x = same_type (kind_of x) Tristate && not (is_no (modules_value t a))
 
-abbrev pub visibility : Assignment → SymbolValue → Tri
-visibility a x = in_bool (condition a x)
+abbrev pub in_type : Bool → Tri → Tri
+in_type has v = if has then v else in_bool v
+
+-- ---- visibility: the greatest condition of the prompts
+abbrev pub visibility : TreeValue → Assignment → SymbolValue → Tri
+visibility t a x = in_type (has_modules t a x) (greatest_of (map (prompt_value t a) (definitions_of t x)))
+
+-- ---- defaults
+abbrev pub default_condition : TreeValue → Assignment → DefinitionValue → DefaultValue → Tri
+default_condition t a d v = least (own_condition t a v.condition) (dependency t a d)
 
 -- whether the condition of a default is not n
-abbrev pub is_active : Assignment → SymbolValue → List Term → Bool
-is_active a x e = not (is_no (condition a x))
+abbrev pub is_active : TreeValue → Assignment → DefinitionValue → DefaultValue → Bool
+is_active t a d v = not (is_no (default_condition t a d v))
 
--- the least of the first active default's value and its condition, n without one
-abbrev pub default_value : Assignment → SymbolValue → Tri
-default_value a x = option_map_or (λ e. least (expr_value a e) (condition a x)) (find (is_active a x) x.defaults) No
+-- the least of the value and the condition of the first active default of a definition, if one is active
+abbrev pub definition_default : TreeValue → Assignment → DefinitionValue → Option Tri
+definition_default t a d =
+    option_map (λ v. least (expr_value t a v.value) (default_condition t a d v)) (find (is_active t a d) d.defaults)
 
+-- that of the first definition with one, n without
+abbrev pub default_value : TreeValue → Assignment → SymbolValue → Tri
+default_value t a x = unwrap_or (slice_get (filter_map (definition_default t a) (definitions_of t x)) 0) No
+
+-- ---- select, imply and dependencies
+-- the least of the value of the symbol that selects or implies, and the condition
+abbrev pub reverse_value : TreeValue → Assignment → Reverse → Tri
+reverse_value t a r = least (symbol_tri t a r.by)
+    (least (own_condition t a r.condition) (option_map_or (dependency t a) (slice_get t.definitions r.definition) No))
+
+abbrev pub reverse_values : TreeValue → Assignment → List Reverse → Tri
+reverse_values t a rs = greatest_of (map (reverse_value t a) rs)
+
+-- the greatest of the dependencies of its definitions
+abbrev pub direct : TreeValue → Assignment → SymbolValue → Tri
+direct t a x = greatest_of (map (dependency t a) (definitions_of t x))
+
+-- ---- the value
 -- what the user chose, as far as the visibility allows: nothing where the symbol is invisible, whose
--- user value is kept and waits, and nothing for a text, which no bool takes
+-- user value is kept and waits, and nothing for a text, which no bool or tristate takes
 abbrev pub user_part : Tri → Option UserVal → Option Tri
 user_part No u = None
 user_part Module (Some (TriVal v)) = Some (least v Module)
@@ -50,17 +81,27 @@ user_part Yes (Some (TriVal v)) = Some (least v Yes)
 user_part Yes (Some (Text w)) = None
 user_part Yes None = None
 
--- the user's value where the symbol is visible, else the default within the dependencies
-abbrev pub shown_value : Assignment → SymbolValue → Tri → Option UserVal → Tri
-shown_value a x vis u = in_bool (option_map_or (λ v. v) (user_part vis u) (least (default_value a x) (condition a x)))
+-- the user's value where the symbol is visible, else the default or what is implied, within the dependencies
+abbrev pub base_value : TreeValue → Assignment → SymbolValue → Tri → Option UserVal → Tri
+base_value t a x vis u = unwrap_or (user_part vis u)
+    (least (greatest (default_value t a x) (reverse_values t a x.implied)) (direct t a x))
 
--- a symbol has its line where it is visible or a default gives it a value
-abbrev pub has_line : Assignment → SymbolValue → Tri → Bool
-has_line a x vis = not (is_no vis) || not (is_no (default_value a x))
+-- at least what is selected, which passes over the dependencies
+abbrev pub shown_value : TreeValue → Assignment → SymbolValue → Tri → Option UserVal → Tri
+shown_value t a x vis u =
+    in_type (has_modules t a x) (greatest (base_value t a x vis u) (reverse_values t a x.selected))
 
-abbrev pub symbol_rule : Assignment → SymbolValue → Tri → Option UserVal → Value
-symbol_rule a x vis u = Shown (TriVal (shown_value a x vis u)) (has_line a x vis)
+-- a symbol has its line where it is visible, or a default, an `imply` within the dependencies or a `select` gives it
+-- a value
+abbrev pub has_line : TreeValue → Assignment → SymbolValue → Tri → Bool
+has_line t a x vis =
+    not (is_no vis) || not (is_no (default_value t a x))
+    || (not (is_no (reverse_values t a x.implied)) && not (is_no (direct t a x)))
+    || not (is_no (reverse_values t a x.selected))
+
+abbrev pub symbol_rule : TreeValue → Assignment → SymbolValue → Tri → Option UserVal → Value
+symbol_rule t a x vis u = Shown (TriVal (shown_value t a x vis u)) (has_line t a x vis)
 
 unfoldable pub rule : TreeValue → UserValues → Assignment → Node → Value
-rule t u a (Vis s) = option_map_or (λ x. Level (visibility a x)) (slice_get t.symbols s.0) (Level No)
-rule t u a (Val s) = option_map_or (λ x. symbol_rule a x (as_tri (a (Vis s))) (user_value u s)) (slice_get t.symbols s.0) (Level No)
+rule t u a (Vis s) = option_map_or (λ x. Level (visibility t a x)) (slice_get t.symbols s.0) (Level No)
+rule t u a (Val s) = option_map_or (λ x. symbol_rule t a x (as_tri (a (Vis s))) (user_value u s)) (slice_get t.symbols s.0) (Level No)

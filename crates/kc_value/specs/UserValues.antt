@@ -1,6 +1,6 @@
 -- The values that a user gave: this project's own.
 use Rattle.std.specs.Prelude.{◌≡◌, List, Option, None, slice_index_or, slice_set, replicate, length}
-use Rattle.kc_tree.specs.declared.symbol.SymId.{SymId}
+use Rattle.kc_tree.specs.declared.id.SymId.{SymId}
 use Rattle.kc_tree.specs.declared.user_value.UserVal.{UserVal}
 use Rattle.kc_tree.specs.TreeValue.{TreeValue}
 

@@ -1,14 +1,104 @@
-ghost use Rattle.std.specs.Prelude.{◌≡◌, [], ◌∷◌, IfOk, if◌then◌else◌};
-ghost use Rattle.kc_tree.specs.declared.node.Node.TheVariants.{Vis, Val};
-ghost use Rattle.kc_tree.specs.declared.tri.Tri.TheVariants.{No, Yes};
-ghost use Rattle.kc_tree.specs.Tristate.{is_no};
-ghost use Rattle.kc_tree.specs.Nodes.{IsNodeOf};
-ghost use Rattle.kc_value.specs.Assignable.{assignable_values};
-ghost use Rattle.kc_value.specs.UserValues.{IsUserFor};
+//! The values that a user can give a symbol with an effect.
 
+ghost use Rattle.std.specs.Prelude.{◌≡◌, [], ◌∷◌, ◌++◌, ◌||◌, ◌&&◌, Some, None, IfOk, OnOk, if◌then◌else◌, filter, slice_get};
+ghost use Rattle.std.specs.Option.{option_map_or};
+ghost use Rattle.kc_tree.specs.declared.node.Node.TheVariants.{Vis, Val};
+ghost use Rattle.kc_tree.specs.declared.symbol.SymbolType.TheVariants.{Tristate};
+ghost use Rattle.kc_tree.specs.declared.user_value.UserVal.TheVariants.{Tri as TriVal};
+ghost use Rattle.kc_tree.specs.declared.tri.Tri.TheVariants.{No, Module, Yes};
+ghost use Rattle.kc_tree.specs.Nodes.{IsNodeOf};
+ghost use Rattle.kc_tree.specs.TreeOf.{same_type};
+ghost use Rattle.kc_value.specs.Assignable.{same_tri, is_shown_with_some, assignable_values};
+ghost use Rattle.kc_value.specs.Assignment.{as_tri, assignment_of};
+ghost use Rattle.kc_value.specs.Rule.{symbol_rule};
+ghost use Rattle.kc_value.specs.UserValues.{UserValues, IsUserFor};
+
+use crate::expr_value::node_tri;
+use crate::gathering::used_values;
 use crate::resolver::Resolver;
-use kc_tree::{Node, SymId, Tri};
+use crate::symbol_value::symbol_value;
+use crate::value::Value;
+use kc_tree::{Node, SymId, Symbol, SymbolType, Tree, Tri, UserVal};
 use std::alloc::{AllocError, Global};
+
+/// Whether two values are the same.
+fn is_same(left: Tri, right: Tri) -> bool
+    ensures { result ≡ same_tri left right }
+{
+    match (left, right) {
+        (Tri::No, Tri::No) | (Tri::Module, Tri::Module) | (Tri::Yes, Tri::Yes) => true,
+        _ => false,
+    }
+}
+
+/// What a symbol of this number shows with a user value, over the values of the nodes that it is computed from.
+fn shown_with(tree: &Tree, id: SymId, symbol: &Symbol, value: Tri, env: &[Option<Value>]) -> Tri
+    ensures { result ≡ as_tri (symbol_rule tree.now (assignment_of env.now) symbol.now
+        (as_tri (assignment_of env.now (Vis id))) (Some (TriVal value))) }
+{
+    let visibility = node_tri(env, Node::Vis(id));
+    symbol_value(tree, symbol, visibility, Some(&UserVal::Tri(value)), env).as_tri()
+}
+
+/// Whether a value is among those that are shown with n, with m and with y; m counts for a tristate alone.
+fn is_shown(kind: SymbolType, with_no: Tri, with_module: Tri, with_yes: Tri, value: Tri) -> bool
+    ensures { result ≡ (same_tri with_no value
+        || ((same_type kind Tristate && same_tri with_module value) || same_tri with_yes value)) }
+{
+    let is_module_shown = match kind {
+        SymbolType::Bool => false,
+        SymbolType::Tristate => is_same(with_module, value),
+    };
+    is_same(with_no, value) || is_module_shown || is_same(with_yes, value)
+}
+
+/// Appends a value where it is wanted.
+fn push_if(values: &mut Vec<Tri>, value: Tri, is_wanted: bool) -> Result<(), AllocError>
+    ensures { OnOk result (values.new.items ≡ (if is_wanted then values.old.items ++ value ∷ [] else values.old.items)) }
+{
+    if is_wanted {
+        values.push(value)?;
+    }
+    Ok(())
+}
+
+/// The values that a symbol shows for some user value of its type, in the order n, m, y, over the values of the nodes
+/// that it is computed from. The error is want of memory.
+fn shown_values(
+    alloc: Global,
+    tree: &Tree,
+    id: SymId,
+    env: &[Option<Value>],
+) -> Result<Vec<Tri>, AllocError>
+    requires { IsNodeOf tree.now (Val id) }
+    ensures { (u : UserValues) → IsUserFor tree.now u → IfOk result (λ v. v.items
+        ≡ filter (is_shown_with_some tree.now u (assignment_of env.now) id) (No ∷ Module ∷ Yes ∷ [])) }
+{
+    let mut values = Vec::with_capacity(alloc, 3)?;
+    let Some(symbol) = tree.symbols().get(id.0 as usize) else {
+        return Ok(values);
+    };
+    let with_no = shown_with(tree, id, symbol, Tri::No, env);
+    let with_module = shown_with(tree, id, symbol, Tri::Module, env);
+    let with_yes = shown_with(tree, id, symbol, Tri::Yes, env);
+    let kind = symbol.kind();
+    push_if(
+        &mut values,
+        Tri::No,
+        is_shown(kind, with_no, with_module, with_yes, Tri::No),
+    )?;
+    push_if(
+        &mut values,
+        Tri::Module,
+        is_shown(kind, with_no, with_module, with_yes, Tri::Module),
+    )?;
+    push_if(
+        &mut values,
+        Tri::Yes,
+        is_shown(kind, with_no, with_module, with_yes, Tri::Yes),
+    )?;
+    Ok(values)
+}
 
 /// The values that a user can give a symbol with an effect, in the order n, m, y (Kconfiglib,
 /// "assignable"): of a visible symbol those that it would show for some user value of its type, all else
@@ -29,18 +119,10 @@ pub fn assignable<R: Resolver>(
     ensures grew { R.grew resolver.old resolver.new (Vis symbol ∷ Val symbol ∷ []) }
 {
     let visibility = resolver.node(Node::Vis(symbol))?.as_tri();
-    values_under(alloc, visibility)
-}
-
-/// The values that a bool shows for its user values n and y under a visibility.
-fn values_under(alloc: Global, visibility: Tri) -> Result<Vec<Tri>, AllocError>
-    ensures { IfOk result (λ v. v.items ≡ (if is_no visibility then [] else No ∷ Yes ∷ [])) }
-{
-    let mut values = Vec::new(alloc);
     if visibility.is_no() {
-        return Ok(values);
+        return Ok(Vec::new(alloc));
     }
-    values.push(Tri::No)?;
-    values.push(Tri::Yes)?;
+    let env = used_values(alloc, resolver, Node::Val(symbol))?;
+    let values = shown_values(alloc, resolver.tree(), symbol, env.as_slice())?;
     Ok(values)
 }

@@ -20,8 +20,14 @@ pub(crate) fn apply_rule(tree: &Tree, user: &User, env: &[Option<Value>], node: 
         return Value::Tri(Tri::No);
     };
     match node {
-        Node::Vis(_) => Value::Tri(symbol_visibility(symbol, env)),
-        Node::Val(id) => symbol_value(symbol, node_tri(env, Node::Vis(id)), user.get(id), env),
+        Node::Vis(_) => Value::Tri(symbol_visibility(tree, symbol, env)),
+        Node::Val(id) => symbol_value(
+            tree,
+            symbol,
+            node_tri(env, Node::Vis(id)),
+            user.get(id),
+            env,
+        ),
     }
 }
 

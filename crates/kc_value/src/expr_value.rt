@@ -1,13 +1,18 @@
-ghost use Rattle.std.specs.Prelude.{◌≡◌};
+//! The values of expressions.
+
+ghost use Rattle.std.specs.Prelude.{◌≡◌, map};
 ghost use Rattle.std.specs.Option.{option_copied};
+ghost use Rattle.kc_tree.specs.Grammar.{formula, joined, both, either};
 ghost use Rattle.kc_value.specs.Assignment.{as_tri, value_at, assignment_of};
-ghost use Rattle.kc_value.specs.ExprValue.{term_value, expr_value};
+ghost use Rattle.kc_value.specs.BareModule.{bare_module};
+ghost use Rattle.kc_value.specs.ExprValue.{symbol_tri, modules_value, term_tri, formula_value, expr_value, condition_value, conditions_value, own_condition};
 
+use crate::comparison::comparison_tri;
 use crate::value::Value;
-use kc_tree::{Expr, Node, Term, Tri};
+use kc_tree::{Expr, Node, SymId, Term, Tree, Tri};
 
-/// What a list by number has for a node, nothing past its end.
-pub(crate) fn value_of(env: &[Option<Value>], node: Node) -> Option<&Value>
+/// The value that stands for a node in a list by number.
+fn value_of(env: &[Option<Value>], node: Node) -> Option<&Value>
     ensures { option_copied result ≡ value_at env.now node }
 {
     match env.get(node.number()) {
@@ -16,7 +21,7 @@ pub(crate) fn value_of(env: &[Option<Value>], node: Node) -> Option<&Value>
     }
 }
 
-/// The tristate value of a node, n where the list has none.
+/// The tristate value of a node in a list by number, n where it has nothing.
 pub(crate) fn node_tri(env: &[Option<Value>], node: Node) -> Tri
     ensures { result ≡ as_tri (assignment_of env.now node) }
 {
@@ -26,26 +31,129 @@ pub(crate) fn node_tri(env: &[Option<Value>], node: Node) -> Tri
     }
 }
 
-/// The value of a term: of a symbol that of its `Val` node, whatever its visibility.
-fn term_tri(env: &[Option<Value>], term: &Term) -> Tri
-    ensures { result ≡ term_value (assignment_of env.now) term.now }
+/// The value of a symbol, whatever its visibility.
+pub(crate) fn symbol_tri(tree: &Tree, env: &[Option<Value>], symbol: SymId) -> Tri
+    ensures { result ≡ symbol_tri tree.now (assignment_of env.now) symbol }
 {
-    match term {
-        Term::Tri(tri) => *tri,
-        Term::Symbol(symbol) => node_tri(env, Node::Val(*symbol)),
-        Term::Undefined(_) => Tri::No,
+    match tree.symbols().get(symbol.0 as usize) {
+        Some(_) => node_tri(env, Node::Val(symbol)),
+        None => Tri::No,
     }
 }
 
-/// The value of an expression, the least of its terms' and y without terms (kconfig-language.rst, "Menu
-/// dependencies"). A constant stands for itself, an undefined word for n, and a symbol for its value in
-/// `env`, where nodes stand by number; a symbol whose place is empty or missing counts as n.
-pub fn tri(expr: &Expr, env: &[Option<Value>]) -> Tri
-    ensures { result ≡ expr_value (assignment_of env.now) expr.now }
+/// The value of `MODULES`, n where it is not defined.
+pub(crate) fn modules_tri(tree: &Tree, env: &[Option<Value>]) -> Tri
+    ensures { result ≡ modules_value tree.now (assignment_of env.now) }
 {
+    match tree.modules() {
+        Some(symbol) => symbol_tri(tree, env, symbol),
+        None => Tri::No,
+    }
+}
+
+/// What m alone stands for: itself, and in a condition `m && MODULES`.
+fn bare_module(tree: &Tree, env: &[Option<Value>], in_condition: bool) -> Tri
+    ensures { result ≡ bare_module tree.now (assignment_of env.now) in_condition }
+{
+    if in_condition {
+        Tri::Module.and(modules_tri(tree, env))
+    } else {
+        Tri::Module
+    }
+}
+
+/// The value of a term that stands alone.
+fn term_tri(tree: &Tree, env: &[Option<Value>], in_condition: bool, term: &Term) -> Tri
+    ensures { result ≡ term_tri tree.now (assignment_of env.now)
+        (bare_module tree.now (assignment_of env.now) in_condition) term.now }
+{
+    match term {
+        Term::Tri(Tri::No) => Tri::No,
+        Term::Tri(Tri::Module) => bare_module(tree, env, in_condition),
+        Term::Tri(Tri::Yes) => Tri::Yes,
+        Term::Symbol(symbol) => symbol_tri(tree, env, *symbol),
+        Term::Text(_) | Term::Undefined(_) => Tri::No,
+    }
+}
+
+/// The value of an expression.
+#[cycle(expr_value)]
+fn formula_tri(tree: &Tree, env: &[Option<Value>], in_condition: bool, expr: &Expr) -> Tri
+    ensures { result ≡ formula_value tree.now (assignment_of env.now)
+        (bare_module tree.now (assignment_of env.now) in_condition) (formula expr.now) }
+{
+    match expr {
+        Expr::Term(term) => term_tri(tree, env, in_condition, term),
+        Expr::Compare(comparison, operands) => comparison_tri(tree, env, *comparison, operands),
+        Expr::Not(inner) => formula_tri(tree, env, in_condition, inner).complement(),
+        Expr::Group(inner) => formula_tri(tree, env, in_condition, inner),
+        Expr::All(parts) => all_tri(tree, env, in_condition, parts),
+        Expr::Any(parts) => any_tri(tree, env, in_condition, parts),
+    }
+}
+
+/// The value of expressions that `&&` joins, n where there is none.
+#[cycle(expr_value)]
+fn all_tri(tree: &Tree, env: &[Option<Value>], in_condition: bool, parts: &[Expr]) -> Tri
+    ensures { result ≡ formula_value tree.now (assignment_of env.now)
+        (bare_module tree.now (assignment_of env.now) in_condition) (joined both (map formula parts.now)) }
+{
+    if parts.is_empty() {
+        return Tri::No;
+    }
     let mut least = Tri::Yes;
-    for term in expr.terms() {
-        least = least.and(term_tri(env, term));
+    for part in parts {
+        least = least.and(formula_tri(tree, env, in_condition, part));
     }
     least
+}
+
+/// The value of expressions that `||` joins.
+#[cycle(expr_value)]
+fn any_tri(tree: &Tree, env: &[Option<Value>], in_condition: bool, parts: &[Expr]) -> Tri
+    ensures { result ≡ formula_value tree.now (assignment_of env.now)
+        (bare_module tree.now (assignment_of env.now) in_condition) (joined either (map formula parts.now)) }
+{
+    let mut greatest = Tri::No;
+    for part in parts {
+        greatest = greatest.or(formula_tri(tree, env, in_condition, part));
+    }
+    greatest
+}
+
+/// The value of an expression (kconfig-language.rst, "Menu dependencies"): `&&` is the least, `||` the greatest, `!` the
+/// complement. A bool or tristate symbol stands for its value in `env`, where nodes stand by number (a symbol whose
+/// place is empty or missing counts as n), n, m and y for themselves, and other texts for n. A comparison is y or n.
+pub fn tri(tree: &Tree, expr: &Expr, env: &[Option<Value>]) -> Tri
+    ensures { result ≡ expr_value tree.now (assignment_of env.now) expr.now }
+{
+    formula_tri(tree, env, false, expr)
+}
+
+/// The value of a condition, in which m alone means `m && MODULES`.
+pub(crate) fn condition_tri(tree: &Tree, expr: &Expr, env: &[Option<Value>]) -> Tri
+    ensures { result ≡ condition_value tree.now (assignment_of env.now) expr.now }
+{
+    formula_tri(tree, env, true, expr)
+}
+
+/// The value of conditions that `&&` joins.
+pub(crate) fn conditions_tri(tree: &Tree, exprs: &[Expr], env: &[Option<Value>]) -> Tri
+    ensures { result ≡ conditions_value tree.now (assignment_of env.now) exprs.now }
+{
+    let mut least = Tri::Yes;
+    for expr in exprs {
+        least = least.and(condition_tri(tree, expr, env));
+    }
+    least
+}
+
+/// The value of the condition after `if`, y where there is none.
+pub(crate) fn own_condition_tri(tree: &Tree, condition: Option<&Expr>, env: &[Option<Value>]) -> Tri
+    ensures { result ≡ own_condition tree.now (assignment_of env.now) (option_copied condition.entry) }
+{
+    match condition {
+        Some(expr) => condition_tri(tree, expr, env),
+        None => Tri::Yes,
+    }
 }

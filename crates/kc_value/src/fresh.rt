@@ -3,6 +3,7 @@ ghost use Rattle.kc_tree.specs.Nodes.{IsNodeOf};
 ghost use Rattle.kc_value.specs.Solution.{solution, IsOnlySolution};
 
 use crate::evaluation::apply_rule;
+use crate::marking::marked_nodes;
 use crate::resolver::Resolver;
 use crate::slots::empty_slots;
 use crate::user::User;
@@ -11,7 +12,8 @@ use kc_tree::{Node, Tree, Tri};
 use std::alloc::{AllocError, Global};
 
 /// The value of a node in the only solution: the assignment in which each node of the tree has the value
-/// that its rule gives. All nodes before it in the tree's order are evaluated, and nothing is kept.
+/// that its rule gives. Only the node and those that it is computed from are evaluated, in the tree's
+/// order, and nothing is kept.
 ///
 /// That there is a solution, and no other, holds whatever the call returns. The error is want of memory
 /// for a place for each node.
@@ -21,8 +23,12 @@ pub fn solve(alloc: Global, tree: &Tree, user: &User, node: Node) -> Result<Valu
     ensures solved { IsOnlySolution tree.now user.now (solution tree.now user.now) }
 {
     let count = tree.node_count();
+    let marks = marked_nodes(alloc, tree, node)?;
     let mut env = empty_slots(alloc, count)?;
     for next in tree.order() {
+        if !marks[next.number()] {
+            continue;
+        }
         let value = apply_rule(tree, user, env.as_slice(), *next);
         if next.number() == node.number() {
             return Ok(value);

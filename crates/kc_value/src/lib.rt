@@ -2,10 +2,15 @@
 #![tactic(auto)]
 
 mod assignable_values;
+mod comparison;
+mod conditions;
 mod evaluation;
 mod expr_value;
 mod fresh;
+mod gathering;
+mod marking;
 mod meter;
+mod numeral;
 mod resolver;
 mod slots;
 mod symbol_value;
@@ -13,10 +18,15 @@ mod user;
 mod value;
 
 pub use assignable_values::assignable;
+pub use conditions::{comment_condition, menu_condition};
 pub use evaluation::eval;
 pub use expr_value::tri;
 pub use fresh::{Fresh, solve};
+pub use gathering::all_values;
 pub use meter::Meter;
 pub use resolver::Resolver;
 pub use user::User;
 pub use value::Value;
+
+#[cfg(test)]
+mod comparison_tests;

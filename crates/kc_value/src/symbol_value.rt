@@ -1,13 +1,20 @@
-ghost use Rattle.std.specs.Prelude.{◌≡◌, not, find};
-ghost use Rattle.std.specs.Option.{option_copied};
-ghost use Rattle.kc_tree.specs.Tristate.{is_no};
-ghost use Rattle.kc_value.specs.Assignment.{assignment_of};
-ghost use Rattle.kc_value.specs.Rule.{in_bool, visibility, default_value, user_part, symbol_rule};
+//! The visibility and the value of a symbol.
 
-use crate::expr_value::tri;
+ghost use Rattle.std.specs.Prelude.{◌≡◌, not, slice_get, option_and_then, find, filter_map};
+ghost use Rattle.std.specs.Option.{option_copied, option_map_or, option_or};
+ghost use Rattle.kc_tree.specs.declared.tri.Tri.TheVariants.{No};
+ghost use Rattle.kc_tree.specs.Tristate.{least, greatest, is_no};
+ghost use Rattle.kc_tree.specs.TreeValue.{definitions_of};
+ghost use Rattle.kc_value.specs.Assignment.{assignment_of};
+ghost use Rattle.kc_value.specs.Conditions.{dependency, prompt_value};
+ghost use Rattle.kc_value.specs.ExprValue.{own_condition};
+ghost use Rattle.kc_value.specs.Rule.{in_bool, has_modules, in_type, visibility, is_active, definition_default, reverse_value, reverse_values, direct, user_part, symbol_rule};
+
+use crate::conditions::{dependency_tri, prompt_tri};
+use crate::expr_value::{modules_tri, own_condition_tri, symbol_tri, tri};
 use crate::value::Value;
 use itertools::Itertools;
-use kc_tree::{Expr, Symbol, Tri, UserVal};
+use kc_tree::{DefaultValue, Definition, Reverse, Symbol, SymbolType, Tree, Tri, UserVal};
 
 /// A bool knows no m: it stands for y.
 fn bool_value(value: Tri) -> Tri
@@ -19,37 +26,187 @@ fn bool_value(value: Tri) -> Tri
     }
 }
 
-/// The visibility of a symbol: the value of its prompt's condition, as a bool.
-pub(crate) fn symbol_visibility(symbol: &Symbol, env: &[Option<Value>]) -> Tri
-    ensures { result ≡ visibility (assignment_of env.now) symbol.now }
+/// Whether a symbol takes m: a tristate acts as bool where `MODULES` is n.
+fn has_modules(tree: &Tree, symbol: &Symbol, env: &[Option<Value>]) -> bool
+    ensures { result ≡ has_modules tree.now (assignment_of env.now) symbol.now }
 {
-    bool_value(tri(symbol.dependencies(), env))
+    match symbol.kind() {
+        SymbolType::Bool => false,
+        SymbolType::Tristate => !modules_tri(tree, env).is_no(),
+    }
 }
 
-/// The first default whose condition is not n. The condition of each is that of the symbol.
-fn first_active_default(symbol: &Symbol, condition: Tri) -> Option<&Expr>
-    ensures { option_copied result ≡ find (λ e. not (is_no condition)) symbol.now.defaults }
+/// A value as a symbol that takes m, or doesn't, can have it.
+fn in_type(has_modules: bool, value: Tri) -> Tri
+    ensures { result ≡ in_type has_modules value }
 {
-    let (_, default) = symbol
-        .defaults()
-        .iter()
-        .find_position(|_| !condition.is_no())?;
-    Some(default)
+    if has_modules {
+        value
+    } else {
+        bool_value(value)
+    }
 }
 
-/// The least of the first active default's value and its condition.
-fn default_tri(symbol: &Symbol, env: &[Option<Value>]) -> Tri
-    ensures { result ≡ default_value (assignment_of env.now) symbol.now }
+/// The condition of the prompt of a definition by number, n where there is none.
+fn numbered_prompt_tri(tree: &Tree, number: usize, env: &[Option<Value>]) -> Tri
+    ensures { result
+        ≡ option_map_or (prompt_value tree.now (assignment_of env.now)) (slice_get tree.now.definitions number) No }
 {
-    let condition = tri(symbol.dependencies(), env);
-    match first_active_default(symbol, condition) {
-        Some(default) => tri(default, env).and(condition),
+    match tree.definitions().get(number) {
+        Some(definition) => prompt_tri(tree, definition, env),
         None => Tri::No,
     }
 }
 
-/// What the user chose, as far as the visibility allows: nothing for an invisible symbol, and nothing for a
-/// text, which no bool takes.
+/// The visibility of a symbol: the greatest condition of its prompts, with m as y unless it is a tristate and `MODULES`
+/// is not n.
+pub(crate) fn symbol_visibility(tree: &Tree, symbol: &Symbol, env: &[Option<Value>]) -> Tri
+    ensures { result ≡ visibility tree.now (assignment_of env.now) symbol.now }
+{
+    let mut greatest = Tri::No;
+    for number in symbol.definitions() {
+        greatest = greatest.or(numbered_prompt_tri(tree, *number, env));
+    }
+    in_type(has_modules(tree, symbol, env), greatest)
+}
+
+/// The condition of a default in a definition with these dependencies.
+fn default_condition_tri(
+    tree: &Tree,
+    default: &DefaultValue,
+    depends: Tri,
+    env: &[Option<Value>],
+) -> Tri
+    ensures { result ≡ least (own_condition tree.now (assignment_of env.now) default.now.condition) depends }
+{
+    own_condition_tri(tree, default.condition.as_ref(), env).and(depends)
+}
+
+/// Whether the condition of a default is not n.
+fn is_active(tree: &Tree, default: &DefaultValue, depends: Tri, env: &[Option<Value>]) -> bool
+    ensures { result
+        ≡ not (is_no (least (own_condition tree.now (assignment_of env.now) default.now.condition) depends)) }
+{
+    !default_condition_tri(tree, default, depends, env).is_no()
+}
+
+/// The first default of a definition whose condition is not n.
+fn first_active_default<'a>(
+    tree: &Tree,
+    definition: &'a Definition,
+    depends: Tri,
+    env: &[Option<Value>],
+) -> Option<&'a DefaultValue>
+    requires { depends ≡ dependency tree.now (assignment_of env.now) definition.now }
+    ensures { option_copied result
+        ≡ find (is_active tree.now (assignment_of env.now) definition.now) definition.now.defaults }
+{
+    let (_, default) = definition
+        .defaults()
+        .iter()
+        .find_position(|default| is_active(tree, default, depends, env))?;
+    Some(default)
+}
+
+/// The least of the first active default of a definition and its condition.
+fn definition_default_tri(
+    tree: &Tree,
+    definition: &Definition,
+    depends: Tri,
+    env: &[Option<Value>],
+) -> Option<Tri>
+    requires { depends ≡ dependency tree.now (assignment_of env.now) definition.now }
+    ensures { result ≡ definition_default tree.now (assignment_of env.now) definition.now }
+{
+    let default = first_active_default(tree, definition, depends, env)?;
+    let condition = default_condition_tri(tree, default, depends, env);
+    Some(tri(tree, &default.value, env).and(condition))
+}
+
+/// What the definitions of a symbol give it.
+#[derive(Clone, Copy)]
+struct Defined {
+    /// That of the first definition with an active default.
+    default: Option<Tri>,
+    /// The greatest of their dependencies.
+    direct: Tri,
+}
+
+/// The same with one more definition, by number; a number without definition gives nothing.
+fn with_definition(tree: &Tree, defined: Defined, number: usize, env: &[Option<Value>]) -> Defined
+    ensures default { result.default ≡ option_or defined.default
+        (option_and_then (definition_default tree.now (assignment_of env.now))
+        (slice_get tree.now.definitions number)) }
+    ensures direct { result.direct ≡ greatest defined.direct
+        (option_map_or (dependency tree.now (assignment_of env.now)) (slice_get tree.now.definitions number) No) }
+{
+    let Some(definition) = tree.definitions().get(number) else {
+        return defined;
+    };
+    let depends = dependency_tri(tree, definition, env);
+    let default = match defined.default {
+        Some(value) => Some(value),
+        None => definition_default_tri(tree, definition, depends, env),
+    };
+    Defined {
+        default,
+        direct: defined.direct.or(depends),
+    }
+}
+
+/// What all definitions of a symbol give it.
+fn definitions_of(tree: &Tree, symbol: &Symbol, env: &[Option<Value>]) -> Defined
+    ensures default { result.default
+        ≡ slice_get
+        (filter_map (definition_default tree.now (assignment_of env.now)) (definitions_of tree.now symbol.now)) 0 }
+    ensures direct { result.direct ≡ direct tree.now (assignment_of env.now) symbol.now }
+{
+    let mut defined = Defined {
+        default: None,
+        direct: Tri::No,
+    };
+    for number in symbol.definitions() {
+        defined = with_definition(tree, defined, *number, env);
+    }
+    defined
+}
+
+/// The dependencies of a definition by number, n where there is none.
+fn numbered_dependency_tri(tree: &Tree, number: usize, env: &[Option<Value>]) -> Tri
+    ensures { result
+        ≡ option_map_or (dependency tree.now (assignment_of env.now)) (slice_get tree.now.definitions number) No }
+{
+    match tree.definitions().get(number) {
+        Some(definition) => dependency_tri(tree, definition, env),
+        None => Tri::No,
+    }
+}
+
+/// What a `select` or `imply` gives: the least of the value of its symbol and its condition.
+fn reverse_tri(tree: &Tree, reverse: &Reverse, env: &[Option<Value>]) -> Tri
+    ensures { result ≡ reverse_value tree.now (assignment_of env.now) reverse.now }
+{
+    let value = symbol_tri(tree, env, reverse.by);
+    if value.is_no() {
+        return Tri::No;
+    }
+    let own = own_condition_tri(tree, reverse.condition.as_ref(), env);
+    value.and(own.and(numbered_dependency_tri(tree, reverse.definition, env)))
+}
+
+/// The greatest that some `select` or `imply` lines give.
+fn reverses_tri(tree: &Tree, reverses: &[Reverse], env: &[Option<Value>]) -> Tri
+    ensures { result ≡ reverse_values tree.now (assignment_of env.now) reverses.now }
+{
+    let mut greatest = Tri::No;
+    for reverse in reverses {
+        greatest = greatest.or(reverse_tri(tree, reverse, env));
+    }
+    greatest
+}
+
+/// What the user chose, as far as the visibility allows: nothing for an invisible symbol, and nothing for a text, which
+/// no bool or tristate takes.
 fn user_tri(visibility: Tri, user: Option<&UserVal>) -> Option<Tri>
     ensures { result ≡ user_part visibility (option_copied user.entry) }
 {
@@ -60,21 +217,27 @@ fn user_tri(visibility: Tri, user: Option<&UserVal>) -> Option<Tri>
     }
 }
 
-/// The value of a symbol (kconfig-language.rst, "Menu attributes", and Kconfiglib, "str_value"): the user's
-/// where it is visible, else the first active default within the dependencies, and m as y. The `.config`
-/// has its line where it is visible or that default is not n.
+/// The value of a symbol (kconfig-language.rst, "Menu attributes", and Kconfiglib, "tri_value"), and whether the
+/// `.config` has its line.
 pub(crate) fn symbol_value(
+    tree: &Tree,
     symbol: &Symbol,
     visibility: Tri,
     user: Option<&UserVal>,
     env: &[Option<Value>],
 ) -> Value
-    ensures { result
-        ≡ symbol_rule (assignment_of env.now) symbol.now visibility (option_copied user.entry) }
+    ensures { result ≡ symbol_rule tree.now (assignment_of env.now) symbol.now visibility (option_copied user.entry) }
 {
-    let default = default_tri(symbol, env);
-    let within = default.and(tri(symbol.dependencies(), env));
-    let base = user_tri(visibility, user).unwrap_or(within);
-    let written = !visibility.is_no() || !default.is_no();
-    Value::Shown(UserVal::Tri(bool_value(base)), written)
+    let defined = definitions_of(tree, symbol, env);
+    let default = defined.default.unwrap_or(Tri::No);
+    let implied = reverses_tri(tree, symbol.implied(), env);
+    let selected = reverses_tri(tree, symbol.selected(), env);
+    let otherwise = default.or(implied).and(defined.direct);
+    let base = user_tri(visibility, user).unwrap_or(otherwise);
+    let shown = in_type(has_modules(tree, symbol, env), base.or(selected));
+    let written = !visibility.is_no()
+        || !default.is_no()
+        || (!implied.is_no() && !defined.direct.is_no())
+        || !selected.is_no();
+    Value::Shown(UserVal::Tri(shown), written)
 }

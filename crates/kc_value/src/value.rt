@@ -1,7 +1,9 @@
-ghost use Rattle.std.specs.Prelude.{◌≡◌};
+ghost use Rattle.std.specs.Prelude.{◌≡◌, IfOk};
 ghost use Rattle.kc_value.specs.Assignment.{as_tri, is_written};
 
+use kc_text::Text;
 use kc_tree::{Tri, UserVal};
+use std::alloc::{AllocError, Global};
 
 /// The value of a node, as its rule gives it.
 #[derive(Debug, Drop)]
@@ -31,6 +33,20 @@ impl Value {
         match self {
             Value::Tri(_) => false,
             Value::Shown(_, written) => *written,
+        }
+    }
+}
+
+/// A copy of a value. The error is want of memory for a text.
+pub(crate) fn copy_of(alloc: Global, value: &Value) -> Result<Value, AllocError>
+    ensures { IfOk result (λ v. v ≡ value.now) }
+{
+    match value {
+        Value::Tri(tri) => Ok(Value::Tri(*tri)),
+        Value::Shown(UserVal::Tri(tri), written) => Ok(Value::Shown(UserVal::Tri(*tri), *written)),
+        Value::Shown(UserVal::Text(text), written) => {
+            let text = Text::copy_of(alloc, text.as_str())?;
+            Ok(Value::Shown(UserVal::Text(text), *written))
         }
     }
 }

@@ -2,6 +2,8 @@
 mod commands;
 mod faults;
 mod files;
+mod order;
+mod values;
 mod variables;
 mod words;
 

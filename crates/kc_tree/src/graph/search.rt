@@ -98,7 +98,7 @@ impl Search {
 
     /// One step from `top`, the last node of the path: past a use that is done, to a use that is new,
     /// or to the order where no use is left. A use that is on the path closes a loop.
-    fn step(&mut self, alloc: Global, graph: &Graph, top: usize) -> Result<(), OrderFault>
+    fn step(&mut self, alloc: Global, graph: &Graph<'_>, top: usize) -> Result<(), OrderFault>
         requires sound { IsSearchOf graph.now self.old }
         requires some { 0 < length self.old.path.items }
         requires last { slice_index self.old.path.items (length self.old.path.items - 1) ≡ top }
@@ -111,7 +111,7 @@ impl Search {
         let Mark::Open { place, next } = self.marks[top] else {
             unreachable!()
         };
-        let Some(&used) = graph.row(top).get(next) else {
+        let Some(used) = graph.use_at(top, next) else {
             self.finish(top)?;
             return Ok(());
         };
@@ -129,7 +129,7 @@ impl Search {
     }
 
     /// Puts a node, and all that it uses, in the order.
-    pub fn visit(&mut self, alloc: Global, graph: &Graph, root: usize) -> Result<(), OrderFault>
+    pub fn visit(&mut self, alloc: Global, graph: &Graph<'_>, root: usize) -> Result<(), OrderFault>
         requires sound { IsSearchOf graph.now self.old }
         requires rested { self.old.path.items ≡ [] }
         requires within { root < length graph.now }

@@ -1,24 +1,32 @@
-ghost use Rattle.std.specs.Prelude.{◌<◌, All, IsTrue, length};
+ghost use Rattle.std.specs.Prelude.{◌<◌, All, IfOk, IsTrue, length};
+ghost use Rattle.kc_tree.specs.Graph.{IsClosed};
+ghost use Rattle.kc_tree.specs.NodeRows.{numbers_of};
 
 use super::{Graph, OrderFault};
+use crate::id::SymId;
+use crate::node::Node;
+use crate::node_rows::NodeRows;
 use std::alloc::{AllocError, Global};
 use std::process::Abort;
 use std::test::Fail;
 
-fn names_own_nodes(rows: &[Vec<usize>]) -> bool
-    ensures { IsTrue result → All (λ row. All (λ used. used < length rows.now) row.items) rows.now }
+fn names_own_nodes(rows: &[&[usize]]) -> bool
+    ensures { IsTrue result → All (λ row. All (λ used. used < length rows.now) row.now) rows.now }
 {
     let count = rows.len();
     rows.iter().all(|row| row.iter().all(|&used| used < count))
 }
 
-fn graph_of(rt: &impl Abort, alloc: Global, rows: &[&[usize]]) -> Result<Graph, AllocError> {
-    let mut owned = Vec::new(alloc);
+fn rows_of(rt: &impl Abort, alloc: Global, rows: &[&[usize]]) -> Result<NodeRows, AllocError>
+    ensures { IfOk result (λ made. IsClosed (numbers_of made)) }
+{
+    assert!(rt; rows.len() < 10);
+    assert!(rt; names_own_nodes(rows));
+    let mut made = NodeRows::with_capacity(alloc, rows.len())?;
     for row in rows {
-        owned.push(Vec::from_slice(alloc, row)?)?;
+        made.add_row(row)?;
     }
-    assert!(rt; names_own_nodes(&owned));
-    Ok(Graph::from_rows(owned))
+    Ok(made)
 }
 
 #[test]
@@ -30,8 +38,8 @@ fn orders_and_loops(rt: HostRuntime) -> Result<(), Fail> {
         (&[&[1], &[2], &[3], &[2]], Err(&[2, 3])),
     ];
     for (rows, expected) in table {
-        let graph = graph_of(&rt, rt.alloc(), rows)?;
-        match (graph.order(rt.alloc()), expected) {
+        let made = rows_of(&rt, rt.alloc(), rows)?;
+        match (Graph::of(&made).order(rt.alloc()), expected) {
             (Ok(order), Ok(nodes)) => assert_eq!(rt; order.as_slice(), nodes),
             (Err(OrderFault::Loop(found)), Err(nodes)) => assert_eq!(rt; found.as_slice(), nodes),
             (Err(OrderFault::NoMemory), _) => return Err(AllocError)?,
@@ -43,12 +51,17 @@ fn orders_and_loops(rt: HostRuntime) -> Result<(), Fail> {
 
 #[test]
 fn users_of_a_diamond(rt: HostRuntime) -> Result<(), Fail> {
-    let graph = graph_of(&rt, rt.alloc(), &[&[1, 2], &[3], &[3], &[]])?;
-    let users = graph.users(rt.alloc())?;
-    let expected: [&[usize]; 4] = [&[], &[0], &[0], &[1, 2]];
+    let [first, second, third] = [
+        Node::Vis(SymId(0)),
+        Node::Val(SymId(0)),
+        Node::Vis(SymId(1)),
+    ];
+    let rows = rows_of(&rt, rt.alloc(), &[&[1, 2], &[3], &[3], &[]])?;
+    let users = Graph::of(&rows).users(rt.alloc())?;
+    let expected: [&[Node]; 4] = [&[], &[first], &[first], &[second, third]];
     assert_eq!(rt; users.len(), expected.len());
-    for (found, nodes) in users.iter().zip(expected) {
-        assert_eq!(rt; found.as_slice(), nodes);
+    for (number, nodes) in expected.into_iter().enumerate() {
+        assert_eq!(rt; users.row(number), nodes);
     }
     Ok(())
 }

@@ -1,39 +1,120 @@
-//! The rows of the users of a graph's nodes, filled a node at a time.
+//! The users of a graph's nodes: they are counted, and each is then put at a place of its row.
 
-ghost use Rattle.std.specs.Prelude.{◌≡◌, ◌<◌, [], ◌∷◌, ◌++◌, All, IfOk, OnOk, length, replicate, slice_set};
-ghost use Rattle.kc_tree.specs.Graph.{lists, row};
-ghost use Rattle.kc_tree.specs.Users.{AddsUser};
+ghost use Rattle.std.specs.Prelude.{◌≡◌, ◌+◌, ◌<◌, [], All, IfOk, List, OnOk, drop, length, map, replicate, slice_index, slice_set};
+ghost use Rattle.kc_tree.specs.Graph.{row};
+ghost use Rattle.kc_tree.specs.NodeRows.{rows_in, FitsIn};
+ghost use Rattle.kc_tree.specs.Nodes.{number_of};
+ghost use Rattle.kc_tree.specs.Users.{times, uses_in, start_at, end_at, AddsCounts, HasRoom, HasPlace};
 
+use super::Graph;
+use crate::id::SymId;
+use crate::node::Node;
+use crate::node_rows::{NodeRows, Span};
 use std::alloc::{AllocError, Global};
 
-/// This many rows, with no entries.
-pub fn empty_rows(alloc: Global, count: usize) -> Result<Vec<Vec<usize>>, AllocError>
-    ensures { IfOk result (λ rows. lists rows.items ≡ replicate count []) }
+/// Counts one more use of a node.
+fn count_use(counts: &mut Vec<u32>, used: usize) -> Result<(), AllocError>
+    requires { used < length counts.old.items }
+    ensures { OnOk result (counts.new.items ≡ slice_set counts.old.items used (slice_index counts.old.items used + 1)) }
 {
-    let mut rows = Vec::with_capacity(alloc, count)?;
-    for _ in 0..count {
-        rows.push(Vec::new(alloc))?;
-    }
-    Ok(rows)
+    let count = counts[used].checked_add(1).ok_or(AllocError)?;
+    counts[used] = count;
+    Ok(())
 }
 
-/// Adds a node to the users of each node that it uses.
-pub fn add_uses(users: &mut Vec<Vec<usize>>, uses: &[usize], user: usize) -> Result<(), AllocError>
-    requires { All (λ used. used < length users.old.items) uses.now }
-    ensures { OnOk result (AddsUser (lists users.old.items) (lists users.new.items) uses.now user) }
+/// Counts the uses of a row.
+fn count_row(counts: &mut Vec<u32>, uses: &[Node]) -> Result<(), AllocError>
+    requires { All (λ used. number_of used < length counts.old.items) uses.now }
+    ensures { OnOk result (AddsCounts counts.old.items counts.new.items (map number_of uses.now)) }
 {
     for used in uses {
-        add_user(users, *used, user)?;
+        count_use(counts, used.number())?;
     }
     Ok(())
 }
 
-/// Adds a node to the users of another one.
-fn add_user(users: &mut Vec<Vec<usize>>, used: usize, user: usize) -> Result<(), AllocError>
-    requires { used < length users.old.items }
-    ensures { OnOk result (lists users.new.items
-        ≡ slice_set (lists users.old.items) used (row (lists users.old.items) used ++ user ∷ [])) }
+/// How often each node of a graph is used.
+pub fn use_counts(alloc: Global, graph: &Graph<'_>) -> Result<Vec<u32>, AllocError>
+    ensures { IfOk result (λ counts. AddsCounts (replicate (length graph.now) 0) counts.items (uses_in graph.now)) }
 {
-    users[used].push(user)?;
-    Ok(())
+    let nodes = graph.len();
+    let mut counts = vec![in alloc; 0; nodes]?;
+    for user in 0..nodes {
+        count_row(&mut counts, graph.row(user))?;
+    }
+    Ok(counts)
+}
+
+/// Empty spans one after another, each with room behind it, and the end of the last one's room.
+fn empty_spans(alloc: Global, rooms: &[u32]) -> Result<(Vec<Span>, u32), AllocError>
+    ensures room { IfOk result (λ r. HasRoom r.0.items r.1 (slice_index rooms.now)) }
+    ensures empty { IfOk result (λ r. (nodes : List Node) → rows_in nodes r.0.items ≡ replicate (length rooms.now) []) }
+{
+    let mut spans = Vec::with_capacity(alloc, rooms.len())?;
+    let mut end = 0u32;
+    for room in rooms {
+        let start = end;
+        end = start.checked_add(*room).ok_or(AllocError)?;
+        spans.push(Span { start, end: start })?;
+    }
+    Ok((spans, end))
+}
+
+/// Rows of users that are being filled.
+#[derive(Drop)]
+pub struct UserRows {
+    spans: Vec<Span>,
+    nodes: Vec<Node>,
+}
+
+impl UserRows {
+    ghost use Rattle.kc_tree.specs.Users.{users_in, AddsUser, HasRoomFor};
+
+    /// Empty rows, each with room for so many users.
+    pub fn with_room(alloc: Global, rooms: &[u32]) -> Result<UserRows, AllocError>
+        ensures room { IfOk result (λ users. HasRoomFor users (slice_index rooms.now)) }
+        ensures empty { IfOk result (λ users. rows_in users.nodes.items users.spans.items ≡ replicate (length rooms.now) []) }
+    {
+        let (spans, end) = empty_spans(alloc, rooms)?;
+        let nodes = vec![in alloc; Node::Vis(SymId(0)); end as usize]?;
+        Ok(UserRows { spans, nodes })
+    }
+
+    /// Puts a user at the place behind a row.
+    fn place(&mut self, used: usize, user: Node)
+        requires inside { used < length self.old.spans.items }
+        requires place { HasPlace self.old.spans.items (length self.old.nodes.items) used }
+        ensures spans { let end = end_at self.old.spans.items used in self.new.spans.items ≡ slice_set self.old.spans.items used (record { start = start_at self.old.spans.items used; end = end + 1 }) }
+        ensures nodes { self.new.nodes.items ≡ slice_set self.old.nodes.items (end_at self.old.spans.items used) user }
+    {
+        let Span { start, end } = self.spans[used];
+        self.nodes[end as usize] = user;
+        self.spans[used] = Span {
+            start,
+            end: end + 1,
+        };
+    }
+
+    /// Adds a node to the users of each node that it uses.
+    pub fn add_uses(&mut self, graph: &Graph<'_>, user: u32)
+        requires inside { user < length graph.now }
+        requires size { length self.old.spans.items ≡ length graph.now }
+        requires room { HasRoomFor self.old (times (uses_in (drop user graph.now))) }
+        ensures room { HasRoomFor self.new (times (uses_in (drop (user + 1) graph.now))) }
+        ensures added { AddsUser (users_in self.old) (users_in self.new) (row graph.now user) user }
+    {
+        let node = Node::at(user as usize);
+        for used in graph.row(user as usize) {
+            self.place(used.number(), node);
+        }
+    }
+
+    /// The rows.
+    pub fn into_rows(self) -> NodeRows
+        requires { All (FitsIn (length self.nodes.items)) self.spans.items }
+        ensures { result ≡ rows_in self.nodes.items self.spans.items }
+    {
+        let UserRows { spans, nodes } = self;
+        NodeRows::of_spans(spans, nodes)
+    }
 }

@@ -13,8 +13,18 @@ fn faults_of_a_kconfig_are_told(rt: HostRuntime) -> Result<(), Fail> {
         ("config A\nbool \"a", "kconf: Kconfig:2: K03\n"),
         ("config A\nbool \"a\n", "kconf: Kconfig:2: K03\n"),
         ("default y\n", "kconf: Kconfig:1: K06\n"),
-        ("frob\n", "kconf: Kconfig:1: K05\n"),
+        ("frob\n", "kconf: Kconfig:1: K04\n"),
         ("config A\n", "kconf: K12 A\n"),
+        ("endmenu\n", "kconf: Kconfig:1: K07\n"),
+        ("config A\nbool a\n", "kconf: Kconfig:2: K20\n"),
+        ("menu \"m\"\n", "kconf: Kconfig:2: K07\n"),
+        ("config A\nbool \"a\"\nprompt \"b\"\n", "kconf: K14 A\n"),
+        (
+            "config A\nbool \"a\"\nconfig A\ntristate\n",
+            "kconf: K13 A\n",
+        ),
+        ("config A\nbool \"a\"\nmodules\n", "kconf: K18 A\n"),
+        ("config MODULES\ntristate \"m\"\n", "kconf: K18 MODULES\n"),
     ];
     for (kconfig, want) in rows {
         let outcome = run_session(rt.alloc(), kconfig.as_bytes(), b"config\n");
@@ -62,6 +72,12 @@ fn loops_are_told_by_their_nodes(rt: HostRuntime) -> Result<(), Fail> {
     assert_eq!(rt; pair.status, 1);
     let errors = std::str::from_utf8(pair.errors.as_slice())?;
     assert!(rt; tells_loop(errors, ["A", "B"].as_slice()), "{errors}");
+
+    let text = b"config MODULES\nbool \"m\"\ndepends on T\nmodules\nconfig T\ntristate \"t\"\n";
+    let modules = run_session(rt.alloc(), text, b"config\n");
+    assert_eq!(rt; modules.status, 1);
+    let errors = std::str::from_utf8(modules.errors.as_slice())?;
+    assert!(rt; tells_loop(errors, ["MODULES", "T"].as_slice()), "{errors}");
     Ok(())
 }
 

@@ -1,9 +1,11 @@
-use Rattle.std.proofs.Common.{◌≡◌, drop, Ok, false, arith, ap, sym, ◌∙◌}
+use Rattle.std.proofs.Common.{◌≡◌, ◌<◌, length, Ok, false, arith, rules, tests, ap, sym, ◌∙◌}
+use Rattle.std.specs.Str.Lines.{lines}
+use Rattle.std.proofs.lemmas.List.{nil_from_length}
 use Rattle.std.proofs.lemmas.Result.{err_from_is_err_and}
 use Rattle.kc_text.specs.Expansion.{is_among}
-use Rattle.kc_text.specs.Items.{first_item}
-use Rattle.kc_text.specs.Scanning.{item_of, names_of, outside_of, place_of, placing, state_of, texts_of}
-use Rattle.kc_text.proofs.Nesting.{fault_along, lines_end, lines_fail, lines_go_on, source_reads}
+use Rattle.kc_text.specs.Scanning.{item_of, names_of, outside_of, place_of, placing, state_of}
+use Rattle.kc_text.proofs.Nesting.{fault_along, lines_end, lines_fail, lines_go_on, lines_left, source_reads}
+use Rattle.kc_text.proofs.PhysicalLines.{more_lines}
 use Rattle.kc_text.proofs.reading.+read.Goals as goal
 
 pub put_in_place-returns-in_err-read_file-clause-reads : goal.put_in_place-returns-in_err-read_file-clause-reads
@@ -22,22 +24,27 @@ put_in_place-returns-clause-reads t c =
 pub read_file-returns-in_err-read_item-clause-reads : goal.read_file-returns-in_err-read_item-clause-reads
 read_file-returns-in_err-read_item-clause-reads t c =
     let p = err_from_is_err_and c.from_residual-in_err-read_item.result c.from_residual-in_err-read_item.ensures.1 in
-    let first : item_of c.in_ok-item.item ≡ first_item (texts_of (drop c.loop-at.at c.in_ok-lines.lines.items)) = c.in_ok-item.ensures.item ∙ ap (λ ls. first_item (texts_of ls)) (c.split_at.ensures.back ∙ ap (drop c.loop-at.at) c.as_slice.ensures.value) in
+    let some : 0 < length (lines c.loop-rest.rest.now) = more_lines c.loop-rest.rest.now (search (rules, tests)) in
     rw (p.1, p.2)
     (fault_along _ _ _
-    (λ f h. lines_fail c.args.reader c.args.around.now.items c.loop-at.around.items c.loop-at.invariant.around c.args.path.now c.args.run c.in_ok-lines.lines.items c.loop-at.at (state_of c.args.state.now) (state_of c.loop-at.state) (item_of c.in_ok-item.item) (omega arith) first c.loop-at.invariant.reads c.args.text.now f c.in_ok-lines.ensures h)
+    (lines_fail c.args.reader c.args.around.now.items c.loop-rest.around.items c.loop-rest.invariant.around c.args.path.now c.args.run c.args.text.now (lines c.loop-rest.rest.now) c.loop-rest.number (state_of c.args.state.now) (state_of c.loop-rest.state) (item_of c.in_ok-item.item) some c.in_ok-item.ensures.item c.loop-rest.invariant.reads)
     c.in_err-read_item.ensures.reads)
 
-pub read_file-loop-at-preserved : goal.read_file-loop-at-preserved
-read_file-loop-at-preserved t c =
-    let first : item_of c.in_ok-item.item ≡ first_item (texts_of (drop c.loop-at.at c.in_ok-lines.lines.items)) = c.in_ok-item.ensures.item ∙ ap (λ ls. first_item (texts_of ls)) (c.split_at.ensures.back ∙ ap (drop c.loop-at.at) c.as_slice.ensures.value) in
+pub read_file-loop-rest-preserved : goal.read_file-loop-rest-preserved
+read_file-loop-rest-preserved t c =
+    let now = lines c.loop-rest.rest.now in
+    let behind = lines c.in_ok-item.item.rest.now in
+    let some : 0 < length now = more_lines c.loop-rest.rest.now (search (rules, tests)) in
     record {
-      around = c.in_ok-read_item.ensures.around ∙ c.loop-at.invariant.around;
-      within = omega (arith, c.in_ok-item.ensures.within);
-      reads = lines_go_on c.args.reader c.args.around.now.items c.loop-at.around.items c.loop-at.invariant.around c.args.path.now c.args.run c.in_ok-lines.lines.items c.loop-at.at (state_of c.args.state.now) (state_of c.loop-at.state) (item_of c.in_ok-item.item) (omega arith) first c.loop-at.invariant.reads (state_of c.read_item.new.state) c.in_ok-read_item.ensures.reads;
+      utf8 = search rules;
+      around = c.in_ok-read_item.ensures.around ∙ c.loop-rest.invariant.around;
+      within = omega (arith, c.loop-rest.invariant.within, c.in_ok-item.ensures.within);
+      count = lines_left c.args.reader c.args.around.now.items c.loop-rest.around.items c.loop-rest.invariant.around c.args.path.now c.args.run c.args.text.now now c.loop-rest.number (state_of c.args.state.now) (state_of c.loop-rest.state) (item_of c.in_ok-item.item) some c.in_ok-item.ensures.item c.loop-rest.invariant.reads behind c.in_ok-item.ensures.rest c.loop-rest.invariant.count;
+      reads = lines_go_on c.args.reader c.args.around.now.items c.loop-rest.around.items c.loop-rest.invariant.around c.args.path.now c.args.run c.args.text.now now c.loop-rest.number (state_of c.args.state.now) (state_of c.loop-rest.state) (item_of c.in_ok-item.item) some c.in_ok-item.ensures.item c.loop-rest.invariant.reads (state_of c.read_item.new.state) behind c.in_ok-item.ensures.rest c.in_ok-read_item.ensures.reads;
     }
 
 pub read_file-returns-clause-reads : goal.read_file-returns-clause-reads
 read_file-returns-clause-reads t c =
-    lines_end (outside_of c.args.reader) (placing c.args.reader c.args.around.now.items) c.args.path.now c.args.run c.args.text.now c.in_ok-lines.lines.items c.loop-at.at (state_of c.args.state.now) (state_of c.loop-at.state) c.in_ok-lines.ensures (omega (arith, c.loop-at.invariant.within)) c.loop-at.invariant.reads
+    let none : length c.loop-rest.rest.now ≡ 0 = search (rules, tests) in
+    lines_end (outside_of c.args.reader) (placing c.args.reader c.args.around.now.items) c.args.path.now c.args.run c.args.text.now (lines c.loop-rest.rest.now) c.loop-rest.number (state_of c.args.state.now) (state_of c.loop-rest.state) (ap lines (nil_from_length c.loop-rest.rest.now none)) c.loop-rest.invariant.count c.loop-rest.invariant.reads
     ∙ ap Ok (sym c.in_ok-push_end.ensures)

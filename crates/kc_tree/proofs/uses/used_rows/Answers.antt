@@ -1,24 +1,23 @@
-use Rattle.std.proofs.Common.{subst, ◌≡◌, ◌∙◌, ◌+◌, ap, sym, arith, ℕ, List, Some, length}
-use Rattle.std.proofs.lemmas.Option.{slice_get-get_or}
-use Rattle.kc_tree.specs.Graph.{lists}
-use Rattle.kc_tree.proofs.GraphOfSymbols.{AreRowsOf, rows_more, pushed_rows, graph_of_rows}
+use Rattle.std.proofs.Common.{◌≡◌, ◌∷◌, [], ◌++◌, ℕ, List, length, ap, sym, subst, ◌∙◌, arith, add-one}
+use Rattle.kc_tree.specs.declared.node.Node.TheVariants.{Vis, Val}
+use Rattle.kc_tree.specs.TreeValue.{TreeValue, SymbolValue}
+use Rattle.kc_tree.specs.Uses.{used_nodes}
+use Rattle.kc_tree.specs.Collected.{Holds, used_lists}
+use Rattle.kc_tree.proofs.UsedRowLaws.{graph_of_rows}
 use Rattle.kc_tree.proofs.uses.used_rows.Goals as goal
 
 pub loop-number-preserved : goal.loop-number-preserved
 loop-number-preserved c =
-    let symbols = c.args.symbols.now in
+    let t = c.args.outline.now in
     let n = c.loop-number.number in
-    let x = c.index-symbols-number.result in
-    let a = c.in_ok-visibility_row.field-0 in
-    let b = c.in_ok-value_row.field-0 in
-    let there = slice_get-get_or symbols n x c.loop-number-test.true ∙ ap Some (sym c.index-symbols-number.is) in
-    let pushed = pushed_rows c.loop-number.rows.items c.push.new.self.items c.push-in-loop-number.new.self.items a b c.in_ok-push.ensures.items c.in_ok-push-2.ensures.items in
-    let P : List (List ℕ) → Type 0 = λ g. AreRowsOf symbols (n + 1) g in
-    subst P pushed (rows_more symbols n (lists c.loop-number.rows.items) x a.items b.items there c.loop-number.invariant c.in_ok-visibility_row.ensures c.in_ok-value_row.ensures)
+    let same : c.in_ok-cache.cache.reader.outline.now ≡ t = ap (λ r. r.now) c.in_ok-cache.ensures in
+    let more = c.in_ok-add_symbol.ensures (used_lists t n) c.loop-number.invariant in
+    subst (λ (k : ℕ). Holds (used_lists t k) c.add_symbol.new.rows) (sym (add-one n))
+    (subst (λ (x : TreeValue). Holds ((used_lists t n ++ used_nodes x (Vis (record { 0 = n })) ∷ []) ++ used_nodes x (Val (record { 0 = n })) ∷ []) c.add_symbol.new.rows) same more)
 
 pub returns : goal.returns
 returns c =
-    let symbols = c.args.symbols.now in
-    let all : c.loop-number.number ≡ length symbols = omega arith in
-    let P : ℕ → Type 0 = λ n. AreRowsOf symbols n (lists c.loop-number.rows.items) in
-    graph_of_rows symbols (lists c.loop-number.rows.items) (subst P all c.loop-number.invariant)
+    let t = c.args.outline.now in
+    let same : c.deref-symbol-items.result.now ≡ t.symbols = c.deref-symbol-items.ensures.value ∙ ap (λ (x : TreeValue). x.symbols) c.outline.view_is in
+    let all : c.loop-number.number ≡ length t.symbols = omega (arith, ap (λ (xs : List SymbolValue). length xs) same) in
+    graph_of_rows t c.loop-number.rows (subst (λ (k : ℕ). Holds (used_lists t k) c.loop-number.rows) all c.loop-number.invariant)

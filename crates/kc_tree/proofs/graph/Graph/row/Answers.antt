@@ -3,4 +3,4 @@ use Rattle.kc_tree.proofs.graph.Graph.row.Goals as goal
 
 pub returns-clause-within : goal.returns-clause-within
 returns-clause-within c =
-    rw c.as_slice.ensures.value (row_within c.self.inside.rows.items c.args.self.now c.index.result.now c.args.node c.self.view_is c.self.invariant c.requires c.index.ensures)
+    row_within c.self.inside.rows.now c.args.self.now c.row.result.now c.args.node c.self.view_is c.self.invariant c.row.ensures

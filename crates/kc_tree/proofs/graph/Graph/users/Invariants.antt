@@ -1,6 +1,10 @@
-use Rattle.kc_tree.specs.Graph.{lists}
-use Rattle.kc_tree.specs.Users.{IsConverseBelow}
+use Rattle.std.proofs.Common.{drop}
+use Rattle.kc_tree.specs.Users.{times, users_in, uses_in, HasRoomFor, IsConverseBelow}
 use Rattle.kc_tree.proofs.graph.Graph.users.Given as goal
 
+-- the users among the nodes so far are collected, and the others have room
 abbrev pub invariant-loop-user : goal.invariant-loop-user
-invariant-loop-user l = IsConverseBelow l.self (lists l.users.items) l.user
+invariant-loop-user l = record {
+  collected : IsConverseBelow l.self (users_in l.users) l.user;
+  room : HasRoomFor l.users (times (uses_in (drop l.user l.self)));
+}

@@ -1,8 +1,10 @@
-use Rattle.std.proofs.Common.{◌≡◌, ◌<◌, ◌≤◌, length, slice_index, sym, ap, ◌∙◌, arith}
+use Rattle.std.proofs.Common.{◌≡◌, ◌<◌, length, slice_index, sym, ◌∙◌, arith}
 use Rattle.std.proofs.lemmas.List.{get_or_read}
+use Rattle.std.proofs.lemmas.Option.{slice_get_within, get_or_from_slice_get}
 use Rattle.kc_tree.specs.Graph.{row, Uses}
 use Rattle.kc_tree.specs.Search.{mark_of}
 use Rattle.kc_tree.specs.declared.graph.search.Mark.TheVariants.{New, Open}
+use Rattle.kc_tree.proofs.ListLaws.{past_end}
 use Rattle.kc_tree.proofs.MarkLaws.{open-within}
 use Rattle.kc_tree.proofs.SearchSteps.{IsLoop-from_path, IsSound-enter, IsSound-finish, IsSound-pass, mark_read, steps_left-enter, steps_left-finish, steps_left-pass, top_open}
 use Rattle.kc_tree.proofs.graph.search.Search.step.Goals as goal
@@ -22,18 +24,19 @@ opened c =
 
 -- there is a use that was not passed
 more : (c : In-Some) → c.in-Open.next < length (row c.args.graph.now c.args.top)
-more c = omega (arith, c.in-Some.ensures.lookup.3.0, ap length c.row.ensures.nodes)
+more c = slice_get_within (row c.args.graph.now c.args.top) c.in-Open.next c.in-Some.used (sym c.in-Some.ensures.used)
 
-use_at : (c : In-Some) → slice_index (row c.args.graph.now c.args.top) c.in-Open.next ≡ c.in-Some.field-0.now
-use_at c = rw c.row.ensures.nodes at (sym (c.in-Some.ensures.lookup.3.1 0))
+use_at : (c : In-Some) → slice_index (row c.args.graph.now c.args.top) c.in-Open.next ≡ c.in-Some.used
+use_at c =
+    get_or_from_slice_get (row c.args.graph.now c.args.top) c.in-Open.next c.in-Some.used 0 (sym c.in-Some.ensures.used)
 
-uses : (c : In-Some) → Uses c.args.graph.now c.args.top c.in-Some.field-0.now
+uses : (c : In-Some) → Uses c.args.graph.now c.args.top c.in-Some.used
 uses c =
-    (c.in-Open.next, more c, rw c.row.ensures.nodes at (sym (c.in-Some.ensures.lookup.3.1 c.in-Some.field-0.now)))
+    let uses = row c.args.graph.now c.args.top in
+    (c.in-Open.next, more c, get_or_from_slice_get uses c.in-Open.next c.in-Some.used c.in-Some.used (sym c.in-Some.ensures.used))
 
-used_within : (c : In-Some) → c.in-Some.field-0.now < length c.args.graph.now
-used_within c =
-    omega (arith, c.in-Some.ensures.lookup.3.1 0, c.row.ensures.within c.in-Open.next 0 c.in-Some.ensures.lookup.3.0)
+used_within : (c : In-Some) → c.in-Some.used < length c.args.graph.now
+used_within c = c.in-Some.ensures.within
 
 pub index-requires : goal.index-requires
 index-requires c =
@@ -48,38 +51,38 @@ unreachable-requires c =
     let inside = open-within s.marks.items c.args.top _ top.0 top.1 in
     c.in_default.not-Open _ _ (get_or_read s.marks.items c.args.top c.index.result.now inside c.index.ensures New ∙ top.1)
 
-pub row-requires : goal.row-requires
-row-requires c = omega (arith, inside (goal.at.row-requires c).In-Open, c.requires.sound.sized)
+pub use_at-requires : goal.use_at-requires
+use_at-requires c = omega (arith, inside (goal.at.use_at-requires c).In-Open, c.requires.sound.sized)
 
 pub finish-requires : goal.finish-requires
 finish-requires c = inside (goal.at.finish-requires c).In-Open
 
-pub returns-in_default-get-clause-sound : goal.returns-in_default-get-clause-sound
-returns-in_default-get-clause-sound c =
+pub returns-in_default-use_at-clause-sound : goal.returns-in_default-use_at-clause-sound
+returns-in_default-use_at-clause-sound c =
     let s = c.args.self.now in
-    let h = (goal.at.returns-in_default-get-clause-sound c).In-Open in
-    let none : length (row c.args.graph.now c.args.top) ≤ c.in-Open.next = omega (arith, c.in_default-get.ensures.lookup.3, ap length c.row.ensures.nodes) in
+    let h = (goal.at.returns-in_default-use_at-clause-sound c).In-Open in
+    let none = past_end (row c.args.graph.now c.args.top) c.in-Open.next c.in_default-use_at.ensures.used in
     rw (c.in_ok-finish.ensures.marks, c.in_ok-finish.ensures.path, c.in_ok-finish.ensures.order) (IsSound-finish c.args.graph.now s.marks.items s.path.items s.order.items c.args.top _ _ c.requires.sound c.requires.some c.requires.last (opened h) none)
 
-pub returns-in_default-get-clause-nearer : goal.returns-in_default-get-clause-nearer
-returns-in_default-get-clause-nearer c =
+pub returns-in_default-use_at-clause-nearer : goal.returns-in_default-use_at-clause-nearer
+returns-in_default-use_at-clause-nearer c =
     let s = c.args.self.now in
-    let h = (goal.at.returns-in_default-get-clause-nearer c).In-Open in
+    let h = (goal.at.returns-in_default-use_at-clause-nearer c).In-Open in
     rw c.in_ok-finish.ensures.marks (steps_left-finish c.args.graph.now s.marks.items c.args.top _ _ _ (omega (arith, inside h, c.requires.sound.sized)) (inside h) (opened h))
 
 pub path_from-requires : goal.path_from-requires
 path_from-requires c =
     let s = c.args.self.now in
     let h = (goal.at.path_from-requires c).In-Some in
-    let m = mark_read s.marks.items c.in-Some.field-0.now c.index-2.result.now _ (omega (arith, used_within h, c.requires.sound.sized)) c.index-2.ensures c.in-Open-index.is in
-    omega (arith, (c.requires.sound.on_path c.in-Some.field-0.now _ _ m).0)
+    let m = mark_read s.marks.items c.in-Some.used c.index-2.result.now _ (omega (arith, used_within h, c.requires.sound.sized)) c.index-2.ensures c.in-Open-index.is in
+    omega (arith, (c.requires.sound.on_path c.in-Some.used _ _ m).0)
 
 pub returns-in-Open-index-clause-err : goal.returns-in-Open-index-clause-err
 returns-in-Open-index-clause-err c =
     let s = c.args.self.now in
     let h = (goal.at.returns-in-Open-index-clause-err c).In-Some in
-    let m = mark_read s.marks.items c.in-Some.field-0.now c.index-2.result.now _ (omega (arith, used_within h, c.requires.sound.sized)) c.index-2.ensures c.in-Open-index.is in
-    rw c.in_ok-path_from-in-Open-index.ensures (IsLoop-from_path c.args.graph.now s.marks.items s.path.items s.order.items c.args.top c.in-Some.field-0.now _ _ c.requires.sound c.requires.some c.requires.last (uses h) m)
+    let m = mark_read s.marks.items c.in-Some.used c.index-2.result.now _ (omega (arith, used_within h, c.requires.sound.sized)) c.index-2.ensures c.in-Open-index.is in
+    rw c.in_ok-path_from-in-Open-index.ensures (IsLoop-from_path c.args.graph.now s.marks.items s.path.items s.order.items c.args.top c.in-Some.used _ _ c.requires.sound c.requires.some c.requires.last (uses h) m)
 
 pub returns-clause-sound : goal.returns-clause-sound
 returns-clause-sound c =
@@ -87,7 +90,7 @@ returns-clause-sound c =
     let g = c.args.graph.now in
     let h = (goal.at.returns-clause-sound c).In-Some in
     let o = (goal.at.returns-clause-sound c).In-Open in
-    let used = c.in-Some.field-0.now in
+    let used = c.in-Some.used in
     let used_inside : used < length s.marks.items = omega (arith, used_within h, c.requires.sound.sized) in
     elim c.match-index-2.branch [
       | in-New+in_ok-enter-in-New w ↦
@@ -104,7 +107,7 @@ returns-clause-nearer c =
     let g = c.args.graph.now in
     let h = (goal.at.returns-clause-nearer c).In-Some in
     let o = (goal.at.returns-clause-nearer c).In-Open in
-    let used = c.in-Some.field-0.now in
+    let used = c.in-Some.used in
     let used_inside : used < length s.marks.items = omega (arith, used_within h, c.requires.sound.sized) in
     elim c.match-index-2.branch [
       | in-New+in_ok-enter-in-New w ↦

@@ -1,0 +1,9 @@
+use Rattle.std.proofs.Common.{not, nat_eq, get_or, refl, arith}
+use Rattle.kc_text.specs.declared.bytes.TheConstants.{CLASSES}
+use Rattle.kc_text.specs.Bytes.{is_word}
+use Rattle.kc_text.proofs.ByteClasses.{agree_below, agree_at}
+use Rattle.kc_text.proofs.bytes.is_word.Goals as goal
+
+pub returns : goal.returns
+unfolding agree_below
+returns c = agree_at (λ k. not (nat_eq (get_or CLASSES k 0) 44)) is_word 256 refl c.args.byte (omega arith)

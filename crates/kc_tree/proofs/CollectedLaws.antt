@@ -1,0 +1,230 @@
+-- Rows of numbers while nodes are collected: one step after another, and lists without repeats.
+use Rattle.std.proofs.Common.{◌≡◌, ℕ, suc, ◌+◌, ◌<◌, ◌≤◌, ◌^◌, Bool, true, false, ◌||◌, eqb, List, [], ◌∷◌, ◌++◌, length, get_or, take, map, Some, None, refl, sym, ap, subst, ◌∙◌, inl, inr, ◌⊎◌, arith}
+use Rattle.std.specs.List.{list_any, flat_map, slice_get, Contains, All}
+use Rattle.std.specs.Option.{option_map_or}
+use Rattle.std.proofs.Math.Bool.{or_assoc}
+use Rattle.std.proofs.lemmas.Bool.{or_cases, eqb-true, eq-eqb, cases_lt}
+use Rattle.std.proofs.lemmas.List.{take_more, append-nil, length_push, get_or_push, get_or_past, get_or_append_left, map_push}
+use Rattle.std.proofs.lemmas.List.Elements.{All-contains, Contains-get_or}
+use Rattle.std.proofs.lemmas.Option.{slice_get_past, slice_get_cases}
+use Rattle.std.proofs.lemmas.List.Folds.{list_any-append, list_any_at}
+use Rattle.std.proofs.lemmas.Grind.{flat_map-append}
+use Rattle.kc_tree.specs.declared.node.Node.{Node}
+use Rattle.kc_tree.specs.declared.node.Node.TheVariants.{Val}
+use Rattle.kc_tree.specs.declared.id.SymId.{SymId}
+use Rattle.kc_tree.specs.declared.expr.Expr.{Expr}
+use Rattle.kc_tree.specs.Nodes.{number_of, node_at, node_symbol}
+use Rattle.kc_tree.specs.TreeValue.{TreeValue, SymbolValue}
+use Rattle.kc_tree.specs.Grammar.{formula, joined, both, either}
+use Rattle.kc_tree.specs.Uses.{symbol_nodes, formula_nodes, value_nodes, has_bare_module}
+use Rattle.kc_tree.proofs.NodeNumbers.{number_of-node_at, symbol_below}
+use Rattle.kc_tree.specs.Collected.{has_number, has_node, Adds, HaveSame, HasNodes, Holds}
+
+-- ---- tests of lists
+same_tests : (a b : Bool) → (a ≡ true → b ≡ true) → (b ≡ true → a ≡ true) → a ≡ b
+same_tests true b f g = sym (f refl)
+same_tests false true f g = g refl
+same_tests false false f g = refl
+
+-- a test of an element of a list
+pub any_contains : {X : Type 0} (p : X → Bool) (xs : List X) (x : X) → Contains xs x → p x ≡ true → list_any p xs ≡ true
+any_contains p xs x c e = list_any_at p xs c.0 x c.1 (ap p c.2 ∙ e)
+
+-- an element that a test finds
+found : {X : Type 0} (p : X → Bool) (xs : List X) → list_any p xs ≡ true → (x : X) × Contains xs x × (p x ≡ true)
+found p [] e = cc
+found p (x ∷ xs) e =
+    elim (or_cases (p x) (list_any p xs) e) [
+      | inl h ↦ (x, (0, omega arith, refl), h)
+      | inr h ↦ let r = found p xs h in (r.0, (suc r.1.0, omega (arith, r.1.1), r.1.2), r.2)
+    ]
+
+any_moved : {X : Type 0} (p : X → Bool) (xs ys : List X) → ((x : X) → Contains xs x → Contains ys x) → list_any p xs ≡ true → list_any p ys ≡ true
+any_moved p xs ys f e = let r = found p xs e in any_contains p ys r.0 (f r.0 r.1) r.2
+
+-- lists with the same elements pass a test alike
+pub any_of_same : {X : Type 0} (p : X → Bool) (xs ys : List X) → ((x : X) → Contains xs x → Contains ys x) → ((x : X) → Contains ys x → Contains xs x) → list_any p xs ≡ list_any p ys
+any_of_same p xs ys f g = same_tests _ _ (any_moved p xs ys f) (any_moved p ys xs g)
+
+-- alike at each element
+pub any_alike : {X : Type 0} (p q : X → Bool) (xs : List X) → ((x : X) → p x ≡ q x) → list_any p xs ≡ list_any q xs
+any_alike p q [] h = refl
+any_alike p q (x ∷ xs) h = ap (λ b. b || list_any p xs) (h x) ∙ ap (λ b. q x || b) (any_alike p q xs h)
+
+or_swap : (a b c d : Bool) → ((a || b) || (c || d)) ≡ ((a || c) || (b || d))
+or_swap true b c d = refl
+or_swap false true true d = refl
+or_swap false true false d = refl
+or_swap false false c d = refl
+
+pub any_or : {X : Type 0} (p q : X → Bool) (xs : List X) → list_any (λ x. p x || q x) xs ≡ (list_any p xs || list_any q xs)
+any_or p q [] = refl
+any_or p q (x ∷ xs) = ap (λ b. (p x || q x) || b) (any_or p q xs) ∙ or_swap (p x) (q x) (list_any p xs) (list_any q xs)
+
+pub any_flat : {X Y : Type 0} (p : Y → Bool) (f : X → List Y) (xs : List X) → list_any p (flat_map f xs) ≡ list_any (λ x. list_any p (f x)) xs
+any_flat p f [] = refl
+any_flat p f (x ∷ xs) = list_any-append p (f x) (flat_map f xs) ∙ ap (λ b. list_any p (f x) || b) (any_flat p f xs)
+
+-- ---- rows, a step after another
+pub or_false : (b : Bool) → b ≡ (b || false)
+or_false true = refl
+or_false false = refl
+
+pub adds_none : (r : List ℕ) → Adds r r []
+adds_none r = record { has = λ k. or_false (has_number r k) }
+
+pub adds_unchanged : (r s : List ℕ) → s ≡ r → Adds r s []
+adds_unchanged r s e = subst (λ x. Adds r x []) (sym e) (adds_none r)
+
+pub adds_then : (a b c : List ℕ) (xs ys : List Node) → Adds a b xs → Adds b c ys → Adds a c (xs ++ ys)
+adds_then a b c xs ys f g = record {
+  has = λ k.
+      g.has k
+      ∙ ap (λ x. x || has_node ys k) (f.has k)
+      ∙ or_assoc (has_number a k) (has_node xs k) (has_node ys k)
+      ∙ ap (λ x. has_number a k || x) (sym (list_any-append (λ n. eqb (number_of n) k) xs ys));
+}
+
+pub adds_alike : (a b : List ℕ) (xs ys : List Node) → Adds a b xs → ((k : ℕ) → has_node xs k ≡ has_node ys k) → Adds a b ys
+adds_alike a b xs ys f e = record { has = λ k. f.has k ∙ ap (λ x. has_number a k || x) (e k) }
+
+pub adds_number : (a b : List ℕ) (n : Node) (v : ℕ) → b ≡ a ++ v ∷ [] → v ≡ number_of n → Adds a b (n ∷ [])
+adds_number a b n v e i = record {
+  has = λ k.
+      ap (λ r. has_number r k) e
+      ∙ list_any-append (λ j. eqb j k) a (v ∷ [])
+      ∙ ap (λ x. has_number a k || (eqb x k || false)) i;
+}
+
+-- one more element of a list, at a step of a loop
+pub adds_more : {X : Type 0} (f : X → List Node) (xs : List X) (i : ℕ) (x : X) (a b c : List ℕ) → i < length xs → x ≡ get_or xs i x → Adds a b (flat_map f (take i xs)) → Adds b c (f x) → Adds a c (flat_map f (take (i + 1) xs))
+adds_more f xs i x a b c h e g k =
+    let P : List Node → Type 0 = λ ns. Adds a c ns in
+    let one : take (i + 1) xs ≡ take i xs ++ x ∷ [] = take_more xs i x h ∙ ap (λ y. take i xs ++ y ∷ []) (sym e) in
+    subst P (sym (ap (flat_map f) one ∙ flat_map-append f (take i xs) (x ∷ []))) (adds_then a b c (flat_map f (take i xs)) (f x ++ []) g (adds_alike b c (f x) (f x ++ []) k (λ j. alike (f x) j)))
+  where
+    alike : (ns : List Node) (j : ℕ) → has_node ns j ≡ has_node (ns ++ []) j
+    alike ns j = or_false (has_node ns j) ∙ sym (list_any-append (λ n. eqb (number_of n) j) ns [])
+
+-- ---- symbols
+pub no_symbol : (t : TreeValue) (s : SymId) → length t.symbols ≤ s.0 → symbol_nodes t s ≡ []
+no_symbol t s h = ap (λ o. option_map_or (λ x. Val s ∷ []) o []) (slice_get_past t.symbols s.0 h)
+
+pub some_symbol : (t : TreeValue) (s : SymId) → s.0 < length t.symbols → symbol_nodes t s ≡ Val s ∷ []
+some_symbol t s h = go (slice_get_cases t.symbols s.0).1
+  where
+    go : ((x : SymbolValue) × (s.0 < length t.symbols) × (slice_get t.symbols s.0 ≡ Some x) × (get_or t.symbols s.0 x ≡ x)) ⊎ ((length t.symbols ≤ s.0) × (slice_get t.symbols s.0 ≡ None)) → symbol_nodes t s ≡ Val s ∷ []
+    go (inl a) = ap (λ o. option_map_or (λ x. Val s ∷ []) o []) a.2
+    go (inr b) = absurd (omega (arith, b.0))
+
+-- ---- expressions
+-- what the parts of an expression read, however they are joined
+pub joined_both : (t : TreeValue) (es : List Expr) → formula_nodes t (joined both (map formula es)) ≡ flat_map (value_nodes t) es
+joined_both t [] = refl
+joined_both t (e ∷ []) = sym (append-nil (value_nodes t e))
+joined_both t (e ∷ f ∷ es) = ap (λ ns. value_nodes t e ++ ns) (joined_both t (f ∷ es))
+
+pub joined_either : (t : TreeValue) (es : List Expr) → formula_nodes t (joined either (map formula es)) ≡ flat_map (value_nodes t) es
+joined_either t [] = refl
+joined_either t (e ∷ []) = sym (append-nil (value_nodes t e))
+joined_either t (e ∷ f ∷ es) = ap (λ ns. value_nodes t e ++ ns) (joined_either t (f ∷ es))
+
+pub bare_both : (es : List Expr) → has_bare_module (joined both (map formula es)) ≡ list_any (λ e. has_bare_module (formula e)) es
+bare_both [] = refl
+bare_both (e ∷ []) = or_false (has_bare_module (formula e))
+bare_both (e ∷ f ∷ es) = ap (λ b. has_bare_module (formula e) || b) (bare_both (f ∷ es))
+
+pub bare_either : (es : List Expr) → has_bare_module (joined either (map formula es)) ≡ list_any (λ e. has_bare_module (formula e)) es
+bare_either [] = refl
+bare_either (e ∷ []) = or_false (has_bare_module (formula e))
+bare_either (e ∷ f ∷ es) = ap (λ b. has_bare_module (formula e) || b) (bare_either (f ∷ es))
+
+-- two lists that stand for the same nodes
+pub adds_equal : (a b : List ℕ) (xs ys : List Node) → xs ≡ ys → Adds a b xs → Adds a b ys
+adds_equal a b xs ys e f = subst (λ ns. Adds a b ns) e f
+
+-- ---- lists with the same numbers
+number_in : (xs : List ℕ) (k : ℕ) → has_number xs k ≡ true → Contains xs k
+number_in xs k e = let r = found (λ j. eqb j k) xs e in subst (λ (j : ℕ). Contains xs j) (eqb-true r.0 k r.2) r.1
+
+number_found : (xs : List ℕ) (k : ℕ) → Contains xs k → has_number xs k ≡ true
+number_found xs k c = any_contains (λ j. eqb j k) xs k c (eq-eqb k k refl)
+
+pub any_same : (p : ℕ → Bool) (xs ys : List ℕ) → HaveSame xs ys → list_any p xs ≡ list_any p ys
+any_same p xs ys h = any_of_same p xs ys
+    (λ x c. number_in ys x (sym (h.has x) ∙ number_found xs x c))
+    (λ x c. number_in xs x (h.has x ∙ number_found ys x c))
+
+pub same_from_contains : (xs ys : List ℕ) → ((k : ℕ) → Contains xs k → Contains ys k) → ((k : ℕ) → Contains ys k → Contains xs k) → HaveSame xs ys
+same_from_contains xs ys f g = record { has = λ k. any_of_same (λ j. eqb j k) xs ys f g }
+
+-- ---- rows and their nodes
+pub any_map : {X Y : Type 0} (p : Y → Bool) (f : X → Y) (xs : List X) → list_any p (map f xs) ≡ list_any (λ x. p (f x)) xs
+any_map p f [] = refl
+any_map p f (x ∷ xs) = ap (λ b. p (f x) || b) (any_map p f xs)
+
+pub adds_numbers : (a b : List ℕ) (ns : List Node) → b ≡ a ++ map number_of ns → Adds a b ns
+adds_numbers a b ns e = record {
+  has = λ k.
+      ap (λ r. has_number r k) e
+      ∙ list_any-append (λ j. eqb j k) a (map number_of ns)
+      ∙ ap (λ x. has_number a k || x) (any_map (λ j. eqb j k) number_of ns);
+}
+
+-- a row that was empty, and is then put in order
+pub has_nodes : (a b c : List ℕ) (ns : List Node) → a ≡ [] → Adds a b ns → HaveSame c b → HasNodes ns c
+has_nodes a b c ns e f h = record { has = λ k. h.has k ∙ f.has k ∙ ap (λ r. has_number r k || has_node ns k) e }
+
+-- the nodes of the numbers of a row
+pub node_row : (row : List ℕ) (k : ℕ) → has_node (map node_at row) k ≡ has_number row k
+node_row row k = any_map (λ n. eqb (number_of n) k) node_at row ∙ any_alike (λ j. eqb (number_of (node_at j)) k) (λ j. eqb j k) row (λ j. ap (λ i. eqb i k) (number_of-node_at j))
+
+pub node_found : (ns : List Node) (k : ℕ) → has_node ns k ≡ true → (n : Node) × Contains ns n × (number_of n ≡ k)
+node_found ns k e = let r = found (λ n. eqb (number_of n) k) ns e in (r.0, r.1, eqb-true (number_of r.0) k r.2)
+
+pub node_has : (ns : List Node) (n : Node) → Contains ns n → has_node ns (number_of n) ≡ true
+node_has ns n c = any_contains (λ m. eqb (number_of m) (number_of n)) ns n c (eq-eqb (number_of n) (number_of n) refl)
+
+-- the numbers of a row of nodes of a tree are small
+pub numbers_small : (count : ℕ) (ns : List Node) (row : List ℕ) → count ≤ 65535 → All (λ n. node_symbol n < count) ns → HasNodes ns row → All (λ k. k < 2 ^ 32) row
+numbers_small count ns row few within h = λ i d l.
+    let k = get_or row i d in
+    let c = Contains-get_or row i d l in
+    let r = node_found ns k (sym (h.has k) ∙ number_found row k c) in
+    let below = symbol_below r.0 count (All-contains (λ n. node_symbol n < count) ns r.0 within r.1) in
+    omega (arith, r.2)
+
+-- ---- tables
+pub holds_none : (rows : List (List Node)) → rows ≡ [] → Holds [] rows
+holds_none rows e = record {
+  whole = ap length e;
+  each = λ j k. ap (λ rs. has_node (get_or rs j []) k) e;
+}
+
+pub holds_push : (lists rows : List (List Node)) (l r : List Node) → Holds lists rows → ((k : ℕ) → has_node r k ≡ has_node l k) → Holds (lists ++ l ∷ []) (rows ++ r ∷ [])
+holds_push lists rows l r h e = record {
+  whole = omega (arith, length_push rows r, length_push lists l, h.whole);
+  each = λ j k. at j k (cases_lt j (length rows));
+}
+  where
+    past : (j k : ℕ) → length rows ≤ j → (j < length rows + 1) ⊎ (length rows + 1 ≤ j) → has_node (get_or (rows ++ r ∷ []) j []) k ≡ has_node (get_or (lists ++ l ∷ []) j []) k
+    past j k i (inl m) =
+        ap (λ ns. has_node ns k) (get_or_push rows r [] j (omega arith))
+        ∙ e k
+        ∙ sym (ap (λ ns. has_node ns k) (get_or_push lists l [] j (omega (arith, h.whole))))
+    past j k i (inr m) =
+        ap (λ ns. has_node ns k) (get_or_past (rows ++ r ∷ []) j [] (omega (arith, length_push rows r)))
+        ∙ sym (ap (λ ns. has_node ns k) (get_or_past (lists ++ l ∷ []) j [] (omega (arith, length_push lists l, h.whole))))
+
+    at : (j k : ℕ) → (j < length rows) ⊎ (length rows ≤ j) → has_node (get_or (rows ++ r ∷ []) j []) k ≡ has_node (get_or (lists ++ l ∷ []) j []) k
+    at j k (inl i) =
+        ap (λ ns. has_node ns k) (get_or_append_left rows (r ∷ []) [] j i)
+        ∙ h.each j k
+        ∙ sym (ap (λ ns. has_node ns k) (get_or_append_left lists (l ∷ []) [] j (omega (arith, h.whole))))
+    at j k (inr i) = past j k i (cases_lt j (length rows + 1))
+
+-- the table of one more list
+pub holds_more : {X : Type 0} (f : X → List Node) (xs : List X) (i : ℕ) (x : X) (rows : List (List Node)) → i < length xs → x ≡ get_or xs i x → Holds (map f (take i xs) ++ f x ∷ []) rows → Holds (map f (take (i + 1) xs)) rows
+holds_more f xs i x rows h e g =
+    let one : take (i + 1) xs ≡ take i xs ++ x ∷ [] = take_more xs i x h ∙ ap (λ y. take i xs ++ y ∷ []) (sym e) in
+    subst (λ ls. Holds ls rows) (sym (ap (map f) one ∙ map_push f (take i xs) x)) g

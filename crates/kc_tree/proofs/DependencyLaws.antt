@@ -1,0 +1,249 @@
+-- What definitions depend on, by the numbers of the definitions and of the blocks around them.
+use Rattle.std.proofs.Common.{◌≡◌, ℕ, zero, suc, ◌+◌, ◌-◌, ◌<◌, ◌≤◌, arith, append_assoc, Bool, false, ◌||◌, eqb, List, [], ◌∷◌, ◌++◌, length, get_or, map, Option, Some, None, refl, sym, ap, ◌∙◌}
+use Rattle.std.specs.List.{list_any, flat_map, filter_map, slice_get}
+use Rattle.std.specs.Option.{option_map_or}
+use Rattle.std.proofs.Math.Bool.{or_assoc}
+use Rattle.std.proofs.lemmas.List.{append-nil}
+use Rattle.std.proofs.lemmas.Option.{slice_get_past, slice_get_read}
+use Rattle.std.proofs.lemmas.List.Folds.{list_any-append}
+use Rattle.kc_tree.specs.declared.id.BlockId.{BlockId}
+use Rattle.kc_tree.specs.declared.definition.Prompt.{Prompt}
+use Rattle.kc_tree.specs.declared.symbol.Reverse.{Reverse}
+use Rattle.kc_tree.specs.declared.node.Node.{Node}
+use Rattle.kc_tree.specs.Nodes.{number_of}
+use Rattle.kc_tree.specs.TreeValue.{TreeValue, BlockValue, DefinitionValue, blocks_from, blocks_around}
+use Rattle.kc_tree.specs.Uses.{symbol_nodes, conditions_nodes, own_condition_nodes, depends_nodes, visible_nodes, dependency_nodes, default_nodes, definition_nodes, prompt_nodes, reverse_nodes}
+use Rattle.kc_tree.specs.Collected.{has_number, has_node, HaveSame, Holds, own_lists, depends_lists, visible_lists, dependency_at, depends_at, visible_at, block_numbers, block_numbers_at, innermost_at, defaults_at, prompt_own_at, prompted_at, source_nodes}
+use Rattle.kc_tree.proofs.CollectedLaws.{any_same, any_alike, any_or, any_flat, any_map, or_false}
+
+-- ---- lists and options
+get_or_mapped : {X : Type 0} (f : X → List Node) (xs : List X) (j : ℕ) → get_or (map f xs) j [] ≡ option_map_or f (slice_get xs j) []
+get_or_mapped f [] j = refl
+get_or_mapped f (x ∷ xs) zero = refl
+get_or_mapped f (x ∷ xs) (suc j) = get_or_mapped f xs j
+
+filtered_step : {X Y : Type 0} (q : Y → Bool) (g : X → Option Y) (x : X) (xs : List X) → list_any q (filter_map g xs) ≡ list_any (λ z. option_map_or q (g z) false) xs → (o : Option Y) → g x ≡ o → list_any q (filter_map g (x ∷ xs)) ≡ list_any (λ z. option_map_or q (g z) false) (x ∷ xs)
+filtered_step q g x xs h None e = rw e h
+filtered_step q g x xs h (Some y) e = rw e (ap (λ b. q y || b) h)
+
+pub any_filtered : {X Y : Type 0} (q : Y → Bool) (g : X → Option Y) (xs : List X) → list_any q (filter_map g xs) ≡ list_any (λ x. option_map_or q (g x) false) xs
+any_filtered q g [] = refl
+any_filtered q g (x ∷ xs) = filtered_step q g x xs (any_filtered q g xs) (g x) refl
+
+has_both : (xs ys : List Node) (k : ℕ) → has_node (xs ++ ys) k ≡ (has_node xs k || has_node ys k)
+has_both xs ys k = list_any-append (λ n. eqb (number_of n) k) xs ys
+
+-- ---- blocks
+block_nodes : (f : BlockValue → List Node) (blocks : List BlockValue) (n : ℕ) (id : Option BlockId) → flat_map f (blocks_from blocks n id) ≡ flat_map (λ b. option_map_or f (slice_get blocks b) []) (block_numbers blocks n id)
+block_nodes f blocks zero id = refl
+block_nodes f blocks (suc n) None = refl
+block_nodes f blocks (suc n) (Some id) = at (block_nodes f blocks n) (slice_get blocks id.0) refl
+  where
+    at : ((p : Option BlockId) → flat_map f (blocks_from blocks n p) ≡ flat_map (λ b. option_map_or f (slice_get blocks b) []) (block_numbers blocks n p)) → (o : Option BlockValue) → slice_get blocks id.0 ≡ o → flat_map f (blocks_from blocks (suc n) (Some id)) ≡ flat_map (λ b. option_map_or f (slice_get blocks b) []) (block_numbers blocks (suc n) (Some id))
+    at h None e = rw e refl
+    at h (Some b) e = rw e (ap (λ ns. f b ++ ns) (h b.parent) ∙ ap (λ (o : Option BlockValue). option_map_or f o [] ++ flat_map (λ b. option_map_or f (slice_get blocks b) []) (block_numbers blocks n b.parent)) (sym e))
+
+pub block_numbers_none : (blocks : List BlockValue) (n : ℕ) → block_numbers blocks n None ≡ []
+block_numbers_none blocks zero = refl
+block_numbers_none blocks (suc n) = refl
+
+pub block_numbers_past : (blocks : List BlockValue) (n : ℕ) (id : BlockId) → slice_get blocks id.0 ≡ None → block_numbers blocks n (Some id) ≡ []
+block_numbers_past blocks zero id e = refl
+block_numbers_past blocks (suc n) id e = ap (λ (o : Option BlockValue). option_map_or (λ b. id.0 ∷ block_numbers blocks n b.parent) o []) e
+
+pub block_numbers_some : (blocks : List BlockValue) (n m : ℕ) (id : BlockId) (b : BlockValue) → n ≡ suc m → slice_get blocks id.0 ≡ Some b → block_numbers blocks n (Some id) ≡ id.0 ∷ block_numbers blocks m b.parent
+block_numbers_some blocks n m id b s e =
+    ap (λ i. block_numbers blocks i (Some id)) s
+    ∙ ap (λ (o : Option BlockValue). option_map_or (λ b. id.0 ∷ block_numbers blocks m b.parent) o []) e
+
+-- the blocks so far, where no block is next
+pub no_more_blocks : (blocks : List BlockValue) (xs ys : List ℕ) (n : ℕ) (next : Option BlockId) (id : BlockId) → next ≡ Some id → length blocks ≤ id.0 → xs ++ block_numbers blocks n next ≡ ys → xs ≡ ys
+no_more_blocks blocks xs ys n next id e h i =
+    sym (ap (λ (o : Option BlockId). xs ++ block_numbers blocks n o) e ∙ ap (λ bs. xs ++ bs) (block_numbers_past blocks n id (slice_get_past blocks id.0 h)) ∙ append-nil xs) ∙ i
+
+-- one more block
+pub more_blocks : (blocks : List BlockValue) (xs xs₂ ys : List ℕ) (d : ℕ) (next next₂ : Option BlockId) (id : BlockId) (b : BlockValue) → d < 64 → next ≡ Some id → id.0 < length blocks → b ≡ get_or blocks id.0 b → xs₂ ≡ xs ++ id.0 ∷ [] → next₂ ≡ b.parent → xs ++ block_numbers blocks (64 - d) next ≡ ys → xs₂ ++ block_numbers blocks (64 - (d + 1)) next₂ ≡ ys
+more_blocks blocks xs xs₂ ys d next next₂ id b l e h r p f i =
+    let there = slice_get_read blocks (length blocks) id.0 b refl h r in
+    let step = block_numbers_some blocks (64 - d) (64 - (d + 1)) id b (omega arith) there in
+    ap (λ zs. zs ++ block_numbers blocks (64 - (d + 1)) next₂) p
+    ∙ ap (λ (o : Option BlockId). (xs ++ id.0 ∷ []) ++ block_numbers blocks (64 - (d + 1)) o) f
+    ∙ append_assoc xs (id.0 ∷ []) (block_numbers blocks (64 - (d + 1)) b.parent)
+    ∙ ap (λ bs. xs ++ bs) (sym step)
+    ∙ ap (λ (o : Option BlockId). xs ++ block_numbers blocks (64 - d) o) (sym e)
+    ∙ i
+
+-- the blocks around definitions, from their innermost blocks
+innermost_around : (t : TreeValue) (k j : ℕ) → list_any (λ b. has_number (block_numbers t.blocks 64 (Some (record { 0 = b }))) k) (innermost_at t j) ≡ has_number (block_numbers_at t j) k
+innermost_around t k j = at (slice_get t.definitions j)
+  where
+    around : ℕ → Bool
+    around b = has_number (block_numbers t.blocks 64 (Some (record { 0 = b }))) k
+
+    of_block : (o : Option BlockId) → list_any around (option_map_or (λ b. b.0 ∷ []) o []) ≡ has_number (block_numbers t.blocks 64 o) k
+    of_block None = refl
+    of_block (Some b) = sym (or_false (around b.0))
+
+    at : (o : Option DefinitionValue) → list_any around (option_map_or (λ d. option_map_or (λ b. b.0 ∷ []) d.block []) o []) ≡ has_number (option_map_or (λ d. block_numbers t.blocks 64 d.block) o []) k
+    at None = refl
+    at (Some d) = of_block d.block
+
+pub blocks_same : (t : TreeValue) (js inner inner₂ bs bs₂ : List ℕ) → inner ≡ flat_map (innermost_at t) js → HaveSame inner₂ inner → bs ≡ flat_map (λ b. block_numbers t.blocks 64 (Some (record { 0 = b }))) inner₂ → HaveSame bs₂ bs → HaveSame bs₂ (flat_map (block_numbers_at t) js)
+blocks_same t js inner inner₂ bs bs₂ e f g h = record { has = λ k. at k }
+  where
+    around : ℕ → List ℕ
+    around b = block_numbers t.blocks 64 (Some (record { 0 = b }))
+
+    at : (k : ℕ) → has_number bs₂ k ≡ has_number (flat_map (block_numbers_at t) js) k
+    at k =
+        h.has k
+        ∙ ap (λ xs. has_number xs k) g
+        ∙ any_flat (λ j. eqb j k) around inner₂
+        ∙ any_same (λ b. has_number (around b) k) inner₂ inner f
+        ∙ ap (list_any (λ b. has_number (around b) k)) e
+        ∙ any_flat (λ b. has_number (around b) k) (innermost_at t) js
+        ∙ any_alike (λ j. list_any (λ b. has_number (around b) k) (innermost_at t j)) (λ j. has_number (block_numbers_at t j) k) js (innermost_around t k)
+        ∙ sym (any_flat (λ j. eqb j k) (block_numbers_at t) js)
+
+-- of the same definitions
+pub blocks_of_same : (t : TreeValue) (js js₂ bs : List ℕ) → HaveSame js₂ js → HaveSame bs (flat_map (block_numbers_at t) js₂) → HaveSame bs (flat_map (block_numbers_at t) js)
+blocks_of_same t js js₂ bs f g = record {
+  has = λ k.
+      g.has k
+      ∙ any_flat (λ j. eqb j k) (block_numbers_at t) js₂
+      ∙ any_same (λ j. has_number (block_numbers_at t j) k) js₂ js f
+      ∙ sym (any_flat (λ j. eqb j k) (block_numbers_at t) js);
+}
+
+-- ---- what the blocks around definitions read, from a table of what each block reads
+around_nodes : (t : TreeValue) (f : BlockValue → List Node) (j : ℕ) → flat_map (λ b. get_or (map f t.blocks) b []) (block_numbers_at t j) ≡ option_map_or (λ d. flat_map f (blocks_around t d.block)) (slice_get t.definitions j) []
+around_nodes t f j = at (slice_get t.definitions j)
+  where
+    reads : (bs : List ℕ) → flat_map (λ b. get_or (map f t.blocks) b []) bs ≡ flat_map (λ b. option_map_or f (slice_get t.blocks b) []) bs
+    reads [] = refl
+    reads (b ∷ bs) = ap (λ ns. ns ++ flat_map (λ b. get_or (map f t.blocks) b []) bs) (get_or_mapped f t.blocks b) ∙ ap (λ ns. option_map_or f (slice_get t.blocks b) [] ++ ns) (reads bs)
+
+    at : (o : Option DefinitionValue) → flat_map (λ b. get_or (map f t.blocks) b []) (option_map_or (λ d. block_numbers t.blocks 64 d.block) o []) ≡ option_map_or (λ d. flat_map f (blocks_around t d.block)) o []
+    at None = refl
+    at (Some d) = reads (block_numbers t.blocks 64 d.block) ∙ sym (block_nodes f t.blocks 64 d.block)
+
+pub around_same : (t : TreeValue) (f : BlockValue → List Node) (rows : List (List Node)) (js bs : List ℕ) (k : ℕ) → Holds (map f t.blocks) rows → HaveSame bs (flat_map (block_numbers_at t) js) → has_node (flat_map (λ b. get_or rows b []) bs) k ≡ list_any (λ j. has_node (option_map_or (λ d. flat_map f (blocks_around t d.block)) (slice_get t.definitions j) []) k) js
+around_same t f rows js bs k h e =
+    any_flat test (λ b. get_or rows b []) bs
+    ∙ any_same (λ b. has_node (get_or rows b []) k) bs (flat_map (block_numbers_at t) js) e
+    ∙ any_alike (λ b. has_node (get_or rows b []) k) (λ b. has_node (get_or (map f t.blocks) b []) k) (flat_map (block_numbers_at t) js) (λ b. h.each b k)
+    ∙ any_flat (λ b. has_node (get_or (map f t.blocks) b []) k) (block_numbers_at t) js
+    ∙ any_alike (λ j. list_any (λ b. has_node (get_or (map f t.blocks) b []) k) (block_numbers_at t j)) (λ j. has_node (option_map_or (λ d. flat_map f (blocks_around t d.block)) (slice_get t.definitions j) []) k) js
+    (λ j. sym (any_flat test (λ b. get_or (map f t.blocks) b []) (block_numbers_at t j)) ∙ ap (λ ns. has_node ns k) (around_nodes t f j))
+  where
+    test : Node → Bool
+    test n = eqb (number_of n) k
+
+-- ---- the dependencies of definitions
+dependency_parts : (t : TreeValue) (k j : ℕ) → (has_node (option_map_or (λ d. conditions_nodes t d.depends) (slice_get t.definitions j) []) k || has_node (depends_at t j) k) ≡ has_node (dependency_at t j) k
+dependency_parts t k j = at (slice_get t.definitions j)
+  where
+    at : (o : Option DefinitionValue) → (has_node (option_map_or (λ d. conditions_nodes t d.depends) o []) k || has_node (option_map_or (λ d. depends_nodes t (blocks_around t d.block)) o []) k) ≡ has_node (option_map_or (dependency_nodes t) o []) k
+    at None = refl
+    at (Some d) = sym (has_both (conditions_nodes t d.depends) (depends_nodes t (blocks_around t d.block)) k)
+
+pub dependencies : (t : TreeValue) (own depends : List (List Node)) (js js₂ bs : List ℕ) → Holds (own_lists t) own → Holds (depends_lists t) depends → HaveSame js₂ js → HaveSame bs (flat_map (block_numbers_at t) js₂) → (k : ℕ) → has_node (flat_map (λ j. get_or own j []) js₂ ++ flat_map (λ b. get_or depends b []) bs) k ≡ has_node (flat_map (dependency_at t) js) k
+dependencies t own depends js js₂ bs f g e h k =
+    has_both (flat_map (λ j. get_or own j []) js₂) (flat_map (λ b. get_or depends b []) bs) k
+    ∙ ap (λ b. b || has_node (flat_map (λ b. get_or depends b []) bs) k) first
+    ∙ ap (λ b. list_any (λ j. has_node (option_map_or (λ d. conditions_nodes t d.depends) (slice_get t.definitions j) []) k) js₂ || b) (around_same t (λ b. conditions_nodes t b.depends) depends js₂ bs k g h)
+    ∙ sym (any_or (λ j. has_node (option_map_or (λ d. conditions_nodes t d.depends) (slice_get t.definitions j) []) k) (λ j. has_node (depends_at t j) k) js₂)
+    ∙ any_alike (λ j. has_node (option_map_or (λ d. conditions_nodes t d.depends) (slice_get t.definitions j) []) k || has_node (depends_at t j) k) (λ j. has_node (dependency_at t j) k) js₂ (dependency_parts t k)
+    ∙ any_same (λ j. has_node (dependency_at t j) k) js₂ js e
+    ∙ sym (any_flat test (dependency_at t) js)
+  where
+    test : Node → Bool
+    test n = eqb (number_of n) k
+
+    first : has_node (flat_map (λ j. get_or own j []) js₂) k ≡ list_any (λ j. has_node (option_map_or (λ d. conditions_nodes t d.depends) (slice_get t.definitions j) []) k) js₂
+    first =
+        any_flat test (λ j. get_or own j []) js₂
+        ∙ any_alike (λ j. has_node (get_or own j []) k) (λ j. has_node (option_map_or (λ d. conditions_nodes t d.depends) (slice_get t.definitions j) []) k) js₂
+        (λ j. f.each j k ∙ ap (λ ns. has_node ns k) (get_or_mapped (λ d. conditions_nodes t d.depends) t.definitions j))
+
+-- ---- what is computed from definitions
+definition_parts : (t : TreeValue) (k j : ℕ) → (has_node (defaults_at t j) k || has_node (dependency_at t j) k) ≡ option_map_or (λ d. has_node (definition_nodes t d) k) (slice_get t.definitions j) false
+definition_parts t k j = at (slice_get t.definitions j)
+  where
+    at : (o : Option DefinitionValue) → (has_node (option_map_or (λ d. flat_map (default_nodes t) d.defaults) o []) k || has_node (option_map_or (dependency_nodes t) o []) k) ≡ option_map_or (λ d. has_node (definition_nodes t d) k) o false
+    at None = refl
+    at (Some d) = sym (has_both (flat_map (default_nodes t) d.defaults) (dependency_nodes t d) k)
+
+pub definitions_alike : (t : TreeValue) (js : List ℕ) (k : ℕ) → has_node (flat_map (defaults_at t) js ++ flat_map (dependency_at t) js) k ≡ has_node (flat_map (definition_nodes t) (filter_map (slice_get t.definitions) js)) k
+definitions_alike t js k =
+    has_both (flat_map (defaults_at t) js) (flat_map (dependency_at t) js) k
+    ∙ ap (λ b. b || has_node (flat_map (dependency_at t) js) k) (any_flat test (defaults_at t) js)
+    ∙ ap (λ b. list_any (λ j. has_node (defaults_at t j) k) js || b) (any_flat test (dependency_at t) js)
+    ∙ sym (any_or (λ j. has_node (defaults_at t j) k) (λ j. has_node (dependency_at t j) k) js)
+    ∙ any_alike (λ j. has_node (defaults_at t j) k || has_node (dependency_at t j) k) (λ j. option_map_or (λ d. has_node (definition_nodes t d) k) (slice_get t.definitions j) false) js (definition_parts t k)
+    ∙ sym (any_filtered (λ d. has_node (definition_nodes t d) k) (slice_get t.definitions) js)
+    ∙ sym (any_flat test (definition_nodes t) (filter_map (slice_get t.definitions) js))
+  where
+    test : Node → Bool
+    test n = eqb (number_of n) k
+
+reverse_parts : (t : TreeValue) (k : ℕ) (r : Reverse) → (has_node (source_nodes t r) k || has_node (dependency_at t r.definition) k) ≡ has_node (reverse_nodes t r) k
+reverse_parts t k r =
+    ap (λ b. b || has_node (dependency_at t r.definition) k) (has_both (symbol_nodes t r.by) (own_condition_nodes t r.condition) k)
+    ∙ or_assoc (has_node (symbol_nodes t r.by) k) (has_node (own_condition_nodes t r.condition) k) (has_node (dependency_at t r.definition) k)
+    ∙ ap (λ b. has_node (symbol_nodes t r.by) k || b) (sym (has_both (own_condition_nodes t r.condition) (dependency_at t r.definition) k))
+    ∙ sym (has_both (symbol_nodes t r.by) (own_condition_nodes t r.condition ++ dependency_at t r.definition) k)
+
+pub reverses_alike : (t : TreeValue) (rs : List Reverse) (k : ℕ) → has_node (flat_map (source_nodes t) rs ++ flat_map (dependency_at t) (map (λ r. r.definition) rs)) k ≡ has_node (flat_map (reverse_nodes t) rs) k
+reverses_alike t rs k =
+    has_both (flat_map (source_nodes t) rs) (flat_map (dependency_at t) (map (λ r. r.definition) rs)) k
+    ∙ ap (λ b. b || has_node (flat_map (dependency_at t) (map (λ r. r.definition) rs)) k) (any_flat test (source_nodes t) rs)
+    ∙ ap (λ b. list_any (λ r. has_node (source_nodes t r) k) rs || b) (any_flat test (dependency_at t) (map (λ r. r.definition) rs) ∙ any_map (λ j. has_node (dependency_at t j) k) (λ r. r.definition) rs)
+    ∙ sym (any_or (λ r. has_node (source_nodes t r) k) (λ r. has_node (dependency_at t r.definition) k) rs)
+    ∙ any_alike (λ r. has_node (source_nodes t r) k || has_node (dependency_at t r.definition) k) (λ r. has_node (reverse_nodes t r) k) rs (reverse_parts t k)
+    ∙ sym (any_flat test (reverse_nodes t) rs)
+  where
+    test : Node → Bool
+    test n = eqb (number_of n) k
+
+-- ---- prompts
+prompt_parts : (t : TreeValue) (k j : ℕ) → (has_node (prompt_own_at t j) k || (list_any (λ i. has_node (dependency_at t i) k) (prompted_at t j) || list_any (λ i. has_node (visible_at t i) k) (prompted_at t j))) ≡ option_map_or (λ d. has_node (prompt_nodes t d) k) (slice_get t.definitions j) false
+prompt_parts t k j = at (slice_get t.definitions j) refl
+  where
+    of_prompt : (d : DefinitionValue) (o : Option Prompt) → slice_get t.definitions j ≡ Some d → (has_node (option_map_or (λ p. own_condition_nodes t p.condition) o []) k || (list_any (λ i. has_node (dependency_at t i) k) (option_map_or (λ p. j ∷ []) o []) || list_any (λ i. has_node (visible_at t i) k) (option_map_or (λ p. j ∷ []) o []))) ≡ has_node (option_map_or (λ p. own_condition_nodes t p.condition ++ (dependency_nodes t d ++ visible_nodes t (blocks_around t d.block))) o []) k
+    of_prompt d None e = refl
+    of_prompt d (Some p) e =
+        ap (λ b. has_node (own_condition_nodes t p.condition) k || (b || (has_node (visible_at t j) k || false))) (sym (or_false (has_node (dependency_at t j) k)) ∙ ap (λ (o : Option DefinitionValue). has_node (option_map_or (dependency_nodes t) o []) k) e)
+        ∙ ap (λ b. has_node (own_condition_nodes t p.condition) k || (has_node (dependency_nodes t d) k || b)) (sym (or_false (has_node (visible_at t j) k)) ∙ ap (λ (o : Option DefinitionValue). has_node (option_map_or (λ d. visible_nodes t (blocks_around t d.block)) o []) k) e)
+        ∙ ap (λ b. has_node (own_condition_nodes t p.condition) k || b) (sym (has_both (dependency_nodes t d) (visible_nodes t (blocks_around t d.block)) k))
+        ∙ sym (has_both (own_condition_nodes t p.condition) (dependency_nodes t d ++ visible_nodes t (blocks_around t d.block)) k)
+
+    at : (o : Option DefinitionValue) → slice_get t.definitions j ≡ o → (has_node (option_map_or (λ d. option_map_or (λ p. own_condition_nodes t p.condition) d.prompt []) o []) k || (list_any (λ i. has_node (dependency_at t i) k) (option_map_or (λ d. option_map_or (λ p. j ∷ []) d.prompt []) o []) || list_any (λ i. has_node (visible_at t i) k) (option_map_or (λ d. option_map_or (λ p. j ∷ []) d.prompt []) o []))) ≡ option_map_or (λ d. has_node (prompt_nodes t d) k) o false
+    at None e = refl
+    at (Some d) e = of_prompt d d.prompt e
+
+pub prompts_alike : (t : TreeValue) (visible : List (List Node)) (js ps bs : List ℕ) → ps ≡ flat_map (prompted_at t) js → Holds (visible_lists t) visible → HaveSame bs (flat_map (block_numbers_at t) ps) → (k : ℕ) → has_node (flat_map (prompt_own_at t) js ++ (flat_map (dependency_at t) ps ++ flat_map (λ b. get_or visible b []) bs)) k ≡ has_node (flat_map (prompt_nodes t) (filter_map (slice_get t.definitions) js)) k
+prompts_alike t visible js ps bs e h g k =
+    has_both (flat_map (prompt_own_at t) js) (flat_map (dependency_at t) ps ++ flat_map (λ b. get_or visible b []) bs) k
+    ∙ ap (λ b. has_node (flat_map (prompt_own_at t) js) k || b) (has_both (flat_map (dependency_at t) ps) (flat_map (λ b. get_or visible b []) bs) k ∙ ap (λ b. b || has_node (flat_map (λ b. get_or visible b []) bs) k) depends_there ∙ ap (λ b. list_any (λ j. list_any dep (prompted_at t j)) js || b) visible_there)
+    ∙ ap (λ b. b || (list_any (λ j. list_any dep (prompted_at t j)) js || list_any (λ j. list_any vis (prompted_at t j)) js)) (any_flat test (prompt_own_at t) js)
+    ∙ ap (λ b. list_any (λ j. has_node (prompt_own_at t j) k) js || b) (sym (any_or (λ j. list_any dep (prompted_at t j)) (λ j. list_any vis (prompted_at t j)) js))
+    ∙ sym (any_or (λ j. has_node (prompt_own_at t j) k) (λ j. list_any dep (prompted_at t j) || list_any vis (prompted_at t j)) js)
+    ∙ any_alike (λ j. has_node (prompt_own_at t j) k || (list_any dep (prompted_at t j) || list_any vis (prompted_at t j))) (λ j. option_map_or (λ d. has_node (prompt_nodes t d) k) (slice_get t.definitions j) false) js (prompt_parts t k)
+    ∙ sym (any_filtered (λ d. has_node (prompt_nodes t d) k) (slice_get t.definitions) js)
+    ∙ sym (any_flat test (prompt_nodes t) (filter_map (slice_get t.definitions) js))
+  where
+    test : Node → Bool
+    test n = eqb (number_of n) k
+
+    dep : ℕ → Bool
+    dep i = has_node (dependency_at t i) k
+
+    vis : ℕ → Bool
+    vis i = has_node (visible_at t i) k
+
+    depends_there : has_node (flat_map (dependency_at t) ps) k ≡ list_any (λ j. list_any dep (prompted_at t j)) js
+    depends_there = any_flat test (dependency_at t) ps ∙ ap (list_any dep) e ∙ any_flat dep (prompted_at t) js
+
+    visible_there : has_node (flat_map (λ b. get_or visible b []) bs) k ≡ list_any (λ j. list_any vis (prompted_at t j)) js
+    visible_there = around_same t (λ b. conditions_nodes t b.visible) visible ps bs k h g ∙ ap (list_any vis) e ∙ any_flat vis (prompted_at t) js

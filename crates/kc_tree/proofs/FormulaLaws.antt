@@ -1,0 +1,19 @@
+-- What the variants of an expression stand for.
+use Rattle.std.proofs.Common.{◌≡◌, Box, Global, sym, ap, ◌∙◌}
+use Rattle.kc_tree.specs.declared.expr.Term.{Term}
+use Rattle.kc_tree.specs.declared.expr.Comparison.{Comparison}
+use Rattle.kc_tree.specs.declared.expr.Operands.{Operands}
+use Rattle.kc_tree.specs.declared.expr.Expr.{Expr}
+use Rattle.kc_tree.specs.declared.expr.Expr.TheVariants as variant
+use Rattle.kc_tree.specs.declared.expr.Expr.TheOpen.{Expr-F}
+use Rattle.kc_tree.specs.declared.expr.Expr.TheFolds.{fold-roll-Expr}
+use Rattle.kc_tree.specs.Grammar.{Formula, atom, compare, group, formula_step, formula}
+
+pub formula_term : (x : Term) → formula (variant.Term x) ≡ atom x
+formula_term x = ap formula (sym (variant.rolls-Term x)) ∙ fold-roll-Expr Formula formula_step (Expr-F.Term x)
+
+pub formula_compare : (c : Comparison) (o : Box Operands Global) → formula (variant.Compare c o) ≡ compare c o.value.left o.value.right
+formula_compare c o = ap formula (sym (variant.rolls-Compare c o)) ∙ fold-roll-Expr Formula formula_step (Expr-F.Compare c o)
+
+pub formula_group : (e : Box Expr Global) → formula (variant.Group e) ≡ group (formula e.value)
+formula_group e = ap formula (sym (variant.rolls-Group e)) ∙ fold-roll-Expr Formula formula_step (Expr-F.Group e)

@@ -1,0 +1,251 @@
+-- Rows that are filled in rooms which were laid out for them.
+use Rattle.std.proofs.Common.{◌≡◌, ℕ, ◌+◌, ◌-◌, ◌<◌, ◌≤◌, ◌^◌, ◌⊎◌, List, [], ◌∷◌, ◌++◌, length, get_or, set, take, drop, map, replicate, cond, eqb, All, inl, inr, refl, sym, ap, subst, ◌∙◌, arith, length-set, get_or-set_same, get_or-set_other}
+use Rattle.std.proofs.lemmas.Bool.{cases_lt, cases_order, eq-eqb}
+use Rattle.std.proofs.lemmas.List.{get_or-map, get_or_default, length-map, map-set, map_push, drop_more, get_or_append_left, get_or_push, length_push, replicate_more, drop-set-add, drop-set-lt, take-set-le, take_more_set, ext_get_or, length-drop}
+use Rattle.std.proofs.lemmas.List.Sums.{sum_by-cons}
+use Rattle.kc_tree.specs.declared.node.Node.{Node}
+use Rattle.kc_tree.specs.declared.node_rows.Span.{Span}
+use Rattle.kc_tree.specs.Graph.{row}
+use Rattle.kc_tree.specs.Nodes.{number_of}
+use Rattle.kc_tree.specs.NodeRows.{row_in, rows_in, numbers_of, FitsIn}
+use Rattle.kc_tree.specs.Users.{times, start_at, end_at, HasRoom, HasPlace, AddsUser}
+use Rattle.kc_tree.proofs.ListLaws.{set_cases}
+use Rattle.kc_tree.proofs.UsersSteps.{AddsUser-more}
+
+-- spans with room fit
+pub fit-from_room : (spans : List Span) (n : ℕ) (room : ℕ → ℕ) → HasRoom spans n room → All (FitsIn n) spans
+fit-from_room spans n room r = λ k d h.
+    let same = get_or_default spans k d (record { start = 0; end = 0 }) h in
+    let ordered = r.ordered k h in
+    let within = r.within k h in
+    subst (FitsIn n) (sym same) (record { ordered = ordered; within = omega arith })
+
+-- less room
+pub HasRoom-less : (spans : List Span) (n : ℕ) (room room' : ℕ → ℕ) → ((i : ℕ) → i < length spans → room' i ≤ room i) → HasRoom spans n room → HasRoom spans n room'
+HasRoom-less spans n room room' less r = record {
+  small = r.small;
+  ordered = r.ordered;
+  within = λ i h. let a = less i h in let b = r.within i h in omega arith;
+  apart = λ i j h k. let a = less i (omega arith) in let b = r.apart i j h k in omega arith;
+}
+
+-- a span with room has a place behind it
+pub HasPlace-from_room : (spans : List Span) (n : ℕ) (room : ℕ → ℕ) (q : ℕ) → HasRoom spans n room → q < length spans → 0 < room q → HasPlace spans n q
+HasPlace-from_room spans n room q r inside some = record {
+  small = r.small;
+  ordered = r.ordered q inside;
+  within = let a = r.within q inside in omega arith;
+  apart = λ i h other. elim (cases_order i q) [
+    | inl e ↦ absurd (other e)
+    | inr side ↦ elim side [
+      | inl k ↦ let a = r.apart i q k inside in let b = r.ordered q inside in inl (omega arith)
+      | inr k ↦ let a = r.apart q i k h in inr (omega arith)
+    ]
+  ];
+}
+
+abbrev none : Span
+none = record { start = 0; end = 0 }
+
+-- span q with one more place
+abbrev grown : List Span → ℕ → Span
+grown spans q = record { start = start_at spans q; end = end_at spans q + 1 }
+
+module _ (spans : List Span) (n : ℕ) (room room' : ℕ → ℕ) (q : ℕ) (inside : q < length spans) (less : (i : ℕ) → room' i ≤ room i) (one : room' q + 1 ≤ room q) where
+  starts : (i : ℕ) → start_at (set spans q (grown spans q)) i ≡ start_at spans i
+  starts i = elim (set_cases spans q (grown spans q) none i inside) [
+    | inl h ↦ ap (λ s. s.start) h.1 ∙ ap (start_at spans) (sym h.0)
+    | inr h ↦ ap (λ s. s.start) h.1
+  ]
+
+  reach : (i : ℕ) → end_at (set spans q (grown spans q)) i + room' i ≤ end_at spans i + room i
+  reach i = elim (set_cases spans q (grown spans q) none i inside) [
+    | inl h ↦ let e : end_at (set spans q (grown spans q)) i ≡ end_at spans q + 1 = ap (λ s. s.end) h.1 in let f : end_at spans i ≡ end_at spans q = ap (end_at spans) h.0 in omega (arith, ap room h.0, ap room' h.0, e, f)
+    | inr h ↦ let e : end_at (set spans q (grown spans q)) i ≡ end_at spans i = ap (λ s. s.end) h.1 in omega (arith, less i)
+  ]
+
+  longer : (i : ℕ) → end_at spans i ≤ end_at (set spans q (grown spans q)) i
+  longer i = elim (set_cases spans q (grown spans q) none i inside) [
+    | inl h ↦ let e : end_at (set spans q (grown spans q)) i ≡ end_at spans q + 1 = ap (λ s. s.end) h.1 in let f : end_at spans i ≡ end_at spans q = ap (end_at spans) h.0 in omega arith
+    | inr h ↦ let e : end_at (set spans q (grown spans q)) i ≡ end_at spans i = ap (λ s. s.end) h.1 in omega arith
+  ]
+
+  -- a place of the room is taken
+  HasRoom-place : HasRoom spans n room → HasRoom (set spans q (grown spans q)) n room'
+  HasRoom-place r =
+      let long = length-set spans q (grown spans q) in
+      record {
+        small = r.small;
+        ordered = λ i h. let a = r.ordered i (omega arith) in omega (arith, starts i, longer i);
+        within = λ i h. let a = r.within i (omega arith) in omega (arith, reach i);
+        apart = λ i j h k. let a = r.apart i j h (omega arith) in omega (arith, reach i, starts j);
+      }
+
+module _ (x : ℕ) (left : List ℕ) where
+  times-cons : (i : ℕ) → times (x ∷ left) i ≡ cond (eqb x i) 1 0 + times left i
+  times-cons i = sum_by-cons (λ k. cond (eqb k i) 1 0) x left
+
+  one_more : times left x + 1 ≤ times (x ∷ left) x
+  one_more =
+      let yes : cond (eqb x x) 1 0 ≡ 1 = ap {B = ℕ} (λ b. cond b 1 0) (eq-eqb x x refl) in
+      omega (arith, times-cons x, yes)
+
+  no_less : (i : ℕ) → times left i ≤ times (x ∷ left) i
+  no_less i = omega (arith, times-cons i)
+
+  module _ (spans : List Span) (n : ℕ) (inside : x < length spans) where
+    -- the first use that is left has a place
+    pub HasPlace-next : HasRoom spans n (times (x ∷ left)) → HasPlace spans n x
+    HasPlace-next r = HasPlace-from_room spans n (times (x ∷ left)) x r inside (omega (arith, one_more))
+
+    -- and where it was put there, the others have theirs
+    pub HasRoom-next : HasRoom spans n (times (x ∷ left)) → HasRoom (set spans x (grown spans x)) n (times left)
+    HasRoom-next r = HasRoom-place spans n (times (x ∷ left)) (times left) x inside no_less one_more r
+
+-- a write behind a span, or before it, leaves its row
+row_in-other : (nodes : List Node) (e : ℕ) (user : Node) (s : Span) → (s.end ≤ e) ⊎ (e < s.start) → row_in (set nodes e user) s ≡ row_in nodes s
+row_in-other nodes e user s side = elim (cases_lt e s.start) [
+  | inl before ↦ ap (take (s.end - s.start)) (drop-set-lt s.start nodes e user before)
+  | inr behind ↦
+      let m : ℕ = e - s.start in
+      let at : e ≡ s.start + m = omega arith in
+      let short : s.end - s.start ≤ m = elim side [ inl h ↦ omega arith | inr h ↦ absurd (omega arith) ] in
+      ap (λ k. take (s.end - s.start) (drop s.start (set nodes k user))) at
+      ∙ ap (take (s.end - s.start)) (drop-set-add s.start nodes m user)
+      ∙ take-set-le (s.end - s.start) (drop s.start nodes) m user short
+]
+
+-- a write at the place behind a span, which takes that place
+row_in-grown : (nodes : List Node) (a b : ℕ) (user : Node) → a ≤ b → b < length nodes → row_in (set nodes b user) (record { start = a; end = b + 1 }) ≡ row_in nodes (record { start = a; end = b }) ++ user ∷ []
+row_in-grown nodes a b user ordered within =
+    let m : ℕ = b - a in
+    let at : b ≡ a + m = omega arith in
+    let more : (b + 1) - a ≡ m + 1 = omega arith in
+    let left = length-drop a nodes in
+    let inside : m < length (drop a nodes) = omega arith in
+    ap (λ k. take k (drop a (set nodes b user))) more
+    ∙ ap (λ k. take (m + 1) (drop a (set nodes k user))) at
+    ∙ ap (take (m + 1)) (drop-set-add a nodes m user)
+    ∙ take_more_set (drop a nodes) m user inside
+
+module _ (nodes : List Node) (spans : List Span) (q : ℕ) (user : Node) (inside : q < length spans) (place : HasPlace spans (length nodes) q) where
+  abbrev after : List Node
+  after = set nodes (end_at spans q) user
+
+  row_at : (i : ℕ) → i < length spans → get_or (rows_in after (set spans q (grown spans q))) i [] ≡ get_or (set (rows_in nodes spans) q (row_in nodes (get_or spans q none) ++ user ∷ [])) i []
+  row_at i h =
+      let rows = rows_in nodes spans in
+      let full = row_in nodes (get_or spans q none) ++ user ∷ [] in
+      let long = length-set spans q (grown spans q) in
+      let wide = length-map spans (row_in nodes) in
+      let here = get_or-map (row_in after) (set spans q (grown spans q)) i none [] (omega arith) in
+      elim (set_cases spans q (grown spans q) none i inside) [
+        | inl e ↦
+            here ∙ ap (row_in after) e.1 ∙ row_in-grown nodes (start_at spans q) (end_at spans q) user place.ordered place.within
+            ∙ sym (ap (λ k. get_or (set rows q full) k []) e.0 ∙ get_or-set_same rows q full [] (omega arith))
+        | inr e ↦
+            here ∙ ap (row_in after) e.1 ∙ row_in-other nodes (end_at spans q) user (get_or spans i none) (place.apart i h e.0)
+            ∙ sym (get_or-set_other rows q i full [] e.0 ∙ get_or-map (row_in nodes) spans i none [] h)
+      ]
+
+  -- the row has the user at its end, and the others are as they were
+  rows_in-place : rows_in after (set spans q (grown spans q)) ≡ set (rows_in nodes spans) q (row_in nodes (get_or spans q none) ++ user ∷ [])
+  rows_in-place =
+      let rows = rows_in nodes spans in
+      let full = row_in nodes (get_or spans q none) ++ user ∷ [] in
+      let long = length-set spans q (grown spans q) in
+      let wide = length-map spans (row_in nodes) in
+      let wide' = length-map (set spans q (grown spans q)) (row_in after) in
+      let wide'' = length-set rows q full in
+      ext_get_or [] (rows_in after (set spans q (grown spans q))) (set rows q full) (omega arith) (λ i h. row_at i (omega arith))
+
+  pub numbers_of-place : numbers_of (rows_in after (set spans q (grown spans q))) ≡ set (numbers_of (rows_in nodes spans)) q (row (numbers_of (rows_in nodes spans)) q ++ number_of user ∷ [])
+  numbers_of-place =
+      let rows = rows_in nodes spans in
+      let mine = row_in nodes (get_or spans q none) in
+      let wide = length-map spans (row_in nodes) in
+      let is : row (numbers_of rows) q ≡ map number_of mine = get_or-map (map number_of) rows q [] [] (omega arith) ∙ ap (map number_of) (get_or-map (row_in nodes) spans q none [] inside) in
+      ap numbers_of rows_in-place
+      ∙ map-set (map number_of) rows q (mine ++ user ∷ [])
+      ∙ ap (set (numbers_of rows) q) (map_push number_of mine user ∙ ap (λ r. r ++ number_of user ∷ []) (sym is))
+
+-- the next use of a row is put at its place
+module _ (old : List (List ℕ)) (spans spans' : List Span) (nodes nodes' : List Node) (uses rest : List ℕ) (user k x : ℕ) (node : Node) (next : k < length uses) (is : get_or uses k 0 ≡ x) (inside : x < length spans) (room : HasRoom spans (length nodes) (times (drop k uses ++ rest))) where
+  left : drop k uses ++ rest ≡ x ∷ (drop (k + 1) uses ++ rest)
+  left = ap (λ us. us ++ rest) (drop_more uses k 0 next) ∙ ap (λ u. u ∷ (drop (k + 1) uses ++ rest)) is
+
+  room_left : HasRoom spans (length nodes) (times (x ∷ (drop (k + 1) uses ++ rest)))
+  room_left = let P : List ℕ → Type 0 = λ us. HasRoom spans (length nodes) (times us) in subst P left room
+
+  pub place_next : HasPlace spans (length nodes) x
+  place_next = HasPlace-next x (drop (k + 1) uses ++ rest) spans (length nodes) inside room_left
+
+  module _ (spans_are : spans' ≡ set spans x (grown spans x)) (nodes_are : nodes' ≡ set nodes (end_at spans x) node) where
+    pub room_next : HasRoom spans' (length nodes') (times (drop (k + 1) uses ++ rest))
+    room_next =
+        let P : List Span → Type 0 = λ ss. HasRoom ss (length nodes') (times (drop (k + 1) uses ++ rest)) in
+        let Q : ℕ → Type 0 = λ n. HasRoom (set spans x (grown spans x)) n (times (drop (k + 1) uses ++ rest)) in
+        subst P (sym spans_are) (subst Q (sym (ap length nodes_are ∙ length-set nodes (end_at spans x) node)) (HasRoom-next x (drop (k + 1) uses ++ rest) spans (length nodes) inside room_left))
+
+    pub added_next : number_of node ≡ user → AddsUser old (numbers_of (rows_in nodes spans)) (take k uses) user → AddsUser old (numbers_of (rows_in nodes' spans')) (take (k + 1) uses) user
+    added_next at before =
+        let now = numbers_of (rows_in nodes spans) in
+        let wide = length-map spans (row_in nodes) in
+        let wide' = length-map (rows_in nodes spans) (map number_of) in
+        let P : List (List ℕ) → Type 0 = λ rows. AddsUser old rows (take (k + 1) uses) user in
+        let same : numbers_of (rows_in nodes' spans') ≡ set now x (row now x ++ user ∷ []) =
+        ap (λ ns. numbers_of (rows_in ns spans')) nodes_are
+        ∙ ap (λ ss. numbers_of (rows_in (set nodes (end_at spans x) node) ss)) spans_are
+        ∙ numbers_of-place nodes spans x node inside place_next
+        ∙ ap (λ u. set now x (row now x ++ u ∷ [])) at
+        in
+        subst P (sym same) (AddsUser-more old now uses user k x before next is (omega arith))
+
+-- no spans take no room
+pub HasRoom-none : (room : ℕ → ℕ) → HasRoom [] 0 room
+HasRoom-none room = record {
+  small = omega arith;
+  ordered = λ i h. absurd (omega arith);
+  within = λ i h. absurd (omega arith);
+  apart = λ i j h k. absurd (omega arith);
+}
+
+-- an empty span is added behind the others
+module _ (spans : List Span) (n : ℕ) (room : ℕ → ℕ) (k : ℕ) (wide : length spans ≡ k) (small : n + room k < 2 ^ 32) (r : HasRoom spans n room) where
+  abbrev more : List Span
+  more = spans ++ record { start = n; end = n } ∷ []
+
+  kept : (i : ℕ) → i < k → get_or more i none ≡ get_or spans i none
+  kept i h = get_or_append_left spans (record { start = n; end = n } ∷ []) none i (omega arith)
+
+  added : (i : ℕ) → k ≤ i → i < length more → (i ≡ k) × (get_or more i none ≡ record { start = n; end = n })
+  added i h l = let long = length_push spans (record { start = n; end = n }) in let e : i ≡ k = omega arith in (e, get_or_push spans (record { start = n; end = n }) none i (wide ∙ sym e))
+
+  pub HasRoom-push : HasRoom (spans ++ record { start = n; end = n } ∷ []) (n + room k) room
+  HasRoom-push = record {
+    small = small;
+    ordered = λ i h. elim (cases_lt i k) [
+      | inl l ↦ let a = r.ordered i (omega arith) in omega (arith, ap (λ s. s.start) (kept i l), ap (λ s. s.end) (kept i l))
+      | inr l ↦ let e = added i l h in omega (arith, ap (λ s. s.start) e.1, ap (λ s. s.end) e.1)
+    ];
+    within = λ i h. elim (cases_lt i k) [
+      | inl l ↦ let a = r.within i (omega arith) in omega (arith, ap (λ s. s.end) (kept i l))
+      | inr l ↦ let e = added i l h in omega (arith, ap room e.0, ap (λ s. s.end) e.1)
+    ];
+    apart = λ i j h l.
+        let long = length_push spans (record { start = n; end = n }) in
+        let a = ap (λ s. s.end) (kept i (omega arith)) in
+        elim (cases_lt j k) [
+          | inl m ↦ let b = r.apart i j h (omega arith) in omega (arith, ap (λ s. s.start) (kept j m))
+          | inr m ↦ let e = added j m l in let b = r.within i (omega arith) in omega (arith, ap (λ s. s.start) e.1)
+        ];
+  }
+
+-- and its row is empty
+pub rows_in-empty : (nodes : List Node) (spans : List Span) (n k : ℕ) → rows_in nodes spans ≡ replicate k [] → rows_in nodes (spans ++ record { start = n; end = n } ∷ []) ≡ replicate (k + 1) []
+rows_in-empty nodes spans n k e =
+    let nothing : n - n ≡ 0 = omega arith in
+    map_push (row_in nodes) spans (record { start = n; end = n })
+    ∙ ap (λ rows. rows ++ row_in nodes (record { start = n; end = n }) ∷ []) e
+    ∙ ap (λ m. replicate k [] ++ take m (drop n nodes) ∷ []) nothing
+    ∙ replicate_more k []

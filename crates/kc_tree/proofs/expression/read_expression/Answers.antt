@@ -1,0 +1,12 @@
+use Rattle.kc_tree.proofs.FrontLaws.{not_derived, not_whole}
+use Rattle.kc_tree.proofs.expression.read_expression.Goals as goal
+
+pub returns-in_default : goal.returns-in_default
+returns-in_default c =
+    let none = rw c.in_default.is at c.in_ok-expr.ensures.front in
+    not_derived _ _ none
+
+pub returns-then-end-tokens : goal.returns-then-end-tokens
+returns-then-end-tokens c =
+    let front = rw c.in-Some.is at c.in_ok-expr.ensures.front in
+    not_whole _ _ _ _ front c.if-end-tokens.true

@@ -1,0 +1,25 @@
+use Rattle.std.proofs.Common.{◌++◌, List, [], ℕ, ap, sym, subst, ◌∙◌, slice_index_or}
+use Rattle.std.specs.List.{flat_map}
+use Rattle.std.proofs.lemmas.Result.{on_ok_weaker}
+use Rattle.kc_tree.specs.Collected.{Adds, HaveSame, prompt_own_at, prompted_at, dependency_at, block_numbers_at}
+use Rattle.kc_tree.proofs.CollectedLaws.{adds_then, adds_alike}
+use Rattle.kc_tree.proofs.DependencyLaws.{prompts_alike}
+use Rattle.kc_tree.proofs.uses.cache.Cache.add_prompts.Goals as goal
+
+pub returns : goal.returns
+returns c =
+    let cache = c.args.self.now in
+    let t = cache.reader.outline.now in
+    let js = c.args.definitions.now in
+    let ps = c.add_all_prompts.new.prompted.items in
+    let bs = c.as_slice.result.now in
+    let visible = λ (j : ℕ). slice_index_or cache.visible j [] in
+    let prompted = c.in_ok-add_all_prompts.ensures.prompted ∙ ap (λ (xs : List ℕ). xs ++ flat_map (prompted_at t) js) c.clear.ensures.items in
+    let found = subst (λ (xs : List ℕ). HaveSame xs (flat_map (block_numbers_at t) ps)) (sym c.as_slice.ensures.value) c.in_ok-add_dependencies.ensures.blocks in
+    on_ok_weaker c.add_rows.result
+    (λ (h : Adds c.add_dependencies.new.row.items c.add_rows.new.row.items (flat_map visible bs)).
+    adds_alike _ _ _ _
+    (adds_then _ _ _ (flat_map (prompt_own_at t) js) (flat_map (dependency_at t) ps ++ flat_map visible bs) c.in_ok-add_all_prompts.ensures.added
+    (adds_then _ _ _ (flat_map (dependency_at t) ps) (flat_map visible bs) c.in_ok-add_dependencies.ensures.added h))
+    (prompts_alike t cache.visible js ps bs prompted cache.visible_is found))
+    c.add_rows.ensures

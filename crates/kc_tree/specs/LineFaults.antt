@@ -1,0 +1,143 @@
+-- What is wrong with a line: this project's own list, in its order, after kconfig-language.rst.
+use Rattle.std.specs.Prelude.{◌≡◌, ◌⊎◌, ℕ, ◌+◌, ◌==◌, Bool, true, false, not, ◌&&◌, ◌||◌, List, [], ◌∷◌, Option, Some, None, if◌then◌else◌, nat_le, length, take, drop, count_by, codes}
+use Rattle.std.specs.Option.{option_map_or}
+use Rattle.std.specs.List.{list_all, list_any, range_with_len}
+use Rattle.std.specs.Str.{bytes_eq}
+use Rattle.kc_text.specs.LineValue.{LineValue}
+use Rattle.kc_text.specs.declared.line.LineKind.{LineKind}
+use Rattle.kc_text.specs.declared.line.LineKind.TheVariants.{Statement as StatementLine, EndOfFile}
+use Rattle.kc_text.specs.declared.line.Operator.TheVariants.{Open, Close, Not}
+use Rattle.kc_text.specs.declared.line.Token.{Token}
+use Rattle.kc_text.specs.declared.line.Token.TheVariants.{Word, Expanded, Quoted, Operator}
+use Rattle.kc_tree.specs.declared.keyword.Keyword.{Keyword}
+use Rattle.kc_tree.specs.declared.keyword.Keyword.TheVariants as keyword
+use Rattle.kc_tree.specs.declared.place.OpenBlock.{OpenBlock}
+use Rattle.kc_tree.specs.declared.statement.Statement.{Statement}
+use Rattle.kc_tree.specs.declared.statement.Statement.TheVariants.{Config}
+use Rattle.kc_tree.specs.declared.fault.TreeProblem.{TreeProblem}
+use Rattle.kc_tree.specs.declared.fault.TreeProblem.TheVariants.{Limit, UnknownStatement, Malformed, StrayAttribute, UnbalancedBlock, LeftOut}
+use Rattle.kc_tree.specs.Keywords.{keyword_of, is_opener, is_attribute_word, is_closer_word, is_end_of, takes, wants_quotes}
+use Rattle.kc_tree.specs.Places.{open_blocks, nearest_statement}
+use Rattle.kc_tree.specs.Statements.{HasForm, HasNoForm}
+
+-- ---- words that are left out
+abbrev pub is_unquoted : Token → Bool
+is_unquoted (Word w) = true
+is_unquoted (Expanded w) = true
+is_unquoted (Quoted q) = false
+is_unquoted (Operator o) = false
+
+-- an unquoted word without reference
+abbrev pub is_fixed : List ℕ → Token → Bool
+is_fixed w (Word v) = bytes_eq v w
+is_fixed w (Expanded v) = false
+is_fixed w (Quoted q) = false
+is_fixed w (Operator o) = false
+
+abbrev pub starts_with : (Token → Bool) → List Token → Bool
+starts_with p [] = false
+starts_with p (t ∷ rest) = p t
+
+-- `depends on` with a condition of its own
+abbrev pub has_condition : List Token → Bool
+has_condition tokens = starts_with (is_fixed (codes "on")) tokens && list_any (is_fixed (codes "if")) (drop 1 tokens)
+
+-- by the keyword and the tokens after it: `option env`, `depends on E if F`, a prompt without quotes
+abbrev pub is_left_out : Keyword → List Token → Bool
+is_left_out keyword.LeftOut rest = true
+is_left_out keyword.Option rest = starts_with (is_fixed (codes "env")) rest || starts_with (is_fixed (codes "defconfig_list")) rest
+is_left_out keyword.Depends rest = has_condition rest
+is_left_out k rest = wants_quotes k && starts_with is_unquoted rest
+
+-- ---- attributes and blocks
+-- an attribute whose nearest statement doesn't take it
+abbrev pub is_stray : List LineValue → Keyword → Bool
+is_stray earlier k = is_attribute_word k && not (option_map_or (λ s. takes s k) (nearest_statement earlier) false)
+
+-- a closer without a block of its kind, or of its run
+abbrev pub closes_wrongly : List OpenBlock → Keyword → ℕ → Bool
+closes_wrongly [] k run = is_closer_word k
+closes_wrongly (b ∷ bs) k run = is_closer_word k && not (is_end_of k b.keyword && b.run == run)
+
+-- a block is open
+abbrev pub stays_open : List OpenBlock → Bool
+stays_open [] = false
+stays_open (b ∷ bs) = true
+
+-- an end of file with a block of its run open
+abbrev pub leaves_open : List OpenBlock → ℕ → Bool
+leaves_open blocks run = list_any (λ b. b.run == run) blocks
+
+-- ---- depth of an expression
+abbrev pub is_opening : Token → Bool
+is_opening (Operator Open) = true
+is_opening _ = false
+
+abbrev pub is_closing : Token → Bool
+is_closing (Operator Close) = true
+is_closing _ = false
+
+abbrev pub is_not : Token → Bool
+is_not (Operator Not) = true
+is_not _ = false
+
+-- some beginning has 65 more `(` than `)`
+abbrev pub is_deep_at : List Token → ℕ → Bool
+is_deep_at tokens k = nat_le (count_by is_closing (take k tokens) + 65) (count_by is_opening (take k tokens))
+
+-- from a place on, 65 `!` stand in a row
+abbrev pub has_many_nots_at : List Token → ℕ → Bool
+has_many_nots_at tokens k = list_all is_not (take 65 (drop k tokens)) && nat_le (k + 65) (length tokens)
+
+abbrev pub places_in : List Token → List ℕ
+places_in tokens = range_with_len 0 (length tokens + 1)
+
+abbrev pub nests_too_deep : List Token → Bool
+nests_too_deep tokens = list_any (is_deep_at tokens) (places_in tokens) || list_any (has_many_nots_at tokens) (places_in tokens)
+
+-- ---- the problem of a line, before its form is looked at
+-- by the lines before, the last first; `is_last` says that no line follows
+abbrev pub block_problem : List LineValue → Bool → Keyword → LineValue → Bool
+block_problem earlier is_last k l =
+    closes_wrongly (open_blocks earlier) k l.run || (is_last && stays_open (open_blocks (l ∷ earlier)))
+
+abbrev pub word_problem : List LineValue → Bool → Keyword → LineValue → Option TreeProblem
+word_problem earlier is_last k l =
+    if is_left_out k (drop 1 l.tokens) then Some LeftOut
+    else (if is_stray earlier k then Some StrayAttribute
+    else (if block_problem earlier is_last k l then Some UnbalancedBlock
+    else (if nests_too_deep l.tokens then Some Limit else None)))
+
+abbrev pub kind_problem : List LineValue → Bool → LineKind → LineValue → Option TreeProblem
+kind_problem earlier is_last EndOfFile l =
+    if leaves_open (open_blocks earlier) l.run || (is_last && stays_open (open_blocks earlier)) then Some UnbalancedBlock else None
+kind_problem earlier is_last StatementLine l =
+    option_map_or (λ k. word_problem earlier is_last k l) (keyword_of l) (Some UnknownStatement)
+
+abbrev pub early_problem : List LineValue → Bool → LineValue → Option TreeProblem
+early_problem earlier is_last l = kind_problem earlier is_last l.kind l
+
+-- ---- the problem of a line that has a form: a block too deep, a symbol too many
+abbrev pub opens_too_deep : List LineValue → LineValue → Bool
+opens_too_deep earlier l = is_opener l && nat_le 64 (length (open_blocks earlier))
+
+abbrev pub is_past_limit : Statement → Bool
+is_past_limit (Config None) = true
+is_past_limit _ = false
+
+abbrev pub late_problem : List LineValue → LineValue → Statement → Option TreeProblem
+late_problem earlier l s = if opens_too_deep earlier l || is_past_limit s then Some Limit else None
+
+-- ---- the fault of a line
+-- the line says this, and has no problem
+pub record IsSound (names : List (List ℕ)) (earlier : List LineValue) (is_last : Bool) (l : LineValue) (s : Statement) : Type 0 where
+  pub early : early_problem earlier is_last l ≡ None
+  pub form : HasForm names l s
+  pub late : late_problem earlier l s ≡ None
+
+-- the line has this problem, and none that comes before it
+abbrev pub HasProblem : List (List ℕ) → List LineValue → Bool → LineValue → TreeProblem → Type 0
+HasProblem names earlier is_last l problem =
+    (early_problem earlier is_last l ≡ Some problem)
+    ⊎ (((early_problem earlier is_last l ≡ None) × HasNoForm names l × (problem ≡ Malformed))
+    ⊎ ((s : Statement) × (early_problem earlier is_last l ≡ None) × HasForm names l s × (late_problem earlier l s ≡ Some problem)))

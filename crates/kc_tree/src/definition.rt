@@ -1,0 +1,126 @@
+ghost use Rattle.std.specs.Prelude.{◌≡◌, None, Some, OnOk};
+ghost use Rattle.std.specs.Option.{option_copied};
+ghost use Rattle.kc_tree.specs.Adding.{new_definition, definition_after};
+
+use crate::expr::Expr;
+use crate::id::{BlockId, SymId};
+use crate::room::push_one;
+use kc_text::Text;
+use std::alloc::{AllocError, Global};
+use std::marker::Model;
+
+/// The prompt of a definition: `bool "text" if E`, or a `prompt` line.
+#[derive(Debug, Drop)]
+pub struct Prompt {
+    pub text: Text,
+    /// The condition after `if`.
+    pub condition: Option<Expr>,
+}
+
+/// A default: `default E if F`, or a `def_bool` line.
+#[derive(Debug, Drop)]
+pub struct DefaultValue {
+    pub value: Expr,
+    /// The condition after `if`.
+    pub condition: Option<Expr>,
+}
+
+/// One definition of a symbol: a `config` or `menuconfig` line with its attributes. Contracts see the record of its
+/// parts.
+#[derive(Debug, Drop)]
+pub struct Definition {
+    pub(crate) symbol: SymId,
+    pub(crate) block: Option<BlockId>,
+    pub(crate) depends: Vec<Expr>,
+    pub(crate) prompt: Option<Prompt>,
+    pub(crate) has_second_prompt: bool,
+    pub(crate) defaults: Vec<DefaultValue>,
+}
+
+impl Model for Definition {
+    ghost use Rattle.kc_tree.specs.TreeValue.{DefinitionValue};
+    ghost use Rattle.kc_tree.specs.contracts.expr.Expr as expr;
+    ghost use Rattle.std.specs.Coded.{codes};
+
+    ghost Value = { DefinitionValue };
+
+    ghost coded = { Prim.hlevel (codes, expr.the_row.coded) };
+
+    ghost view = { λ d. record { symbol = d.symbol; block = d.block; depends = d.depends.items; prompt = d.prompt; has_second_prompt = d.has_second_prompt; defaults = d.defaults.items } };
+}
+
+impl Definition {
+    /// Of a symbol, with no attributes yet.
+    pub(crate) fn new(alloc: Global, symbol: SymId, block: Option<BlockId>) -> Definition
+        ensures { result ≡ new_definition symbol block }
+    {
+        Definition {
+            symbol,
+            block,
+            depends: Vec::new(alloc),
+            prompt: None,
+            has_second_prompt: false,
+            defaults: Vec::new(alloc),
+        }
+    }
+
+    /// Takes a `depends on` line.
+    pub(crate) fn take_depends(&mut self, on: Expr) -> Result<(), AllocError>
+        ensures { OnOk result (self.new ≡ definition_after (Some on) None None self.old) }
+    {
+        push_one(&mut self.depends, on)
+    }
+
+    /// Takes a prompt: the first one stays.
+    pub(crate) fn take_prompt(&mut self, prompt: Prompt)
+        ensures { self.new ≡ definition_after None (Some prompt) None self.old }
+    {
+        if self.prompt.is_some() {
+            self.has_second_prompt = true;
+        } else {
+            self.prompt = Some(prompt);
+        }
+    }
+
+    /// Takes a default.
+    pub(crate) fn take_default(&mut self, value: DefaultValue) -> Result<(), AllocError>
+        ensures { OnOk result (self.new ≡ definition_after None None (Some value) self.old) }
+    {
+        push_one(&mut self.defaults, value)
+    }
+
+    /// The symbol that is defined.
+    pub fn symbol(&self) -> SymId
+        ensures { result ≡ self.now.symbol }
+    {
+        self.symbol
+    }
+
+    /// The innermost block around the definition.
+    pub fn block(&self) -> Option<BlockId>
+        ensures { result ≡ self.now.block }
+    {
+        self.block
+    }
+
+    /// Its own `depends on` lines, which `&&` joins.
+    pub fn depends(&self) -> &[Expr]
+        ensures { result.now ≡ self.now.depends }
+    {
+        self.depends.as_slice()
+    }
+
+    /// The prompt.
+    pub fn prompt(&self) -> Option<&Prompt>
+        ensures { option_copied result ≡ self.now.prompt }
+    {
+        self.prompt.as_ref()
+    }
+
+    /// The defaults, in the order of their lines.
+    pub fn defaults(&self) -> &[DefaultValue]
+        ensures { result.now ≡ self.now.defaults }
+    {
+        self.defaults.as_slice()
+    }
+}

@@ -1,0 +1,56 @@
+use crate::id::SymId;
+use crate::tri::Tri;
+use kc_text::Text;
+
+/// How a comparison compares (kconfig-language.rst, "Menu dependencies").
+#[derive(Clone, Copy, Debug, PartialEq, Eq)]
+pub enum Comparison {
+    /// `=`
+    Equal,
+    /// `!=`
+    NotEqual,
+    /// `<`
+    Less,
+    /// `<=`
+    LessOrEqual,
+    /// `>`
+    Greater,
+    /// `>=`
+    GreaterOrEqual,
+}
+
+/// A term of an expression.
+#[derive(Debug, Drop)]
+pub enum Term {
+    /// One of the texts n, m and y, in quotes or not.
+    Tri(Tri),
+    /// Another text in quotes.
+    Text(Text),
+    /// A defined symbol.
+    Symbol(SymId),
+    /// A word that no definition names.
+    Undefined(Text),
+}
+
+/// The two terms of a comparison.
+#[derive(Debug, Drop)]
+pub struct Operands {
+    pub left: Term,
+    pub right: Term,
+}
+
+/// An expression as it was written. It is as deep as the parentheses and `!` of its line, and not as its `&&` and `||`
+/// are many.
+#[derive(Debug, Drop)]
+pub enum Expr {
+    /// A term alone.
+    Term(Term),
+    Compare(Comparison, Box<Operands>),
+    Not(Box<Expr>),
+    /// In parentheses.
+    Group(Box<Expr>),
+    /// Two or more, joined by `&&`.
+    All(Vec<Expr>),
+    /// Two or more, joined by `||`.
+    Any(Vec<Expr>),
+}

@@ -1,0 +1,13 @@
+//! The numbers by which parts of a tree name one another.
+
+/// The number of a symbol, from 0 in the order of first definitions.
+#[derive(Clone, Copy, Debug, PartialEq, Eq)]
+pub struct SymId(pub u32);
+
+/// The number of a block, a `menu` or an `if`, from 0 in the order of the lines that open them.
+#[derive(Clone, Copy, Debug, PartialEq, Eq)]
+pub struct BlockId(pub usize);
+
+/// The number of a comment, from 0 in the order of their lines.
+#[derive(Clone, Copy, Debug, PartialEq, Eq)]
+pub struct CommentId(pub usize);

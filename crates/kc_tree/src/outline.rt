@@ -1,0 +1,87 @@
+//! The tree of the lines so far.
+
+ghost use Rattle.std.specs.Prelude.{◌≡◌, ◌≤◌, List, [], ◌∷◌, ◌++◌, length, IfOk, OnOk};
+ghost use Rattle.kc_tree.specs.TreeOf.{Reading, tree_of, symbols_in};
+ghost use Rattle.kc_tree.specs.Outline.{AreMade, IsNamedIn};
+
+mod adding;
+
+use crate::block::{Block, Comment};
+use crate::definition::Definition;
+use crate::id::BlockId;
+use crate::names::Names;
+use crate::place::Owner;
+use crate::statement::Statement;
+use crate::symbol::Symbol;
+use crate::tree::Entry;
+use std::alloc::{AllocError, Global};
+use std::marker::Model;
+
+/// What lines define: the tree without the order of its nodes. Contracts see it as they see a tree.
+#[derive(Drop)]
+pub(crate) struct Outline {
+    pub(crate) names: Names,
+    pub(crate) symbols: Vec<Symbol>,
+    pub(crate) definitions: Vec<Definition>,
+    pub(crate) blocks: Vec<Block>,
+    pub(crate) comments: Vec<Comment>,
+    pub(crate) entries: Vec<Entry>,
+}
+
+impl Model for Outline {
+    ghost use Rattle.kc_tree.specs.TreeValue.{TreeValue};
+    ghost use Rattle.kc_tree.specs.contracts.expr.Expr as expr;
+    ghost use Rattle.std.specs.Coded.{codes};
+
+    ghost Value = { TreeValue };
+
+    ghost coded = { Prim.hlevel (codes, expr.the_row.coded) };
+
+    ghost view = { λ a. record { names = a.names; symbols = a.symbols.items; definitions = a.definitions.items; blocks = a.blocks.items; comments = a.comments.items; entries = a.entries.items } };
+}
+
+/// A symbol for each of so many names, of which no line says anything yet.
+#[tactic(auto, using(crate::proofs::AddingSymbols::new_symbols_more))]
+fn new_symbols(alloc: Global, count: usize) -> Result<Vec<Symbol>, AllocError>
+    ensures { IfOk result (λ symbols. symbols.items ≡ symbols_in count []) }
+{
+    let mut symbols = Vec::with_capacity(alloc, count)?;
+    for _number in 0..count {
+        symbols.push(Symbol::new(alloc))?;
+    }
+    Ok(symbols)
+}
+
+impl Outline {
+    /// Of no lines, with a symbol for each name.
+    pub(crate) fn new(alloc: Global, names: Names) -> Result<Outline, AllocError>
+        requires { length names ≤ 65535 }
+        ensures { IfOk result (λ o. o ≡ tree_of names []) }
+    {
+        let symbols = new_symbols(alloc, names.len())?;
+        Ok(Outline {
+            names,
+            symbols,
+            definitions: Vec::new(alloc),
+            blocks: Vec::new(alloc),
+            comments: Vec::new(alloc),
+            entries: Vec::new(alloc),
+        })
+    }
+
+    /// Takes what a line says that stands in a block and belongs to an owner. A `config` line names a symbol that the
+    /// outline has.
+    pub(crate) fn take(
+        &mut self,
+        alloc: Global,
+        statement: Statement,
+        block: Option<BlockId>,
+        owner: Option<Owner>,
+    ) -> Result<(), AllocError>
+        ensures { OnOk result ((rs : List Reading)
+            → AreMade rs → IsNamedIn self.old.names statement → self.old ≡ tree_of self.old.names rs
+            → self.new ≡ tree_of self.old.names (rs ++ record { statement = statement; block = block; owner = owner } ∷ [])) }
+    {
+        self.add(alloc, statement, block, owner)
+    }
+}

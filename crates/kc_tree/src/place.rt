@@ -1,0 +1,270 @@
+//! Where a line stands: the open blocks around it, and the statement that its attributes belong to.
+
+ghost use Rattle.std.specs.Prelude.{◌≡◌, ◌+◌, ◌<◌, ◌^◌, ℕ, List, [], ◌∷◌, drop, if◌then◌else◌, length, reverse, slice_get, OnOk};
+ghost use Rattle.kc_tree.specs.Keywords.{is_comment_word, is_config_word, is_opener_word, keyword_of};
+ghost use Rattle.kc_tree.specs.LineFaults.{leaves_open, stays_open};
+ghost use Rattle.kc_tree.specs.Places.{innermost};
+ghost use Rattle.kc_tree.specs.PlaceValue.{blocks_after, owner_made, IsPlaceAfter};
+ghost use Rattle.kc_tree.specs.Statements.{HasForm};
+ghost use Rattle.kc_tree.specs.TreeOf.{defined_in};
+
+use crate::id::{BlockId, CommentId, SymId};
+use crate::keyword::Keyword;
+use crate::names::Names;
+use crate::statement::Statement;
+use kc_text::Line;
+use std::alloc::{AllocError, Global};
+use std::marker::Model;
+
+/// What attributes belong to.
+#[derive(Clone, Copy, Debug, PartialEq, Eq)]
+pub(crate) enum Owner {
+    /// A definition of a symbol, by its number.
+    Definition(SymId, usize),
+    /// A menu.
+    Menu(BlockId),
+    /// A comment.
+    Comment(CommentId),
+}
+
+/// A block that is open.
+#[derive(Clone, Copy, Debug, PartialEq, Eq)]
+pub(crate) struct OpenBlock {
+    pub(crate) id: BlockId,
+    /// The word that opened it.
+    pub(crate) keyword: Keyword,
+    /// The run of the file that it was opened in.
+    pub(crate) run: usize,
+}
+
+/// Whether one of the blocks was opened in a run.
+fn is_run_among(blocks: &[OpenBlock], run: usize) -> bool
+    ensures { result ≡ leaves_open blocks.now run }
+{
+    blocks.iter().any(|block| block.run == run)
+}
+
+/// The blocks that are open, the innermost last. Contracts see the list with the innermost first.
+#[derive(Drop)]
+pub(crate) struct OpenBlocks {
+    blocks: Vec<OpenBlock>,
+}
+
+impl Model for OpenBlocks {
+    ghost use Rattle.std.specs.Prelude.{List, reverse};
+    ghost use Rattle.kc_tree.specs.declared.place.OpenBlock as open_block;
+
+    ghost Value = { List open_block.OpenBlock };
+
+    ghost view = { λ b. reverse b.blocks.items };
+}
+
+impl OpenBlocks {
+    /// None.
+    fn new(alloc: Global) -> OpenBlocks
+        ensures { result ≡ [] }
+    {
+        OpenBlocks {
+            blocks: Vec::new(alloc),
+        }
+    }
+
+    /// How many are open.
+    pub(crate) fn len(&self) -> usize
+        ensures { result ≡ length self.now }
+    {
+        self.blocks.len()
+    }
+
+    /// The innermost.
+    pub(crate) fn innermost(&self) -> Option<OpenBlock>
+        ensures { result ≡ slice_get self.now 0 }
+    {
+        self.blocks.last().copied()
+    }
+
+    /// Whether one of a run is open.
+    pub(crate) fn has_run(&self, run: usize) -> bool
+        ensures { result ≡ leaves_open self.now run }
+    {
+        is_run_among(self.blocks.as_slice(), run)
+    }
+
+    /// Whether one is open after a line of this keyword.
+    pub(crate) fn stays_open(&self, keyword: Keyword) -> bool
+        ensures { (block : OpenBlock) → result ≡ stays_open (blocks_after keyword block self.now) }
+    {
+        if keyword.opens() {
+            true
+        } else if keyword.closes() {
+            self.blocks.len() > 1
+        } else {
+            self.blocks.len() > 0
+        }
+    }
+
+    /// Opens a block.
+    fn push(&mut self, block: OpenBlock) -> Result<(), AllocError>
+        ensures { OnOk result (self.new ≡ block ∷ self.old) }
+    {
+        self.blocks.push(block)?;
+        Ok(())
+    }
+
+    /// Closes the innermost block, if there is one.
+    fn pop(&mut self)
+        ensures { self.new ≡ drop 1 self.old }
+    {
+        self.blocks.pop();
+    }
+
+    /// Goes past a line of this keyword. If it opens a block, this is the block.
+    fn take(&mut self, keyword: Keyword, block: OpenBlock) -> Result<(), AllocError>
+        ensures { OnOk result (self.new ≡ blocks_after keyword block self.old) }
+    {
+        if keyword.opens() {
+            self.push(block)?;
+        } else if keyword.closes() {
+            self.pop();
+        }
+        Ok(())
+    }
+}
+
+/// The symbol of a definition.
+fn defined_symbol(statement: &Statement) -> Option<SymId>
+    ensures { result ≡ defined_in statement.now }
+{
+    match statement {
+        Statement::Config(symbol) => *symbol,
+        _ => None,
+    }
+}
+
+/// What is known of the lines before a line.
+#[derive(Drop)]
+pub(crate) struct Place {
+    /// The blocks that are open.
+    stack: OpenBlocks,
+    /// The keyword of the nearest statement.
+    statement: Option<Keyword>,
+    /// What it makes that takes attributes.
+    owner: Option<Owner>,
+    definitions: usize,
+    blocks: usize,
+    comments: usize,
+}
+
+impl Place {
+    /// Before the first line.
+    pub(crate) fn new(alloc: Global) -> Place
+        ensures { (names : List (List ℕ)) → IsPlaceAfter names [] result }
+    {
+        Place {
+            stack: OpenBlocks::new(alloc),
+            statement: None,
+            owner: None,
+            definitions: 0,
+            blocks: 0,
+            comments: 0,
+        }
+    }
+
+    /// The blocks that are open.
+    pub(crate) fn open_blocks(&self) -> &OpenBlocks
+        ensures { result.now ≡ self.now.stack }
+    {
+        &self.stack
+    }
+
+    /// The innermost block that is open.
+    pub(crate) fn innermost(&self) -> Option<BlockId>
+        ensures { result ≡ innermost self.now.stack }
+    {
+        let block = self.stack.innermost()?;
+        Some(block.id)
+    }
+
+    /// The keyword of the nearest statement.
+    pub(crate) fn statement(&self) -> Option<Keyword>
+        ensures { result ≡ self.now.statement }
+    {
+        self.statement
+    }
+
+    /// What the last line belongs to, or makes itself.
+    pub(crate) fn owner(&self) -> Option<Owner>
+        ensures { result ≡ self.now.owner }
+    {
+        self.owner
+    }
+
+    /// What a statement of this keyword makes that takes attributes, which may define a symbol.
+    fn made_by(&self, keyword: Keyword, symbol: Option<SymId>) -> Option<Owner>
+        ensures { result ≡ owner_made keyword symbol self.now.definitions self.now.blocks self.now.comments }
+    {
+        match keyword {
+            Keyword::Config => {
+                let symbol = symbol?;
+                Some(Owner::Definition(symbol, self.definitions))
+            }
+            Keyword::Menu => Some(Owner::Menu(BlockId(self.blocks))),
+            Keyword::Comment => Some(Owner::Comment(CommentId(self.comments))),
+            _ => None,
+        }
+    }
+
+    /// Counts what a statement of this keyword makes.
+    fn count(&mut self, keyword: Keyword)
+        requires definitions { self.old.definitions + 1 < 2 ^ 64 }
+        requires blocks { self.old.blocks + 1 < 2 ^ 64 }
+        requires comments { self.old.comments + 1 < 2 ^ 64 }
+        ensures stack { self.new.stack ≡ self.old.stack }
+        ensures statement { self.new.statement ≡ self.old.statement }
+        ensures owner { self.new.owner ≡ self.old.owner }
+        ensures definitions { self.new.definitions ≡ (if is_config_word keyword then self.old.definitions + 1 else self.old.definitions) }
+        ensures blocks { self.new.blocks ≡ (if is_opener_word keyword then self.old.blocks + 1 else self.old.blocks) }
+        ensures comments { self.new.comments ≡ (if is_comment_word keyword then self.old.comments + 1 else self.old.comments) }
+    {
+        match keyword {
+            Keyword::Config => self.definitions += 1,
+            Keyword::Menu | Keyword::If => self.blocks += 1,
+            Keyword::Comment => self.comments += 1,
+            _ => {}
+        }
+    }
+
+    /// Takes a line of this keyword, which says this, after those that were seen.
+    pub(crate) fn take(
+        &mut self,
+        names: &Names,
+        seen: &[Line<'_>],
+        line: &Line<'_>,
+        keyword: Option<Keyword>,
+        statement: &Statement,
+    ) -> Result<(), AllocError>
+        requires place { IsPlaceAfter names.now (reverse seen.now) self.old }
+        requires keyword { keyword ≡ keyword_of line.now }
+        requires form { HasForm names.now line.now statement.now }
+        ensures { OnOk result (IsPlaceAfter names.now (line.now ∷ reverse seen.now) self.new) }
+    {
+        let Some(word) = keyword else {
+            self.statement = None;
+            self.owner = None;
+            return Ok(());
+        };
+        if word.is_attribute() {
+            return Ok(());
+        }
+        let block = OpenBlock {
+            id: BlockId(self.blocks),
+            keyword: word,
+            run: line.run(),
+        };
+        self.stack.take(word, block)?;
+        self.statement = keyword;
+        self.owner = self.made_by(word, defined_symbol(statement));
+        self.count(word);
+        Ok(())
+    }
+}

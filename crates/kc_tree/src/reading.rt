@@ -1,0 +1,137 @@
+//! From logical lines to what they define, or the first fault.
+
+ghost use Rattle.std.specs.Prelude.{◌≡◌, ◌≤◌, ◌<◌, ◌+◌, ◌==◌, [], ◌∷◌, ℕ, All, length, reverse, take, IfOk, IfErr, OnOk};
+ghost use Rattle.kc_tree.specs.Accepted.{IsEntryOf};
+ghost use Rattle.kc_tree.specs.Names.{names_of};
+ghost use Rattle.kc_tree.specs.TreeOf.{IsReading, IsOutlineOf};
+ghost use Rattle.kc_tree.specs.PlaceValue.{IsPlaceAfter};
+ghost use Rattle.kc_tree.specs.Faults.{IsReadFault};
+ghost use Rattle.kc_tree.specs.Reader.{reading_of, IsOutlineAfter, IsStop, IsToldFor};
+
+use crate::fault::{TreeFault, TreeProblem};
+use crate::id::BlockId;
+use crate::keyword::read_keyword;
+use crate::line_faults::{early_problem, late_problem};
+use crate::name::read_names;
+use crate::names::Names;
+use crate::outline::Outline;
+use crate::place::{Owner, Place};
+use crate::statement::Statement;
+use crate::statement_forms::read_statement;
+use kc_text::{Line, Text};
+use std::alloc::{AllocError, Global};
+
+/// Why a line was not taken.
+#[derive(Clone, Copy, Debug, PartialEq, Eq)]
+enum Stop {
+    Problem(TreeProblem),
+    NoMemory,
+}
+
+impl From<AllocError> for Stop {
+    ghost use Rattle.std.specs.Prelude.{◌≡◌};
+    ghost use Rattle.kc_tree.specs.declared.reading.Stop.TheVariants.{NoMemory};
+
+    ghost from_gives = { λ _ e. e ≡ NoMemory };
+
+    fn from(_error: AllocError) -> Stop {
+        Stop::NoMemory
+    }
+}
+
+/// What a line says, where it stands and what owns it. It comes after those that were seen, and so many follow it.
+fn read_line(
+    alloc: Global,
+    names: &Names,
+    place: &mut Place,
+    seen: &[Line<'_>],
+    line: &Line<'_>,
+    following: usize,
+) -> Result<(Statement, Option<BlockId>, Option<Owner>), Stop>
+    requires few { length names.now ≤ 65535 }
+    requires place { IsPlaceAfter names.now (reverse seen.now) place.old }
+    ensures reading { IfOk result (λ r. IsReading names.now (reverse seen.now) (following == 0) line.now (reading_of r)) }
+    ensures place { OnOk result (IsPlaceAfter names.now (line.now ∷ reverse seen.now) place.new) }
+    ensures stop { IfErr result (IsStop names.now (reverse seen.now) (following == 0) line.now) }
+{
+    let keyword = read_keyword(line);
+    if let Some(problem) = early_problem(place, seen, line, keyword, following == 0) {
+        return Err(Stop::Problem(problem));
+    }
+    let Some(statement) = read_statement(alloc, names, line, keyword)? else {
+        return Err(Stop::Problem(TreeProblem::Malformed));
+    };
+    if let Some(problem) = late_problem(place, seen, line, keyword, &statement) {
+        return Err(Stop::Problem(problem));
+    }
+    let block = place.innermost();
+    place.take(names, seen, line, keyword, &statement)?;
+    Ok((statement, block, place.owner()))
+}
+
+/// Takes a line after those that were seen. So many lines follow it.
+fn take_line(
+    alloc: Global,
+    outline: &mut Outline,
+    place: &mut Place,
+    seen: &[Line<'_>],
+    line: &Line<'_>,
+    following: usize,
+) -> Result<(), Stop>
+    requires few { length outline.old.names ≤ 65535 }
+    requires outline { IsOutlineAfter outline.old.names (following + 1) (reverse seen.now) outline.old }
+    requires place { IsPlaceAfter outline.old.names (reverse seen.now) place.old }
+    ensures outline { OnOk result (IsOutlineAfter outline.old.names following (line.now ∷ reverse seen.now) outline.new) }
+    ensures place { OnOk result (IsPlaceAfter outline.old.names (line.now ∷ reverse seen.now) place.new) }
+    ensures stop { IfErr result (IsStop outline.old.names (reverse seen.now) (following == 0) line.now) }
+{
+    let (statement, block, owner) = read_line(alloc, &outline.names, place, seen, line, following)?;
+    outline.take(alloc, statement, block, owner)?;
+    Ok(())
+}
+
+/// The lines before a place.
+fn lines_before<'a, 'b>(lines: &'a [Line<'b>], place: usize) -> &'a [Line<'b>]
+    requires { place ≤ length lines.now }
+    ensures { result.now ≡ take place lines.now }
+{
+    &lines[..place]
+}
+
+/// The fault of a line that was not taken, or that its path could not be copied.
+fn line_fault(alloc: Global, stop: Stop, line: &Line<'_>) -> TreeFault
+    ensures { IsToldFor stop line.now result }
+{
+    let Stop::Problem(problem) = stop else {
+        return TreeFault::NoMemory;
+    };
+    match Text::copy_of(alloc, line.path()) {
+        Ok(path) => TreeFault::Line {
+            problem,
+            path,
+            line: line.number(),
+        },
+        Err(_) => TreeFault::NoMemory,
+    }
+}
+
+/// What logical lines define, or the problem of the first line that has one.
+pub(crate) fn read_outline(alloc: Global, lines: &[Line<'_>]) -> Result<Outline, TreeFault>
+    ensures outline { IfOk result (IsOutlineOf lines.now) }
+    ensures few { IfOk result (λ o. length o.symbols ≤ 65535) }
+    ensures named { IfOk result (λ o. length o.names ≡ length o.symbols) }
+    ensures entries { IfOk result (λ o. All (IsEntryOf o) o.entries) }
+    ensures fault { IfErr result (IsReadFault lines.now) }
+{
+    let names = read_names(alloc, lines)?;
+    let mut outline = Outline::new(alloc, names)?;
+    let mut at = Place::new(alloc);
+    for (place, line) in lines.iter().enumerate() {
+        let following = lines.len() - place - 1;
+        let seen = lines_before(lines, place);
+        if let Err(stop) = take_line(alloc, &mut outline, &mut at, seen, line, following) {
+            return Err(line_fault(alloc, stop, line));
+        }
+    }
+    Ok(outline)
+}

@@ -1,0 +1,294 @@
+//! What the lines of each definition and of each block read, collected once, and the rows of nodes from it.
+
+ghost use Rattle.std.specs.Prelude.{◌≡◌, ◌≤◌, List, [], ◌∷◌, ◌++◌, flat_map, filter_map, length, map, slice_get, slice_index_or, IfOk, OnOk};
+ghost use Rattle.kc_tree.specs.declared.node.Node.{Node};
+ghost use Rattle.kc_tree.specs.Nodes.{number_of};
+ghost use Rattle.kc_tree.specs.Uses.{conditions_nodes, definition_nodes, prompt_nodes, reverse_nodes, type_nodes, visibility_nodes, symbol_value_nodes};
+ghost use Rattle.kc_tree.specs.Collected.{Adds, HaveSame, HasNodes, Holds, own_lists, depends_lists, visible_lists, dependency_at, depends_at, visible_at, block_numbers_at, defaults_at, prompt_own_at, prompted_at};
+
+use super::reader::Reader;
+use super::scratch::{Scratch, without_repeats};
+use crate::expr::Expr;
+use crate::id::SymId;
+use crate::node::Node;
+use crate::node_rows::NodeRows;
+use crate::outline::Outline;
+use crate::symbol::{Reverse, Symbol, SymbolType};
+use std::alloc::{AllocError, Global};
+
+/// The rows of what the own `depends on` lines of each definition read, and the lines of each block.
+#[derive(Drop)]
+pub struct Cache<'a> {
+    pub reader: Reader<'a>,
+    own: NodeRows,
+    depends: NodeRows,
+    visible: NodeRows,
+    ghost own_is: { Holds (own_lists reader.outline.now) own },
+    ghost depends_is: { Holds (depends_lists reader.outline.now) depends },
+    ghost visible_is: { Holds (visible_lists reader.outline.now) visible },
+}
+
+/// Adds a row of what conditions read, each node once.
+fn collect_row(
+    reader: &Reader<'_>,
+    row: &mut Vec<usize>,
+    rows: &mut NodeRows,
+    conditions: &[Expr],
+) -> Result<(), AllocError>
+    requires { length reader.now.outline.now.symbols ≤ 65535 }
+    ensures { OnOk result ((lists : List (List Node)) → Holds lists rows.old → Holds (lists ++ conditions_nodes reader.now.outline.now conditions.now ∷ []) rows.new) }
+{
+    row.clear();
+    reader.add_conditions(row, conditions)?;
+    without_repeats(row);
+    rows.add_row(row.as_slice())
+}
+
+/// What the own lines of each definition read.
+fn own_rows(alloc: Global, reader: &Reader<'_>) -> Result<NodeRows, AllocError>
+    requires { length reader.now.outline.now.symbols ≤ 65535 }
+    ensures { IfOk result (λ rows. Holds (own_lists reader.now.outline.now) rows) }
+{
+    let outline = reader.outline;
+    let mut rows = NodeRows::with_capacity(alloc, outline.definitions.len())?;
+    let mut row = Vec::new(alloc);
+    for definition in outline.definitions.as_slice() {
+        collect_row(reader, &mut row, &mut rows, definition.depends())?;
+    }
+    Ok(rows)
+}
+
+/// What the lines of each block read that all inside depends on.
+fn depends_rows(alloc: Global, reader: &Reader<'_>) -> Result<NodeRows, AllocError>
+    requires { length reader.now.outline.now.symbols ≤ 65535 }
+    ensures { IfOk result (λ rows. Holds (depends_lists reader.now.outline.now) rows) }
+{
+    let outline = reader.outline;
+    let mut rows = NodeRows::with_capacity(alloc, outline.blocks.len())?;
+    let mut row = Vec::new(alloc);
+    for block in outline.blocks.as_slice() {
+        collect_row(reader, &mut row, &mut rows, block.depends())?;
+    }
+    Ok(rows)
+}
+
+/// What the `visible if` lines of each block read.
+fn visible_rows(alloc: Global, reader: &Reader<'_>) -> Result<NodeRows, AllocError>
+    requires { length reader.now.outline.now.symbols ≤ 65535 }
+    ensures { IfOk result (λ rows. Holds (visible_lists reader.now.outline.now) rows) }
+{
+    let outline = reader.outline;
+    let mut rows = NodeRows::with_capacity(alloc, outline.blocks.len())?;
+    let mut row = Vec::new(alloc);
+    for block in outline.blocks.as_slice() {
+        collect_row(reader, &mut row, &mut rows, block.visible())?;
+    }
+    Ok(rows)
+}
+
+/// Adds the numbers of nodes.
+fn add_nodes(row: &mut Vec<usize>, nodes: &[Node]) -> Result<(), AllocError>
+    ensures { OnOk result (row.new.items ≡ row.old.items ++ map number_of nodes.now) }
+{
+    for node in nodes {
+        row.push(node.number())?;
+    }
+    Ok(())
+}
+
+/// Adds the rows of some numbers.
+fn add_rows(row: &mut Vec<usize>, rows: &NodeRows, numbers: &[usize]) -> Result<(), AllocError>
+    ensures { OnOk result (Adds row.old.items row.new.items (flat_map (λ j. slice_index_or rows.now j []) numbers.now)) }
+{
+    for number in numbers {
+        add_nodes(row, rows.row(*number))?;
+    }
+    Ok(())
+}
+
+impl<'a> Cache<'a> {
+    /// Of what lines define.
+    pub fn new(alloc: Global, outline: &'a Outline) -> Result<Cache<'a>, AllocError>
+        requires few { length outline.now.symbols ≤ 65535 }
+        requires named { length outline.now.names ≤ 65535 }
+        ensures { IfOk result (λ cache. cache.reader.outline ≡ outline.entry) }
+    {
+        let reader = Reader::new(outline);
+        let own = own_rows(alloc, &reader)?;
+        let depends = depends_rows(alloc, &reader)?;
+        let visible = visible_rows(alloc, &reader)?;
+        Ok(Cache {
+            reader,
+            own,
+            depends,
+            visible,
+        })
+    }
+
+    /// Adds what the definitions depend on, and finds the blocks around them.
+    fn add_dependencies(
+        &self,
+        row: &mut Vec<usize>,
+        scratch: &mut Scratch,
+    ) -> Result<(), AllocError>
+        ensures added { OnOk result (Adds row.old.items row.new.items (flat_map (dependency_at self.now.reader.outline.now) scratch.old.definitions.items)) }
+        ensures blocks { OnOk result (HaveSame scratch.new.blocks.items (flat_map (block_numbers_at self.now.reader.outline.now) scratch.old.definitions.items)) }
+    {
+        without_repeats(&mut scratch.definitions);
+        add_rows(row, &self.own, scratch.definitions.as_slice())?;
+        scratch.find_blocks(self.reader.outline)?;
+        add_rows(row, &self.depends, scratch.blocks.as_slice())
+    }
+
+    /// Adds what the defaults of a definition read.
+    fn add_defaults_at(&self, row: &mut Vec<usize>, definition: usize) -> Result<(), AllocError>
+        ensures { OnOk result (Adds row.old.items row.new.items (defaults_at self.now.reader.outline.now definition)) }
+    {
+        let outline = self.reader.outline;
+        match outline.definitions.get(definition) {
+            Some(definition) => self.reader.add_defaults(row, definition.defaults()),
+            None => Ok(()),
+        }
+    }
+
+    /// Adds what the defaults of definitions read.
+    fn add_all_defaults(
+        &self,
+        row: &mut Vec<usize>,
+        definitions: &[usize],
+    ) -> Result<(), AllocError>
+        ensures { OnOk result (Adds row.old.items row.new.items (flat_map (defaults_at self.now.reader.outline.now) definitions.now)) }
+    {
+        for definition in definitions {
+            self.add_defaults_at(row, *definition)?;
+        }
+        Ok(())
+    }
+
+    /// Adds what the values of definitions read.
+    fn add_definitions(
+        &self,
+        row: &mut Vec<usize>,
+        scratch: &mut Scratch,
+        definitions: &[usize],
+    ) -> Result<(), AllocError>
+        ensures { OnOk result (Adds row.old.items row.new.items (flat_map (definition_nodes self.now.reader.outline.now) (filter_map (slice_get self.now.reader.outline.now.definitions) definitions.now))) }
+    {
+        self.add_all_defaults(row, definitions)?;
+        scratch.take_definitions(definitions)?;
+        self.add_dependencies(row, scratch)
+    }
+
+    /// Adds what `select` or `imply` lines read.
+    fn add_reverses(
+        &self,
+        row: &mut Vec<usize>,
+        scratch: &mut Scratch,
+        reverses: &[Reverse],
+    ) -> Result<(), AllocError>
+        ensures { OnOk result (Adds row.old.items row.new.items (flat_map (reverse_nodes self.now.reader.outline.now) reverses.now)) }
+    {
+        self.reader.add_sources(row, reverses)?;
+        scratch.take_reverses(reverses)?;
+        self.add_dependencies(row, scratch)
+    }
+
+    /// Adds what the condition of a definition's prompt reads, and the definition to those that have one.
+    fn add_prompt(
+        &self,
+        row: &mut Vec<usize>,
+        prompted: &mut Vec<usize>,
+        definition: usize,
+    ) -> Result<(), AllocError>
+        ensures added { OnOk result (Adds row.old.items row.new.items (prompt_own_at self.now.reader.outline.now definition)) }
+        ensures prompted { OnOk result (prompted.new.items ≡ prompted.old.items ++ prompted_at self.now.reader.outline.now definition) }
+    {
+        let outline = self.reader.outline;
+        let Some(found) = outline.definitions.get(definition) else {
+            return Ok(());
+        };
+        let Some(prompt) = found.prompt() else {
+            return Ok(());
+        };
+        self.reader.add_own_condition(row, &prompt.condition)?;
+        prompted.push(definition)?;
+        Ok(())
+    }
+
+    /// Adds those of definitions.
+    fn add_all_prompts(
+        &self,
+        row: &mut Vec<usize>,
+        prompted: &mut Vec<usize>,
+        definitions: &[usize],
+    ) -> Result<(), AllocError>
+        ensures added { OnOk result (Adds row.old.items row.new.items (flat_map (prompt_own_at self.now.reader.outline.now) definitions.now)) }
+        ensures prompted { OnOk result (prompted.new.items ≡ prompted.old.items ++ flat_map (prompted_at self.now.reader.outline.now) definitions.now) }
+    {
+        for definition in definitions {
+            self.add_prompt(row, prompted, *definition)?;
+        }
+        Ok(())
+    }
+
+    /// Adds what the prompts of definitions read.
+    fn add_prompts(
+        &self,
+        row: &mut Vec<usize>,
+        scratch: &mut Scratch,
+        definitions: &[usize],
+    ) -> Result<(), AllocError>
+        ensures { OnOk result (Adds row.old.items row.new.items (flat_map (prompt_nodes self.now.reader.outline.now) (filter_map (slice_get self.now.reader.outline.now.definitions) definitions.now))) }
+    {
+        scratch.definitions.clear();
+        self.add_all_prompts(row, &mut scratch.definitions, definitions)?;
+        self.add_dependencies(row, scratch)?;
+        add_rows(row, &self.visible, scratch.blocks.as_slice())
+    }
+
+    /// Adds `MODULES` for a tristate.
+    fn add_type(&self, row: &mut Vec<usize>, symbol: &Symbol) -> Result<(), AllocError>
+        ensures { OnOk result (Adds row.old.items row.new.items (type_nodes self.now.reader.outline.now symbol.now)) }
+    {
+        match symbol.kind() {
+            SymbolType::Tristate => self.reader.add_modules(row),
+            SymbolType::Bool => Ok(()),
+        }
+    }
+
+    /// Makes the row of a symbol's visibility.
+    pub fn visibility_row(
+        &self,
+        row: &mut Vec<usize>,
+        scratch: &mut Scratch,
+        symbol: &Symbol,
+    ) -> Result<(), AllocError>
+        ensures { OnOk result (HasNodes (visibility_nodes self.now.reader.outline.now symbol.now) row.new.items) }
+    {
+        row.clear();
+        self.add_prompts(row, scratch, symbol.definitions())?;
+        self.add_type(row, symbol)?;
+        without_repeats(row);
+        Ok(())
+    }
+
+    /// Makes the row of a symbol's value.
+    pub fn value_row(
+        &self,
+        row: &mut Vec<usize>,
+        scratch: &mut Scratch,
+        id: SymId,
+        symbol: &Symbol,
+    ) -> Result<(), AllocError>
+        ensures { OnOk result (HasNodes (symbol_value_nodes self.now.reader.outline.now id symbol.now) row.new.items) }
+    {
+        row.clear();
+        row.push(Node::Vis(id).number())?;
+        self.add_definitions(row, scratch, symbol.definitions())?;
+        self.add_reverses(row, scratch, symbol.selected())?;
+        self.add_reverses(row, scratch, symbol.implied())?;
+        self.add_type(row, symbol)?;
+        without_repeats(row);
+        Ok(())
+    }
+}

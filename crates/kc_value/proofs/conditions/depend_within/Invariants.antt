@@ -1,0 +1,11 @@
+use Rattle.std.proofs.Common.{◌≡◌, ◌-◌}
+use Rattle.kc_tree.specs.Tristate.{least}
+use Rattle.kc_tree.specs.TreeValue.{blocks_from}
+use Rattle.kc_value.specs.Assignment.{assignment_of}
+use Rattle.kc_value.specs.Conditions.{blocks_depend}
+use Rattle.kc_value.proofs.conditions.depend_within.Given as goal
+
+abbrev pub invariant-loop : goal.invariant-loop
+invariant-loop l =
+    let value = blocks_depend l.tree (assignment_of l.env) in
+    least l.least (value (blocks_from l.tree.blocks (l.limit - l.counter) l.next)) ≡ value (blocks_from l.tree.blocks l.limit l.fn.innermost)

@@ -1,0 +1,142 @@
+//! The conditions of definitions, menus and comments.
+
+ghost use Rattle.std.specs.Prelude.{◌≡◌, option_and_then, slice_get};
+ghost use Rattle.std.specs.Option.{option_copied};
+ghost use Rattle.kc_tree.specs.Nodes.{IsNodeOf};
+ghost use Rattle.kc_tree.specs.declared.node.Node.{Node};
+ghost use Rattle.kc_value.specs.Assignment.{Assignment, assignment_of};
+ghost use Rattle.kc_tree.specs.TreeValue.{blocks_from, blocks_around};
+ghost use Rattle.kc_value.specs.Conditions.{blocks_depend, blocks_visible, dependency, prompt_value, menu_value, comment_value, menu_condition, comment_condition};
+
+use crate::expr_value::{conditions_tri, own_condition_tri};
+use crate::value::Value;
+use kc_tree::{Block, BlockId, Comment, CommentId, Definition, Tree, Tri};
+
+/// How many blocks may be nested.
+const MOST_NESTED: usize = 64;
+
+/// A block by number, if there is one.
+fn block_at(tree: &Tree, id: Option<BlockId>) -> Option<&Block>
+    ensures { option_copied result ≡ option_and_then (λ i. slice_get tree.now.blocks i.0) id }
+{
+    let id = id?;
+    tree.blocks().get(id.0)
+}
+
+/// What all inside some blocks depends on: those from one outwards, so many at most.
+fn depend_within(
+    tree: &Tree,
+    limit: usize,
+    innermost: Option<BlockId>,
+    env: &[Option<Value>],
+) -> Tri
+    ensures { result ≡ blocks_depend tree.now (assignment_of env.now) (blocks_from tree.now.blocks limit innermost) }
+{
+    let mut least = Tri::Yes;
+    let mut next = innermost;
+    for _ in 0..limit {
+        let Some(block) = block_at(tree, next) else {
+            return least;
+        };
+        least = least.and(conditions_tri(tree, block.depends(), env));
+        next = block.parent();
+    }
+    least
+}
+
+/// What the prompts inside some blocks depend on besides: those from one outwards, so many at most.
+fn visible_within(
+    tree: &Tree,
+    limit: usize,
+    innermost: Option<BlockId>,
+    env: &[Option<Value>],
+) -> Tri
+    ensures { result ≡ blocks_visible tree.now (assignment_of env.now) (blocks_from tree.now.blocks limit innermost) }
+{
+    let mut least = Tri::Yes;
+    let mut next = innermost;
+    for _ in 0..limit {
+        let Some(block) = block_at(tree, next) else {
+            return least;
+        };
+        least = least.and(conditions_tri(tree, block.visible(), env));
+        next = block.parent();
+    }
+    least
+}
+
+/// What all inside the blocks around a place depends on.
+fn blocks_depend_tri(tree: &Tree, innermost: Option<BlockId>, env: &[Option<Value>]) -> Tri
+    ensures { result ≡ blocks_depend tree.now (assignment_of env.now) (blocks_around tree.now innermost) }
+{
+    depend_within(tree, MOST_NESTED, innermost, env)
+}
+
+/// What the prompts inside the blocks around a place depend on besides.
+fn blocks_visible_tri(tree: &Tree, innermost: Option<BlockId>, env: &[Option<Value>]) -> Tri
+    ensures { result ≡ blocks_visible tree.now (assignment_of env.now) (blocks_around tree.now innermost) }
+{
+    visible_within(tree, MOST_NESTED, innermost, env)
+}
+
+/// The dependencies of a definition (kconfig-language.rst, "Menu dependencies"): its own `depends on` lines, and those
+/// of all blocks around it.
+pub(crate) fn dependency_tri(tree: &Tree, definition: &Definition, env: &[Option<Value>]) -> Tri
+    ensures { result ≡ dependency tree.now (assignment_of env.now) definition.now }
+{
+    let own = conditions_tri(tree, definition.depends(), env);
+    own.and(blocks_depend_tri(tree, definition.block(), env))
+}
+
+/// The condition of a definition's prompt, n without one.
+pub(crate) fn prompt_tri(tree: &Tree, definition: &Definition, env: &[Option<Value>]) -> Tri
+    ensures { result ≡ prompt_value tree.now (assignment_of env.now) definition.now }
+{
+    let Some(prompt) = definition.prompt() else {
+        return Tri::No;
+    };
+    let own = own_condition_tri(tree, prompt.condition.as_ref(), env);
+    let visible = blocks_visible_tri(tree, definition.block(), env);
+    own.and(dependency_tri(tree, definition, env).and(visible))
+}
+
+/// The condition of a menu over the values of the nodes in `env`.
+fn menu_tri(tree: &Tree, menu: &Block, env: &[Option<Value>]) -> Tri
+    ensures { result ≡ menu_value tree.now (assignment_of env.now) menu.now }
+{
+    let own = conditions_tri(tree, menu.depends(), env);
+    let around = blocks_depend_tri(tree, menu.parent(), env);
+    own.and(around.and(conditions_tri(tree, menu.visible(), env)))
+}
+
+/// The condition of a comment over the values of the nodes in `env`.
+fn comment_tri(tree: &Tree, comment: &Comment, env: &[Option<Value>]) -> Tri
+    ensures { result ≡ comment_value tree.now (assignment_of env.now) comment.now }
+{
+    let own = conditions_tri(tree, comment.depends(), env);
+    own.and(blocks_depend_tri(tree, comment.block(), env))
+}
+
+/// The condition of a menu: its own `depends on` and `visible if` lines, and what the blocks around it depend on, but
+/// not their `visible if` lines. It is n for a number that the tree doesn't have. `env` has the values of all nodes.
+pub fn menu_condition(tree: &Tree, menu: BlockId, env: &[Option<Value>]) -> Tri
+    ensures { (a : Assignment) → ((n : Node) → IsNodeOf tree.now n → assignment_of env.now n ≡ a n)
+        → result ≡ menu_condition tree.now a menu }
+{
+    match tree.blocks().get(menu.0 as usize) {
+        Some(block) => menu_tri(tree, block, env),
+        None => Tri::No,
+    }
+}
+
+/// The condition of a comment: its own `depends on` lines, and what the blocks around it depend on. It is n for a number
+/// that the tree doesn't have. `env` has the values of all nodes.
+pub fn comment_condition(tree: &Tree, comment: CommentId, env: &[Option<Value>]) -> Tri
+    ensures { (a : Assignment) → ((n : Node) → IsNodeOf tree.now n → assignment_of env.now n ≡ a n)
+        → result ≡ comment_condition tree.now a comment }
+{
+    match tree.comments().get(comment.0 as usize) {
+        Some(comment) => comment_tri(tree, comment, env),
+        None => Tri::No,
+    }
+}

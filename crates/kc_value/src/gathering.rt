@@ -1,0 +1,72 @@
+//! Copies of the values that a resolver has: of one node, of those that a node is computed from, and of all.
+
+ghost use Rattle.std.specs.Prelude.{◌≡◌, IfOk, [], ◌∷◌};
+ghost use Rattle.kc_tree.specs.declared.node.Node.{Node};
+ghost use Rattle.kc_tree.specs.Nodes.{IsNodeOf, all_nodes};
+ghost use Rattle.kc_tree.specs.Uses.{Uses};
+ghost use Rattle.kc_value.specs.Assignment.{assignment_of};
+ghost use Rattle.kc_value.specs.Solution.{solution};
+
+use crate::resolver::Resolver;
+use crate::slots::empty_slots;
+use crate::value::{Value, copy_of};
+use kc_tree::Node;
+use std::alloc::{AllocError, Global};
+
+/// A copy of the value of a node. The error is want of memory.
+fn value_at<R: Resolver>(alloc: Global, resolver: &mut R, node: Node) -> Result<Value, AllocError>
+    requires { IsNodeOf (R.tree_of resolver.old) node }
+    ensures value { IfOk result (λ v. v ≡ solution (R.tree_of resolver.old) (R.user_of resolver.old) node) }
+    ensures tree { R.tree_of resolver.new ≡ R.tree_of resolver.old }
+    ensures user { R.user_of resolver.new ≡ R.user_of resolver.old }
+    ensures grew { R.grew resolver.old resolver.new (node ∷ []) }
+{
+    let value = copy_of(alloc, resolver.node(node)?)?;
+    Ok(value)
+}
+
+/// A copy of the value of each node, by number: all nodes of the tree are asked.
+///
+/// The error is want of memory.
+pub fn all_values<R: Resolver>(
+    alloc: Global,
+    resolver: &mut R,
+) -> Result<Vec<Option<Value>>, AllocError>
+    ensures values { IfOk result (λ v. (n : Node) → IsNodeOf (R.tree_of resolver.old) n
+        → assignment_of v.items n ≡ solution (R.tree_of resolver.old) (R.user_of resolver.old) n) }
+    ensures tree { R.tree_of resolver.new ≡ R.tree_of resolver.old }
+    ensures user { R.user_of resolver.new ≡ R.user_of resolver.old }
+    ensures grew { R.grew resolver.old resolver.new (all_nodes (R.tree_of resolver.old)) }
+{
+    let count = resolver.tree().node_count();
+    let mut values = Vec::with_capacity(alloc, count)?;
+    for number in 0..count {
+        let value = value_at(alloc, resolver, Node::at(number))?;
+        values.push(Some(value))?;
+    }
+    Ok(values)
+}
+
+/// A copy of the value of each node that a node is computed from, by number, with nothing for the others.
+///
+/// The error is want of memory.
+pub(crate) fn used_values<R: Resolver>(
+    alloc: Global,
+    resolver: &mut R,
+    node: Node,
+) -> Result<Vec<Option<Value>>, AllocError>
+    requires { IsNodeOf (R.tree_of resolver.old) node }
+    ensures values { IfOk result (λ v. (n : Node) → Uses (R.tree_of resolver.old) node n
+        → assignment_of v.items n ≡ solution (R.tree_of resolver.old) (R.user_of resolver.old) n) }
+    ensures tree { R.tree_of resolver.new ≡ R.tree_of resolver.old }
+    ensures user { R.user_of resolver.new ≡ R.user_of resolver.old }
+    ensures grew { R.grew resolver.old resolver.new (node ∷ []) }
+{
+    let nodes = Vec::from_slice(alloc, resolver.tree().uses(node))?;
+    let mut values = empty_slots(alloc, resolver.tree().node_count())?;
+    for next in nodes.as_slice() {
+        let value = value_at(alloc, resolver, *next)?;
+        values[next.number()] = Some(value);
+    }
+    Ok(values)
+}
