@@ -9,12 +9,13 @@ SHAPE is one of
 - default: each has the one before as its default,
 - select: all select the first,
 - above: all stand in a menu that depends on an expression of 60,000 bytes,
-- under: all stand in a menu that depends on one symbol.
+- under: all stand in a menu that depends on the same four symbols once.
 """
 
 import sys
 
 LONG_LINE = 60_000
+FOUR = "(A || B) && (C || D)"
 
 
 def shape_lines(shape, number):
@@ -33,8 +34,7 @@ def shape_lines(shape, number):
 
 def long_expression():
     """An expression of four symbols, as often as the line has room."""
-    part = "(A || B) && (C || D)"
-    return " && ".join([part] * (LONG_LINE // (len(part) + 4)))
+    return " && ".join([FOUR] * (LONG_LINE // (len(FOUR) + 4)))
 
 
 def menu_lines(shape):
@@ -43,7 +43,7 @@ def menu_lines(shape):
     if shape == "above":
         return names + ['menu "m"', f"\tdepends on {long_expression()}"]
     if shape == "under":
-        return names + ['menu "m"', "\tdepends on A"]
+        return names + ['menu "m"', f"\tdepends on {FOUR}"]
     return []
 
 

@@ -6,8 +6,9 @@
 # Without PROGRAM it builds kconf by rt. For trees of 1,000 and of 60,000 symbols (flat, each depending on the one
 # before, each with the one before as default, all selecting one) it times `kconf session` with one `show` of the last
 # symbol, medians of seven runs, and prints the time for each symbol and the ratio of both (wanted: at most 1.5). Then
-# it does the same for 10,000 symbols below one `depends on` of 60,000 bytes, against the same symbols below a short one
-# (wanted: at most 1.5 times in time and in memory at its peak). The status is 0 where all is kept, else 1.
+# it does the same for 10,000 symbols below one `depends on` of 60,000 bytes, against the same symbols below a short one of
+# the same four symbols (wanted: at most 1.5 times in time and in memory at its peak). The status is 0 where all is kept,
+# else 1.
 set -euo pipefail
 shopt -s inherit_errexit
 
@@ -79,7 +80,7 @@ compare_conditions() {
     local work=$1 kconf=$2 last=S$((BELOW - 1)) long short long_memory short_memory failed=0
     read -r long long_memory <<<"$(measure "$kconf" "$(tree "$work" above "$BELOW")" "$last")"
     read -r short short_memory <<<"$(measure "$kconf" "$(tree "$work" under "$BELOW")" "$last")"
-    echo "$BELOW symbols: below 60,000 bytes $long us and $long_memory KiB, below one word $short us and $short_memory KiB"
+    echo "$BELOW symbols: below 60,000 bytes $long us and $long_memory KiB, below 20 bytes $short us and $short_memory KiB"
     verdict "long condition, time" "$long" "$short" || failed=1
     verdict "long condition, memory" "$long_memory" "$short_memory" || failed=1
     return "$failed"

@@ -5,6 +5,7 @@ pub mod ChangeLaws
 pub mod CollectedLaws
 pub mod ConditionStart
 pub mod DependencyLaws
+pub mod Examples
 pub mod ExprLaws
 pub mod FirstRooms
 pub mod FormLaws

@@ -1,5 +1,5 @@
 -- The blocks around, one after the other.
-use Rattle.std.proofs.Common.{◌≡◌, ℕ, zero, suc, List, ◌∷◌, Option, Some, None, refl, ap, sym, ◌∙◌, slice_get}
+use Rattle.std.proofs.Common.{◌≡◌, ℕ, suc, List, ◌∷◌, Option, Some, None, refl, slice_get}
 use Rattle.std.specs.Prelude.{option_and_then}
 use Rattle.kc_tree.specs.declared.id.BlockId.{BlockId}
 use Rattle.kc_tree.specs.declared.tri.Tri.{Tri}

@@ -16,7 +16,7 @@ use Rattle.kc_tree.specs.Grammar.{Formula, atom, compare, negation, group, both,
 use Rattle.kc_tree.specs.Nodes.{IsNodeOf}
 use Rattle.kc_tree.specs.TreeValue.{TreeValue, SymbolValue, BlockValue, CommentValue, modules_symbol, blocks_around}
 use Rattle.kc_tree.specs.Tristate.{least}
-use Rattle.kc_tree.specs.Uses.{symbol_nodes, term_nodes, formula_nodes, value_nodes, modules_nodes, has_bare_module, nodes_if, condition_nodes, conditions_nodes, depends_nodes}
+use Rattle.kc_tree.specs.Uses.{symbol_nodes, term_nodes, formula_nodes, value_nodes, modules_nodes, has_bare_module, nodes_if, condition_nodes, conditions_nodes}
 use Rattle.kc_value.specs.Assignment.{Assignment}
 use Rattle.kc_value.specs.ExprValue.{conditions_value}
 use Rattle.kc_value.specs.Conditions.{blocks_depend, menu_value, comment_value, menu_condition, comment_condition}

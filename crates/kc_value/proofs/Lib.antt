@@ -2,6 +2,7 @@ pub mod Agreement
 pub mod AssignableLemmas
 pub mod BlockLemmas
 pub mod ConditionLemmas
+pub mod Examples
 pub mod ExprLemmas
 pub mod FillLemmas
 pub mod FirstLemmas
@@ -9,3 +10,4 @@ pub mod GatheringLemmas
 pub mod MarkLemmas
 pub mod NumeralLemmas
 pub mod SolutionLaws
+pub mod WithoutLemmas

@@ -1,10 +1,10 @@
 -- The conditions of definitions, menus and comments: kconfig-language.rst, "Menu dependencies" and "Menu structure".
-use Rattle.std.specs.Prelude.{List, Option, Some, None, map, slice_get}
+use Rattle.std.specs.Prelude.{List, map, slice_get}
 use Rattle.std.specs.Option.{option_map_or}
 use Rattle.kc_tree.specs.declared.id.BlockId.{BlockId}
 use Rattle.kc_tree.specs.declared.id.CommentId.{CommentId}
 use Rattle.kc_tree.specs.declared.tri.Tri.{Tri}
-use Rattle.kc_tree.specs.declared.tri.Tri.TheVariants.{No, Yes}
+use Rattle.kc_tree.specs.declared.tri.Tri.TheVariants.{No}
 use Rattle.kc_tree.specs.Tristate.{least, least_of}
 use Rattle.kc_tree.specs.TreeValue.{TreeValue, DefinitionValue, BlockValue, CommentValue, blocks_around}
 use Rattle.kc_value.specs.Assignment.{Assignment}

@@ -10,3 +10,4 @@ pub mod Numerals
 pub mod Rule
 pub mod Solution
 pub mod UserValues
+pub mod Without

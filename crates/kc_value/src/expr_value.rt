@@ -124,14 +124,15 @@ fn any_tri(tree: &Tree, env: &[Option<Value>], in_condition: bool, parts: &[Expr
 /// The value of an expression (kconfig-language.rst, "Menu dependencies"): `&&` is the least, `||` the greatest, `!` the
 /// complement. A bool or tristate symbol stands for its value in `env`, where nodes stand by number (a symbol whose
 /// place is empty or missing counts as n), n, m and y for themselves, and other texts for n. A comparison is y or n.
+/// It is that of a default; a condition has its value by [`condition_tri`].
 pub fn tri(tree: &Tree, expr: &Expr, env: &[Option<Value>]) -> Tri
     ensures { result ≡ expr_value tree.now (assignment_of env.now) expr.now }
 {
     formula_tri(tree, env, false, expr)
 }
 
-/// The value of a condition, in which m alone means `m && MODULES`.
-pub(crate) fn condition_tri(tree: &Tree, expr: &Expr, env: &[Option<Value>]) -> Tri
+/// The value of a condition, as after `if`, `depends on` and `visible if`: as [`tri`] gives it, but m alone means `m && MODULES`.
+pub fn condition_tri(tree: &Tree, expr: &Expr, env: &[Option<Value>]) -> Tri
     ensures { result ≡ condition_value tree.now (assignment_of env.now) expr.now }
 {
     formula_tri(tree, env, true, expr)

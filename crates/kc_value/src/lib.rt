@@ -16,17 +16,19 @@ mod slots;
 mod symbol_value;
 mod user;
 mod value;
+mod without;
 
 pub use assignable_values::assignable;
 pub use conditions::{comment_condition, menu_condition};
 pub use evaluation::eval;
-pub use expr_value::tri;
+pub use expr_value::{condition_tri, tri};
 pub use fresh::{Fresh, solve};
 pub use gathering::all_values;
 pub use meter::Meter;
 pub use resolver::Resolver;
 pub use user::User;
 pub use value::Value;
+pub use without::without_user;
 
 #[cfg(test)]
 mod comparison_tests;

@@ -1,13 +1,11 @@
-use Rattle.std.proofs.Common.{◌≡◌, [], ◌∷◌, ◌++◌, true, false, List, if◌then◌else◌, sym, ap, ◌∙◌, subst, ⊎_elim}
-use Rattle.std.specs.List.{Contains, filter}
-use Rattle.std.proofs.lemmas.List.Elements.{Contains-append_left, Contains-append_right, Contains-append_cases}
+use Rattle.std.proofs.Common.{◌≡◌, [], ◌∷◌, true, false, List, if◌then◌else◌, sym, ap, ◌∙◌}
+use Rattle.std.specs.List.{filter}
 use Rattle.kc_tree.specs.declared.id.SymId.{SymId}
 use Rattle.kc_tree.specs.declared.node.Node.{Node}
 use Rattle.kc_tree.specs.declared.node.Node.TheVariants.{Vis, Val}
 use Rattle.kc_tree.specs.declared.tri.Tri.TheVariants.{No, Module, Yes}
 use Rattle.kc_tree.specs.Tristate.{is_no}
-use Rattle.kc_tree.proofs.ReachedLaws.{Reached-wider}
-use Rattle.kc_value.specs.Assignment.{as_tri, assignment_of}
+use Rattle.kc_value.specs.Assignment.{as_tri}
 use Rattle.kc_value.specs.Assignable.{is_shown_with_some, assignable_values}
 use Rattle.kc_value.specs.Solution.{solution}
 use Rattle.kc_value.proofs.AssignableLemmas.{visible_values}

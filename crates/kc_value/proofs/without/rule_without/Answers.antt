@@ -1,0 +1,35 @@
+use Rattle.std.proofs.Common.{◌≡◌, ◌<◌, Some, None, length, sym, ap, ◌∙◌, subst, true≢false}
+use Rattle.std.specs.List.{slice_get}
+use Rattle.std.proofs.lemmas.Option.{slice_get-get_or}
+use Rattle.kc_value.specs.Assignment.{assignment_of}
+use Rattle.kc_value.specs.Rule.{symbol_rule}
+use Rattle.kc_value.proofs.ConditionLemmas.{no_place}
+use Rattle.kc_value.proofs.WithoutLemmas.{without_found, without_none}
+use Rattle.kc_value.proofs.without.rule_without.Goals as goal
+
+pub returns-in-Some : goal.returns-in-Some
+returns-in-Some c = λ u sized.
+    let t = c.args.tree.now in
+    let a = assignment_of c.args.env.now in
+    let s = c.args.symbol in
+    let x = c.in-Some.found.now in
+    let place : s.0 < length c.symbols.result.now = c.in-Some.ensures.lookup.3.0 in
+    let found : slice_get t.symbols s.0 ≡ Some x =
+    ap (λ xs. slice_get xs s.0) (sym c.symbols.ensures.symbols)
+    ∙ slice_get-get_or c.symbols.result.now s.0 x place
+    ∙ ap Some (sym c.in-Some.ensures.lookup.1)
+    in
+    let within : s.0 < length t.symbols = subst (λ xs. s.0 < length xs) c.symbols.ensures.symbols place in
+    c.symbol_value.ensures
+    ∙ ap (λ v. symbol_rule t a x v None) c.node_tri.ensures
+    ∙ without_found t u a s x sized within found
+
+pub returns-in-None : goal.returns-in-None
+returns-in-None c = λ u sized.
+    let t = c.args.tree.now in
+    let i = c.args.symbol.0 in
+    let past : slice_get t.symbols i ≡ None =
+    ap (λ xs. slice_get xs i) (sym c.symbols.ensures.symbols)
+    ∙ no_place c.symbols.result.now i (λ h. true≢false (sym (c.in-None.ensures.lookup.2 h)))
+    in
+    without_none t u (assignment_of c.args.env.now) c.args.symbol past
