@@ -20,13 +20,8 @@ readonly MOST=1.5
 
 bench=$(cd "$(dirname "${BASH_SOURCE[0]}")" && pwd)
 readonly bench
-
-# Proves and builds kconf, and prints the path of the program.
-build_kconf() {
-    local crate=$bench/../crates/kconf
-    (cd "$crate" && rt run -- --help >/dev/null)
-    realpath "$crate/out/kconf"
-}
+# shellcheck source=bench/build.sh
+source "$bench/build.sh"
 
 # Prints how many microseconds a `show` of a symbol takes, and how many KiB of memory at its peak, in the middle run.
 measure() {

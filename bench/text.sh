@@ -19,6 +19,8 @@ readonly MOST_OF_ONE=1.2
 
 bench=$(cd "$(dirname "${BASH_SOURCE[0]}")" && pwd)
 readonly bench
+# shellcheck source=bench/build.sh
+source "$bench/build.sh"
 
 # Installs kconfig-conf where it is missing.
 install_conf() {
@@ -27,13 +29,6 @@ install_conf() {
     [ "$(id -u)" -eq 0 ] || as_root=(sudo)
     "${as_root[@]}" apt-get update >/dev/null
     "${as_root[@]}" apt-get install --yes kconfig-frontends-nox >/dev/null
-}
-
-# Proves and builds kconf, and prints the path of the program.
-build_kconf() {
-    local crate=$bench/../crates/kconf
-    (cd "$crate" && rt run -- --help >/dev/null)
-    realpath "$crate/out/kconf"
 }
 
 # Runs a command in a folder, and prints how many microseconds that took.
