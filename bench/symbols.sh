@@ -4,17 +4,18 @@
 #     bench/symbols.sh [PROGRAM]
 #
 # Without PROGRAM it builds kconf by rt. For trees of 1,000 and of 60,000 symbols (flat, each depending on the one
-# before, each with the one before as default, all selecting one) it times `kconf session` with one `show` of the last
-# symbol, medians of seven runs, and prints the time for each symbol and the ratio of both (wanted: at most 1.5). Then
-# it does the same for 10,000 symbols below one `depends on` of 60,000 bytes, against the same symbols below a short one of
-# the same four symbols (wanted: at most 1.5 times in time and in memory at its peak). The status is 0 where all is kept,
-# else 1.
+# before, each with the one before as default, all selecting one, ints with a range between two symbols) it times `kconf
+# session` with one `show` of the last symbol, medians of seven runs, and prints the time for each symbol and the ratio of
+# both (wanted: at most 1.5). It does the same for one choice of 1,000 and of 10,000 members. Then it compares 10,000
+# symbols below one `depends on` of 60,000 bytes with the same symbols below a short one of the same four symbols (wanted:
+# at most 1.5 times in time and in memory at its peak). The status is 0 where all is kept, else 1.
 set -euo pipefail
 shopt -s inherit_errexit
 
 readonly RUNS=7
 readonly FEW=1000
 readonly MANY=60000
+readonly MEMBERS=10000
 readonly BELOW=10000
 readonly MOST=1.5
 
@@ -39,7 +40,7 @@ for _ in range(runs):
     reply = child.stdout.read()
     _, status, usage = os.wait4(child.pid, 0)
     took = time.perf_counter() - begin
-    if status or not reply.startswith(f"{symbol} type=bool value=".encode()):
+    if status or not reply.startswith(f"{symbol} type=".encode()):
         sys.exit(f"kconf did not show {symbol} in {folder}")
     found.append((took * 1e6, usage.ru_maxrss))
 found.sort()
@@ -61,13 +62,13 @@ verdict() {
         'BEGIN { ratio = first / second; printf "%s: %.2f (at most %s)\n", name, ratio, most; exit ratio > most }'
 }
 
-# Compares the time for each symbol of many and of few symbols of a shape.
+# Compares the time for each symbol of so many and of few symbols of a shape.
 compare_counts() {
-    local work=$1 kconf=$2 shape=$3 few many
+    local work=$1 kconf=$2 shape=$3 count=$4 few many
     read -r few _ <<<"$(measure "$kconf" "$(tree "$work" "$shape" "$FEW")" "S$((FEW - 1))")"
-    read -r many _ <<<"$(measure "$kconf" "$(tree "$work" "$shape" "$MANY")" "S$((MANY - 1))")"
-    echo "$shape: $FEW symbols $few us, $MANY symbols $many us"
-    verdict "$shape, for each symbol" "$((many * FEW / MANY))" "$few"
+    read -r many _ <<<"$(measure "$kconf" "$(tree "$work" "$shape" "$count")" "S$((count - 1))")"
+    echo "$shape: $FEW symbols $few us, $count symbols $many us"
+    verdict "$shape, for each symbol" "$((many * FEW / count))" "$few"
 }
 
 # Compares symbols below a long `depends on` with the same below a short one.
@@ -87,9 +88,10 @@ main() {
     kconf=$(realpath "$kconf")
     work=$(mktemp -d)
     trap "rm -rf '$work'" EXIT
-    for shape in flat depends default select; do
-        compare_counts "$work" "$kconf" "$shape" || failed=1
+    for shape in flat depends default select range; do
+        compare_counts "$work" "$kconf" "$shape" "$MANY" || failed=1
     done
+    compare_counts "$work" "$kconf" choice "$MEMBERS" || failed=1
     compare_conditions "$work" "$kconf" || failed=1
     return "$failed"
 }

@@ -2,29 +2,30 @@
 use Rattle.std.proofs.Common.{◌≡◌, ℕ, Bool, zero, suc, List, [], ◌∷◌, true, false, None, refl}
 use Rattle.std.specs.Prelude.{codes}
 use Rattle.kc_tree.specs.declared.tri.Tri.TheVariants.{No, Yes}
-use Rattle.kc_tree.specs.declared.node.Node.TheVariants.{Vis, Val}
+use Rattle.kc_tree.specs.declared.node.Node.TheVariants.{Vis, Val, Mode, Sel}
 use Rattle.kc_tree.specs.declared.id.SymId.{SymId}
 use Rattle.kc_tree.specs.declared.id.BlockId.{BlockId}
 use Rattle.kc_tree.specs.declared.id.CommentId.{CommentId}
 use Rattle.kc_tree.specs.declared.block.BlockKind.TheVariants.{Menu as MenuBlock}
 use Rattle.kc_tree.specs.declared.tree.Entry.{Entry}
 use Rattle.kc_tree.specs.declared.tree.Entry.TheVariants.{Symbol, Again, Menu, EndMenu, Comment}
-use Rattle.kc_tree.specs.declared.user_value.UserVal.TheVariants.{Tri as TriVal}
+use Rattle.kc_tree.specs.declared.symbol.SymbolType.TheVariants.{Bool as BoolType, String, Int, Hex}
+use Rattle.kc_tree.specs.declared.user_value.UserVal.TheVariants.{Tri as TriVal, Text}
 use Rattle.kc_tree.specs.TreeValue.{TreeValue, SymbolValue, BlockValue, CommentValue}
 use Rattle.kc_value.specs.declared.value.Value.{Value}
-use Rattle.kc_value.specs.declared.value.Value.TheVariants.{Tri as Level, Shown}
+use Rattle.kc_value.specs.declared.value.Value.TheVariants.{Tri as Level, Shown, Member}
 use Rattle.kc_value.specs.Assignment.{Assignment}
-use Rattle.kc_files.specs.ConfigText.{config_text_of}
+use Rattle.kc_files.specs.ConfigText.{symbol_line, config_text_of}
 
 abbrev plain : SymbolValue
-plain = record { kind = None; has_other_type = false; definitions = []; selected = []; implied = []; has_modules = false; is_yes_in_allnoconfig = false }
+plain = record { kind = None; has_other_type = false; choice = None; definitions = []; selected = []; implied = []; has_selections = false; has_modules = false; is_yes_in_allnoconfig = false }
 
 -- a menu with the title M and a comment with the title C, both without conditions
 abbrev block : BlockValue
 block = record { kind = MenuBlock (codes "M"); parent = None; depends = []; visible = [] }
 
 abbrev remark : CommentValue
-remark = record { title = codes "C"; block = None; depends = [] }
+remark = record { title = codes "C"; block = None; choice = None; depends = [] }
 
 -- two symbols, A and B, with such a menu and such a comment
 abbrev tree_of : List Entry → TreeValue
@@ -33,6 +34,7 @@ tree_of entries = record {
   symbols = plain ∷ plain ∷ [];
   definitions = [];
   blocks = block ∷ [];
+  choices = [];
   comments = remark ∷ [];
   entries = entries;
 }
@@ -57,6 +59,8 @@ by_number b_written (suc k) = Shown (TriVal Yes) b_written
 abbrev values : Bool → Assignment
 values b_written (Vis s) = Level Yes
 values b_written (Val s) = by_number b_written s.0
+values b_written (Mode c) = Level No
+values b_written (Sel c) = Member None
 
 abbrev text_of : Bool → List Entry → List ℕ
 text_of b_written entries = config_text_of (tree_of entries) (codes "CONFIG_") [] (values b_written)
@@ -82,3 +86,19 @@ menu_of_unwritten_symbols_has_one = refl
 
 pub comment_has_a_title : text_of true (Symbol a_symbol ∷ Comment comment ∷ Symbol b_symbol ∷ []) ≡ codes "# CONFIG_A is not set\n\n#\n# C\n#\nCONFIG_B=y\n"
 comment_has_a_title = refl
+
+-- a string stands in quotes, with a backslash before each `"` and each backslash; a number stands as it is spelt
+pub string_in_quotes : symbol_line (codes "CONFIG_") (codes "S") String (Text (codes "a\"b\\c")) ≡ codes "CONFIG_S=\"a\\\"b\\\\c\"\n"
+string_in_quotes = refl
+
+pub empty_string : symbol_line (codes "CONFIG_") (codes "S") String (Text []) ≡ codes "CONFIG_S=\"\"\n"
+empty_string = refl
+
+pub int_as_spelt : symbol_line (codes "CONFIG_") (codes "I") Int (Text (codes "007")) ≡ codes "CONFIG_I=007\n"
+int_as_spelt = refl
+
+pub hex_as_spelt : symbol_line (codes "CONFIG_") (codes "H") Hex (Text (codes "0x1F")) ≡ codes "CONFIG_H=0x1F\n"
+hex_as_spelt = refl
+
+pub n_of_a_bool : symbol_line (codes "CONFIG_") (codes "B") BoolType (TriVal No) ≡ codes "# CONFIG_B is not set\n"
+n_of_a_bool = refl

@@ -1,2 +1,3 @@
 pub mod ConfigExample
 pub mod DraftLaws
+pub mod EscapeLaws

@@ -1,6 +1,6 @@
 -- The text of a `.config`: `write_config` of Kconfiglib and `conf_write` of the kernel's
 -- scripts/kconfig/confdata.c.
-use Rattle.std.specs.Prelude.{ℕ, ◌==◌, Bool, false, not, ◌&&◌, List, [], ◌∷◌, ◌++◌, Option, Some, None, option_map, slice_get, codes, if◌then◌else◌}
+use Rattle.std.specs.Prelude.{ℕ, ◌==◌, Bool, true, false, not, ◌&&◌, List, [], ◌∷◌, ◌++◌, Option, Some, None, option_map, slice_get, codes, if◌then◌else◌}
 use Rattle.std.specs.List.{cons_option}
 use Rattle.std.specs.Option.{option_map_or}
 use Rattle.kc_tree.specs.declared.tri.Tri.{Tri}
@@ -12,10 +12,17 @@ use Rattle.kc_tree.specs.declared.block.BlockKind.{BlockKind}
 use Rattle.kc_tree.specs.declared.block.BlockKind.TheVariants as block_kind
 use Rattle.kc_tree.specs.declared.node.Node.TheVariants.{Val}
 use Rattle.kc_tree.specs.declared.tree.Entry.{Entry}
-use Rattle.kc_tree.specs.declared.tree.Entry.TheVariants.{Symbol, Again, Menu, EndMenu, Comment}
-use Rattle.kc_tree.specs.TreeValue.{TreeValue, name_of}
+use Rattle.kc_tree.specs.declared.tree.Entry.TheVariants.{Symbol, Again, Menu, EndMenu, Choice, Comment}
+use Rattle.kc_tree.specs.TreeValue.{TreeValue, name_of, kind_of}
+use Rattle.kc_tree.specs.declared.symbol.SymbolType.{SymbolType}
+use Rattle.kc_tree.specs.declared.symbol.SymbolType.TheVariants as kind
+use Rattle.kc_tree.specs.declared.user_value.UserVal.{UserVal}
+use Rattle.kc_tree.specs.declared.user_value.UserVal.TheVariants.{Tri as TriVal, Text}
+use Rattle.kc_value.specs.declared.value.Value.{Value}
+use Rattle.kc_value.specs.declared.value.Value.TheVariants.{Tri as Level, Shown, Member}
 use Rattle.kc_tree.specs.Tristate.{is_no}
-use Rattle.kc_value.specs.Assignment.{Assignment, as_tri, is_written}
+use Rattle.kc_value.specs.Assignment.{Assignment}
+use Rattle.kc_files.specs.Quoting.{quoted}
 use Rattle.kc_value.specs.Conditions.{menu_condition, comment_condition}
 
 -- ---- lines of symbols
@@ -31,12 +38,34 @@ line_start No = codes "# "
 line_start Module = []
 line_start Yes = []
 
-abbrev pub symbol_line : List ℕ → List ℕ → Tri → List ℕ
-symbol_line prefix name v = line_start v ++ prefix ++ name ++ line_end v
+abbrev pub tri_line : List ℕ → List ℕ → Tri → List ℕ
+tri_line prefix name v = line_start v ++ prefix ++ name ++ line_end v
+
+-- a string stands in quotes, a number as it is spelt
+abbrev pub text_in : SymbolType → List ℕ → List ℕ
+text_in kind.String w = quoted w
+text_in _ w = w
+
+abbrev pub text_line : List ℕ → List ℕ → SymbolType → List ℕ → List ℕ
+text_line prefix name k w = prefix ++ name ++ codes "=" ++ text_in k w ++ codes "\n"
+
+abbrev pub symbol_line : List ℕ → List ℕ → SymbolType → UserVal → List ℕ
+symbol_line prefix name k (TriVal v) = tri_line prefix name v
+symbol_line prefix name k (Text w) = text_line prefix name k w
+
+-- the declared type of a symbol, bool for a number that the tree doesn't have
+abbrev pub type_of : TreeValue → SymId → SymbolType
+type_of t s = option_map_or kind_of (slice_get t.symbols s.0) kind.Bool
 
 -- the value of a symbol that has a line
-abbrev pub written_value : Assignment → SymId → Option Tri
-written_value a s = if is_written (a (Val s)) then Some (as_tri (a (Val s))) else None
+abbrev pub written_in : Value → Option UserVal
+written_in (Level v) = None
+written_in (Shown u true) = Some u
+written_in (Shown u false) = None
+written_in (Member m) = None
+
+abbrev pub written_value : Assignment → SymId → Option UserVal
+written_value a s = written_in (a (Val s))
 
 -- ---- titles
 -- an empty line, and the title between lines of `#`
@@ -49,6 +78,7 @@ end_line title = codes "# end of " ++ title ++ codes "\n"
 abbrev pub menu_title_in : BlockKind → List ℕ
 menu_title_in (block_kind.Menu title) = title
 menu_title_in block_kind.If = []
+menu_title_in block_kind.Choice = []
 
 abbrev pub menu_title : TreeValue → BlockId → List ℕ
 menu_title t b = option_map_or (λ x. menu_title_in x.kind) (slice_get t.blocks b.0) []
@@ -80,11 +110,12 @@ piece_if shown p = if shown then Some p else None
 -- a comment whose condition is not n its title, and such a menu with an entry inside its end line
 abbrev pub piece_of : TreeValue → List ℕ → Assignment → Option Entry → Entry → Option Piece
 piece_of t prefix a before (Symbol s) =
-    option_map (λ v. line_of_symbol (symbol_line prefix (name_of t s) v)) (written_value a s)
+    option_map (λ v. line_of_symbol (symbol_line prefix (name_of t s) (type_of t s) v)) (written_value a s)
 piece_of t prefix a before (Again s) = None
 piece_of t prefix a before (Menu b) = piece_if (not (is_no (menu_condition t a b))) (title_of (title_block (menu_title t b)))
 piece_of t prefix a before (EndMenu b) =
     piece_if (not (is_no (menu_condition t a b)) && not (opens_menu b before)) (end_of (end_line (menu_title t b)))
+piece_of t prefix a before (Choice c) = None
 piece_of t prefix a before (Comment c) =
     piece_if (not (is_no (comment_condition t a c))) (title_of (title_block (comment_title t c)))
 

@@ -41,4 +41,4 @@ with_pieces d (p ∷ ps) = with_pieces (with_piece d p) ps
 
 -- the values by number are those of the assignment, on the nodes of the tree
 abbrev pub Agrees : TreeValue → List (Option Value) → Assignment → Type 0
-Agrees t values a = (n : Node) → IsNodeOf t n → assignment_of values n ≡ a n
+Agrees t values a = (n : Node) → IsNodeOf t n → assignment_of t values n ≡ a n

@@ -1,3 +1,4 @@
 pub mod PrefixForm
 pub mod ConfigText
 pub mod DraftValue
+pub mod Quoting

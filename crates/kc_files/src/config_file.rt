@@ -1,4 +1,5 @@
 ghost use Rattle.std.specs.Prelude.{◌≡◌, ◌&&◌, not, None, option_map, IfOk, OnOk};
+ghost use Rattle.std.specs.Option.{option_copied};
 ghost use Rattle.std.specs.String.{string_bytes};
 ghost use Rattle.kc_tree.specs.Accepted.{IsEntryOf};
 ghost use Rattle.kc_tree.specs.Nodes.{all_nodes};
@@ -7,29 +8,33 @@ ghost use Rattle.kc_tree.specs.Tristate.{is_no};
 ghost use Rattle.kc_value.specs.Assignment.{Assignment, assignment_of};
 ghost use Rattle.kc_value.specs.Conditions.{menu_condition, comment_condition};
 ghost use Rattle.kc_value.specs.Solution.{solution};
-ghost use Rattle.kc_files.specs.ConfigText.{symbol_line, written_value, title_block, end_line, menu_title, comment_title, line_of_symbol, title_of, end_of, opens_menu, piece_if, piece_of, pieces_after, config_text_of};
+ghost use Rattle.kc_files.specs.ConfigText.{type_of, symbol_line, written_value, title_block, end_line, menu_title, comment_title, line_of_symbol, title_of, end_of, opens_menu, piece_if, piece_of, pieces_after, config_text_of};
 ghost use Rattle.kc_files.specs.DraftValue.{with_option, with_pieces, Agrees};
 
 use crate::draft::Draft;
 use crate::prefix::Prefix;
 use crate::titles::{comment_title, menu_title};
-use kc_tree::{BlockId, CommentId, Entry, Node, SymId, Tree, Tri};
+use kc_tree::{BlockId, CommentId, Entry, Node, SymId, SymbolType, Tree, UserVal};
 use kc_value::{Resolver, Value, all_values, comment_condition, menu_condition};
 use std::alloc::{AllocError, Global};
 
 /// The value of a symbol that has a line.
-fn written_value(values: &[Option<Value>], symbol: SymId) -> Option<Tri>
-    ensures { result ≡ written_value (assignment_of values.now) symbol }
+fn written_value<'a>(tree: &Tree, values: &'a [Option<Value>], symbol: SymId) -> Option<&'a UserVal>
+    ensures { option_copied result ≡ written_value (assignment_of tree.now values.now) symbol }
 {
-    match values.get(Node::Val(symbol).number()) {
-        Some(Some(value)) => {
-            if value.is_written() {
-                Some(value.as_tri())
-            } else {
-                None
-            }
-        }
-        Some(None) | None => None,
+    match values.get(tree.number(Node::Val(symbol))) {
+        Some(Some(Value::Shown(value, true))) => Some(value),
+        Some(Some(Value::Shown(_, false) | Value::Tri(_) | Value::Member(_)) | None) | None => None,
+    }
+}
+
+/// The declared type of a symbol.
+fn type_of(tree: &Tree, symbol: SymId) -> SymbolType
+    ensures { result ≡ type_of tree.now symbol }
+{
+    match tree.symbols().get(symbol.0 as usize) {
+        Some(symbol) => symbol.kind(),
+        None => SymbolType::Bool,
     }
 }
 
@@ -68,11 +73,11 @@ fn push_symbol(
     symbol: SymId,
 ) -> Result<(), AllocError>
     ensures { OnOk result (draft.new ≡ with_option draft.old (option_map
-        (λ v. line_of_symbol (symbol_line prefix.now (name_of tree.now symbol) v))
-        (written_value (assignment_of values.now) symbol))) }
+        (λ v. line_of_symbol (symbol_line prefix.now (name_of tree.now symbol) (type_of tree.now symbol) v))
+        (written_value (assignment_of tree.now values.now) symbol))) }
 {
-    if let Some(value) = written_value(values, symbol) {
-        draft.push_symbol(prefix, tree.name(symbol), value)?;
+    if let Some(value) = written_value(tree, values, symbol) {
+        draft.push_symbol(prefix, tree.name(symbol), type_of(tree, symbol), value)?;
     }
     Ok(())
 }
@@ -145,7 +150,7 @@ fn push_entry(
 {
     match entry {
         Entry::Symbol(symbol) => push_symbol(draft, tree, prefix, values, symbol),
-        Entry::Again(_) => Ok(()),
+        Entry::Again(_) | Entry::Choice(_) => Ok(()),
         Entry::Menu(menu) => push_menu(draft, tree, values, menu),
         Entry::EndMenu(menu) => push_menu_end(draft, tree, values, before, menu),
         Entry::Comment(comment) => push_comment(draft, tree, values, comment),

@@ -2,11 +2,12 @@
 
 ghost use Rattle.std.specs.Prelude.{◌≡◌, ◌++◌, codes, OnOk, if◌then◌else◌, []};
 ghost use Rattle.std.specs.String.{string_bytes};
-ghost use Rattle.kc_files.specs.ConfigText.{line_start, line_end, symbol_line, line_of_symbol, title_of, title_block, end_of, end_line};
+ghost use Rattle.kc_files.specs.ConfigText.{line_start, line_end, tri_line, text_in, text_line, symbol_line, line_of_symbol, title_of, title_block, end_of, end_line};
 ghost use Rattle.kc_files.specs.DraftValue.{draft_of, with_piece};
 
 use crate::prefix::Prefix;
-use kc_tree::Tri;
+use crate::quoting::push_quoted;
+use kc_tree::{SymbolType, Tri, UserVal};
 use std::alloc::AllocError;
 use std::marker::Model;
 
@@ -28,6 +29,18 @@ fn line_end(value: Tri) -> &'static str
         Tri::No => " is not set\n",
         Tri::Module => "=m\n",
         Tri::Yes => "=y\n",
+    }
+}
+
+/// Appends the text of a value: a string in quotes, a number as it is spelt.
+pub fn push_text_in(out: &mut String, kind: SymbolType, value: &str) -> Result<(), AllocError>
+    ensures { OnOk result (string_bytes out.new ≡ string_bytes out.old ++ text_in kind value.now) }
+{
+    match kind {
+        SymbolType::String => push_quoted(out, value),
+        SymbolType::Bool | SymbolType::Tristate | SymbolType::Int | SymbolType::Hex => {
+            out.push_str(value)
+        }
     }
 }
 
@@ -79,15 +92,10 @@ impl Draft {
         Ok(())
     }
 
-    /// Appends the line of a symbol.
-    pub(crate) fn push_symbol(
-        &mut self,
-        prefix: &Prefix,
-        name: &str,
-        value: Tri,
-    ) -> Result<(), AllocError>
+    /// Appends the line of a bool or tristate symbol.
+    fn push_tri(&mut self, prefix: &Prefix, name: &str, value: Tri) -> Result<(), AllocError>
         ensures { OnOk result (self.new
-            ≡ with_piece self.old (line_of_symbol (symbol_line prefix.now name.now value))) }
+            ≡ with_piece self.old (line_of_symbol (tri_line prefix.now name.now value))) }
     {
         self.push_gap()?;
         self.text.push_str(line_start(value))?;
@@ -95,6 +103,43 @@ impl Draft {
         self.text.push_str(name)?;
         self.text.push_str(line_end(value))?;
         Ok(())
+    }
+
+    /// Appends the line of a symbol of another type: a string stands in quotes.
+    fn push_text(
+        &mut self,
+        prefix: &Prefix,
+        name: &str,
+        kind: SymbolType,
+        value: &str,
+    ) -> Result<(), AllocError>
+        ensures { OnOk result (self.new
+            ≡ with_piece self.old (line_of_symbol (text_line prefix.now name.now kind value.now))) }
+    {
+        self.push_gap()?;
+        self.text.push_str(prefix.as_str())?;
+        self.text.push_str(name)?;
+        self.text.push_str("=")?;
+        push_text_in(&mut self.text, kind, value)?;
+        self.text.push_str("\n")?;
+        Ok(())
+    }
+
+    /// Appends the line of a symbol of a type.
+    pub(crate) fn push_symbol(
+        &mut self,
+        prefix: &Prefix,
+        name: &str,
+        kind: SymbolType,
+        value: &UserVal,
+    ) -> Result<(), AllocError>
+        ensures { OnOk result (self.new
+            ≡ with_piece self.old (line_of_symbol (symbol_line prefix.now name.now kind value.now))) }
+    {
+        match value {
+            UserVal::Tri(tri) => self.push_tri(prefix, name, *tri),
+            UserVal::Text(text) => self.push_text(prefix, name, kind, text.as_str()),
+        }
     }
 
     /// Appends the title of a menu or a comment, between lines of `#` and after an empty line.

@@ -4,7 +4,10 @@
 mod config_file;
 mod draft;
 mod prefix;
+mod quoting;
 mod titles;
 
 pub use config_file::config_text;
+pub use draft::push_text_in;
 pub use prefix::{Prefix, PrefixFault};
+pub use quoting::push_quoted;

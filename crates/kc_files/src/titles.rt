@@ -10,7 +10,7 @@ fn menu_title_in(kind: &BlockKind) -> &str
 {
     match kind {
         BlockKind::Menu(title) => title.as_str(),
-        BlockKind::If => "",
+        BlockKind::If | BlockKind::Choice => "",
     }
 }
 

@@ -3,7 +3,9 @@ pub mod Cutting
 mod Examples
 mod ReplyExamples
 pub mod Holding
+pub mod LineLists
 pub mod Lines
+pub mod Outcomes
 pub mod RunSteps
 pub mod Answered
 pub mod Taking

@@ -1,34 +1,38 @@
 -- Commands with their replies, computed from the definitions. What each reply is was worked out by hand.
-use Rattle.std.proofs.Common.{◌≡◌, ℕ, false, [], ◌∷◌, Option, Some, None, refl}
+use Rattle.std.proofs.Common.{◌≡◌, ℕ, false, List, [], ◌∷◌, Option, Some, None, refl}
 use Rattle.std.specs.Prelude.{codes}
 use Rattle.kc_tree.specs.declared.definition.Prompt.{Prompt}
+use Rattle.kc_tree.specs.declared.id.SymId.{SymId}
 use Rattle.kc_tree.specs.declared.symbol.SymbolType.{SymbolType}
-use Rattle.kc_tree.specs.declared.symbol.SymbolType.TheVariants.{Bool as BoolType, Tristate}
+use Rattle.kc_tree.specs.declared.symbol.SymbolType.TheVariants.{Bool as BoolType, Tristate, String as StringType, Int, Hex}
 use Rattle.kc_tree.specs.declared.tree.Entry.TheVariants.{Symbol as SymbolEntry}
 use Rattle.kc_tree.specs.declared.tri.Tri.TheVariants.{No, Module, Yes}
 use Rattle.kc_tree.specs.declared.user_value.UserVal.{UserVal}
-use Rattle.kc_tree.specs.declared.user_value.UserVal.TheVariants.{Tri as TriVal}
+use Rattle.kc_tree.specs.declared.user_value.UserVal.TheVariants.{Tri as TriVal, Text}
 use Rattle.kc_tree.specs.TreeValue.{TreeValue, SymbolValue, DefinitionValue}
 use Rattle.kc_value.specs.Rule.{rule}
 use Rattle.kc_value.specs.Solution.{applied, solution}
 use Rattle.kc_value.specs.Assignable.{assignable_values}
-use Rattle.kc_session.specs.declared.command.Command.TheVariants.{Set, Unset, Show, Config}
-use Rattle.kc_session.specs.declared.command.Refusal.TheVariants.{UndefinedSymbol, BadValue}
+use Rattle.kc_session.specs.declared.command.Command.TheVariants.{Set, Unset, Reset, Show, List as ListAll, Choices, Config}
+use Rattle.kc_session.specs.declared.command.Refusal.TheVariants.{UndefinedSymbol, BadValue, BadMemberValue}
 use Rattle.kc_session.specs.declared.command.Reply.TheVariants.{Done, Refused}
 use Rattle.kc_session.specs.Commands.{command_in}
 use Rattle.kc_session.specs.Effect.{perform}
 use Rattle.kc_session.specs.Replies.{reply_bytes}
 use Rattle.kc_session.specs.Session.{SessionValue}
-use Rattle.kc_session.specs.ShowLine.{line_text, show_line_of}
+use Rattle.kc_session.specs.ShowLine.{line_text, show_line_of, user_part}
+use Rattle.kc_session.specs.Values.{value_of}
 
 -- a symbol with one definition
 abbrev symbol : SymbolType → ℕ → SymbolValue
 symbol kind definition = record {
   kind = Some kind;
   has_other_type = false;
+  choice = None;
   definitions = definition ∷ [];
   selected = [];
   implied = [];
+  has_selections = false;
   has_modules = false;
   is_yes_in_allnoconfig = false;
 }
@@ -42,6 +46,7 @@ definition s prompt = record {
   prompt = prompt;
   has_second_prompt = false;
   defaults = [];
+  ranges = [];
 }
 
 abbrev prompt : Option Prompt
@@ -54,12 +59,13 @@ tree = record {
   symbols = symbol BoolType 0 ∷ symbol BoolType 1 ∷ symbol Tristate 2 ∷ [];
   definitions = definition 0 prompt ∷ definition 1 None ∷ definition 2 prompt ∷ [];
   blocks = [];
+  choices = [];
   comments = [];
   entries = SymbolEntry (record { 0 = 0 }) ∷ SymbolEntry (record { 0 = 1 }) ∷ SymbolEntry (record { 0 = 2 }) ∷ [];
 }
 
 abbrev session : Option UserVal → Option UserVal → Option UserVal → SessionValue
-session a b t = record { tree = tree; user = record { values = a ∷ b ∷ t ∷ [] }; prefix = codes "CONFIG_" }
+session a b t = record { tree = tree; user = record { values = a ∷ b ∷ t ∷ []; chosen = [] }; prefix = codes "CONFIG_" }
 
 abbrev no : Option UserVal
 no = Some (TriVal No)
@@ -79,6 +85,22 @@ set_empty = refl
 
 set_lacks_a_value : command_in (codes "set A") ≡ None
 set_lacks_a_value = refl
+
+-- the value is the whole rest
+set_spaces : command_in (codes "set S a  b ") ≡ Some (Set (codes "S") (codes "a  b "))
+set_spaces = refl
+
+list_alone : command_in (codes "list") ≡ Some ListAll
+list_alone = refl
+
+choices_alone : command_in (codes "choices") ≡ Some Choices
+choices_alone = refl
+
+reset_alone : command_in (codes "reset") ≡ Some Reset
+reset_alone = refl
+
+reset_takes_nothing : command_in (codes "reset A") ≡ None
+reset_takes_nothing = refl
 
 unset_empty : command_in (codes "unset ") ≡ Some (Unset [])
 unset_empty = refl
@@ -130,3 +152,95 @@ bytes_of_done = refl
 bytes_of_refused : reply_bytes (Refused BadValue) ≡ codes "refused 3\n"
 unfolding reply_bytes
 bytes_of_refused = refl
+
+-- ---- values by type
+string_takes_all : value_of StringType (codes "a \"b") ≡ Some (Text (codes "a \"b"))
+string_takes_all = refl
+
+int_takes_numerals : value_of Int (codes "-007") ≡ Some (Text (codes "-007"))
+int_takes_numerals = refl
+
+int_takes_no_hex : value_of Int (codes "0x10") ≡ None
+int_takes_no_hex = refl
+
+hex_takes_numerals : value_of Hex (codes "0x1F") ≡ Some (Text (codes "0x1F"))
+hex_takes_numerals = refl
+
+hex_takes_no_minus : value_of Hex (codes "-1") ≡ None
+hex_takes_no_minus = refl
+
+-- ---- members of a choice
+-- a bool that is a member of the first choice
+abbrev member : ℕ → SymbolValue
+member definition = record {
+  kind = Some BoolType;
+  has_other_type = false;
+  choice = Some (record { 0 = 0 });
+  definitions = definition ∷ [];
+  selected = [];
+  implied = [];
+  has_selections = false;
+  has_modules = false;
+  is_yes_in_allnoconfig = false;
+}
+
+-- string S, and the members M and N
+abbrev other_tree : TreeValue
+other_tree = record {
+  names = codes "S" ∷ codes "M" ∷ codes "N" ∷ [];
+  symbols = symbol StringType 0 ∷ member 1 ∷ member 2 ∷ [];
+  definitions = definition 0 prompt ∷ definition 1 prompt ∷ definition 2 prompt ∷ [];
+  blocks = [];
+  choices = record { block = record { 0 = 0 }; prompt = prompt; has_second_prompt = false; defaults = []; members = record { 0 = 1 } ∷ record { 0 = 2 } ∷ []; is_optional = false } ∷ [];
+  comments = [];
+  entries = [];
+}
+
+abbrev other_session : Option UserVal → Option SymId → SessionValue
+other_session s chosen = record { tree = other_tree; user = record { values = s ∷ None ∷ None ∷ []; chosen = chosen ∷ [] }; prefix = codes "CONFIG_" }
+
+abbrev m_member : Option SymId
+m_member = Some (record { 0 = 1 })
+
+abbrev n_member : Option SymId
+n_member = Some (record { 0 = 2 })
+
+set_string : perform (other_session None None) (Set (codes "S") (codes "a b")) ≡ record { reply = Done []; user = (other_session (Some (Text (codes "a b"))) None).user }
+unfolding perform
+set_string = refl
+
+-- y makes a member the chosen one
+set_member_y : perform (other_session None m_member) (Set (codes "N") (codes "y")) ≡ record { reply = Done []; user = (other_session None n_member).user }
+unfolding perform
+set_member_y = refl
+
+set_member_n : perform (other_session None m_member) (Set (codes "M") (codes "n")) ≡ record { reply = Refused BadMemberValue; user = (other_session None m_member).user }
+unfolding perform
+set_member_n = refl
+
+unset_chosen : perform (other_session None m_member) (Unset (codes "M")) ≡ record { reply = Done []; user = (other_session None None).user }
+unfolding perform
+unset_chosen = refl
+
+-- another member stays the chosen one
+unset_other : perform (other_session None m_member) (Unset (codes "N")) ≡ record { reply = Done []; user = (other_session None m_member).user }
+unfolding perform
+unset_other = refl
+
+reset_takes_all : perform (other_session (Some (Text (codes "a"))) m_member) Reset ≡ record { reply = Done []; user = (other_session None None).user }
+unfolding perform
+reset_takes_all = refl
+
+chosen_shown : user_part other_tree (other_session None m_member).user (record { 0 = 1 }) ≡ codes "y"
+chosen_shown = refl
+
+other_not_shown : user_part other_tree (other_session None m_member).user (record { 0 = 2 }) ≡ codes "-"
+other_not_shown = refl
+
+-- a string stands in quotes
+string_shown : user_part other_tree (other_session (Some (Text (codes "a\"b"))) None).user (record { 0 = 0 }) ≡ codes "\"a\\\"b\""
+string_shown = refl
+
+bytes_of_member : reply_bytes (Refused BadMemberValue) ≡ codes "refused 4\n"
+unfolding reply_bytes
+bytes_of_member = refl

@@ -3,7 +3,7 @@ use Rattle.std.specs.Prelude.{ℕ, Bool, ◌==◌, List, length, Option, Some, N
 use Rattle.std.specs.List.{before_first, after_first, position_or_len}
 use Rattle.std.specs.Str.{bytes_eq, is_utf8}
 use Rattle.kc_session.specs.declared.command.Command.{Command}
-use Rattle.kc_session.specs.declared.command.Command.TheVariants.{Set, Unset, Show, Config}
+use Rattle.kc_session.specs.declared.command.Command.TheVariants.{Set, Unset, Reset, Show, List as ListAll, Choices, Config}
 
 abbrev pub is_space : ℕ → Bool
 is_space b = b == 32
@@ -27,11 +27,18 @@ command_with word rest =
     else (if bytes_eq word (codes "unset") then Some (Unset rest)
     else (if bytes_eq word (codes "show") then Some (Show rest) else None)))
 
+-- a command that is one word
+abbrev pub command_word : List ℕ → Option Command
+command_word text =
+    if bytes_eq text (codes "config") then Some Config
+    else (if bytes_eq text (codes "list") then Some ListAll
+    else (if bytes_eq text (codes "choices") then Some Choices
+    else (if bytes_eq text (codes "reset") then Some Reset else None)))
+
 -- the command that a text spells, in words parted by one space each
 abbrev pub command_in : List ℕ → Option Command
 command_in text =
-    if is_parted text then command_with (word_before text) (rest_after text)
-    else (if bytes_eq text (codes "config") then Some Config else None)
+    if is_parted text then command_with (word_before text) (rest_after text) else command_word text
 
 -- a line that is not UTF-8 spells none
 unfoldable pub command_of : List ℕ → Option Command

@@ -12,3 +12,4 @@ pub mod Session
 pub mod ShowLine
 pub mod Stream
 pub mod Values
+pub mod ChoiceLine

@@ -5,7 +5,7 @@ use Rattle.kc_text.specs.FileList.{File}
 use Rattle.kc_text.specs.Expansion.{texts_in}
 use Rattle.kc_text.specs.Reading.{logical_lines_of}
 use Rattle.kc_tree.specs.declared.fault.TreeFault.{TreeFault}
-use Rattle.kc_tree.specs.declared.fault.TreeFault.TheVariants.{Line, Symbol, Loop, NoMemory as NoTreeMemory}
+use Rattle.kc_tree.specs.declared.fault.TreeFault.TheVariants.{Line, Symbol, Choice, Loop, NoMemory as NoTreeMemory}
 use Rattle.kc_tree.specs.Parsed.{IsTreeOf, IsFaultOf}
 use Rattle.kc_session.specs.declared.opening.OpenFault.{OpenFault}
 use Rattle.kc_session.specs.declared.opening.OpenFault.TheVariants.{Text, Tree, NoMemory}
@@ -22,6 +22,7 @@ pub record IsOpened (files vars : List File) (top prefix : List ℕ) (s : Sessio
 abbrev pub IsNumbered : TreeFault → Type 0
 IsNumbered (Line problem path number) = Unit {0}
 IsNumbered (Symbol problem name) = Unit {0}
+IsNumbered (Choice path number) = Unit {0}
 IsNumbered (Loop nodes) = Unit {0}
 IsNumbered NoTreeMemory = ⊥
 

@@ -7,12 +7,18 @@ use kc_text::{Text, TextRef};
 /// A command of the stream, which borrows its words.
 #[derive(Debug, Drop)]
 pub enum Command<'a> {
-    /// `set NAME VALUE`: gives a symbol a user value.
+    /// `set NAME VALUE`: gives a symbol a user value, or makes a member of a choice the chosen one.
     Set(TextRef<'a>, TextRef<'a>),
-    /// `unset NAME`: takes the user value of a symbol away.
+    /// `unset NAME`: takes the user value of a symbol away, or leaves its choice without a chosen member.
     Unset(TextRef<'a>),
+    /// `reset`: takes all user values and chosen members away.
+    Reset,
     /// `show NAME`: a line about a symbol.
     Show(TextRef<'a>),
+    /// `list`: a line about each symbol.
+    List,
+    /// `choices`: a line about each choice.
+    Choices,
     /// `config`: the text of the `.config`.
     Config,
 }
@@ -26,6 +32,8 @@ pub enum Refusal {
     UndefinedSymbol,
     /// The value is not one of the symbol's type (3).
     BadValue,
+    /// The symbol is a member of a choice, and the value another than y (4).
+    BadMemberValue,
     /// The line is too long (6).
     TooLong,
     /// Memory was refused (7).
@@ -41,6 +49,7 @@ impl Refusal {
             Refusal::UnknownCommand => 1,
             Refusal::UndefinedSymbol => 2,
             Refusal::BadValue => 3,
+            Refusal::BadMemberValue => 4,
             Refusal::TooLong => 6,
             Refusal::NoMemory => 7,
         }

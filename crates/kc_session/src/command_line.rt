@@ -1,6 +1,6 @@
 //! From the text of a line to its command.
 ghost use Rattle.std.specs.Prelude.{◌≡◌, IfNone, IfSome, false, true};
-ghost use Rattle.kc_session.specs.Commands.{command_of, command_in, command_with, is_parted, word_before, rest_after};
+ghost use Rattle.kc_session.specs.Commands.{command_of, command_in, command_word, command_with, is_parted, word_before, rest_after};
 
 use crate::command::Command;
 use kc_text::TextRef;
@@ -32,7 +32,20 @@ fn read_text(text: &str) -> Option<Command<'_>>
 {
     match split_word(text) {
         Some((word, rest)) => read_words(word, rest),
-        None => (text == "config").then_some(Command::Config),
+        None => read_word(text),
+    }
+}
+
+/// The command that one word spells.
+fn read_word(text: &str) -> Option<Command<'_>>
+    ensures { result ≡ command_word text.now }
+{
+    match text {
+        "config" => Some(Command::Config),
+        "list" => Some(Command::List),
+        "choices" => Some(Command::Choices),
+        "reset" => Some(Command::Reset),
+        _ => None,
     }
 }
 

@@ -4,6 +4,7 @@
 //! line is read, or refused as too long, with the memory that was reserved at the start.
 #![tactic(auto)]
 
+mod choices;
 mod command;
 mod command_line;
 mod fault;

@@ -13,6 +13,12 @@ const TWO_SYMBOLS: &str = "config A\nbool \"a\"\ndefault y\nconfig B\nbool \"b\"
 
 const A_TRISTATE: &str = "config MODULES\nbool \"modules\"\nmodules\nconfig T\ntristate \"t\"\n";
 
+const TEXTS: &str =
+    "config S\nstring \"s\"\nconfig I\nint \"i\"\ndefault 5\nconfig H\nhex \"h\"\ndefault 0x10\n";
+
+const A_CHOICE: &str =
+    "choice\nprompt \"pick \\\"one\\\"\"\nconfig M\nbool \"m\"\nconfig N\nbool \"n\"\nendchoice\n";
+
 // Commands with their replies.
 const COMMANDS: [(&str, &str); 4] = [
     ("set A n\n", "ok\n"),
@@ -138,6 +144,67 @@ fn values_are_those_of_the_type(rt: HostRuntime) -> Result<(), Fail> {
         ("config\n", "CONFIG_MODULES=y\nCONFIG_T=m\nok\n"),
     ];
     let mut session = session_of(rt.alloc(), A_TRISTATE)?;
+    for (stream, want) in rows {
+        let taken = replies(rt.alloc(), stream, &mut session)?;
+        assert_eq!(rt; taken.as_slice(), want.as_bytes(), "at {stream:?}");
+    }
+    Ok(())
+}
+
+#[test]
+fn texts_are_kept_as_they_are_spelt(rt: HostRuntime) -> Result<(), Fail> {
+    let rows = [
+        (
+            "set S a \"b\\\nset I 0x1\nset I -07\nset H -1\nset H 1F\n",
+            "ok\nrefused 3\nok\nrefused 3\nok\n",
+        ),
+        (
+            "list\n",
+            "S type=string value=\"a \\\"b\\\\\" vis=y can=- user=\"a \\\"b\\\\\"\nI type=int value=-07 vis=y can=- user=-07\nH type=hex value=1F vis=y can=- user=1F\nok\n",
+        ),
+        (
+            "config\n",
+            "CONFIG_S=\"a \\\"b\\\\\"\nCONFIG_I=-07\nCONFIG_H=1F\nok\n",
+        ),
+        (
+            "unset I\nset S \nshow S\nshow I\n",
+            "ok\nok\nS type=string value=\"\" vis=y can=- user=\"\"\nok\nI type=int value=5 vis=y can=- user=-\nok\n",
+        ),
+        (
+            "reset\nshow H\n",
+            "ok\nH type=hex value=0x10 vis=y can=- user=-\nok\n",
+        ),
+    ];
+    let mut session = session_of(rt.alloc(), TEXTS)?;
+    for (stream, want) in rows {
+        let taken = replies(rt.alloc(), stream, &mut session)?;
+        assert_eq!(rt; taken.as_slice(), want.as_bytes(), "at {stream:?}");
+    }
+    Ok(())
+}
+
+#[test]
+fn a_member_is_chosen_by_y(rt: HostRuntime) -> Result<(), Fail> {
+    let rows = [
+        (
+            "choices\n",
+            "choice 0 \"pick \\\"one\\\"\" mode=y sel=M user=-\nok\n",
+        ),
+        ("set N n\nset N m\nset N y\n", "refused 4\nrefused 4\nok\n"),
+        (
+            "choices\nlist\n",
+            "choice 0 \"pick \\\"one\\\"\" mode=y sel=N user=N\nok\nM type=bool value=n vis=y can=y user=-\nN type=bool value=y vis=y can=y user=y\nok\n",
+        ),
+        (
+            "unset M\nconfig\n",
+            "ok\n# CONFIG_M is not set\nCONFIG_N=y\nok\n",
+        ),
+        (
+            "unset N\nshow M\nset N y\nreset\nshow M\n",
+            "ok\nM type=bool value=y vis=y can=y user=-\nok\nok\nok\nM type=bool value=y vis=y can=y user=-\nok\n",
+        ),
+    ];
+    let mut session = session_of(rt.alloc(), A_CHOICE)?;
     for (stream, want) in rows {
         let taken = replies(rt.alloc(), stream, &mut session)?;
         assert_eq!(rt; taken.as_slice(), want.as_bytes(), "at {stream:?}");

@@ -1,13 +1,16 @@
 //! A session: a tree, user values, and the commands that read and change them.
-ghost use Rattle.std.specs.Prelude.{◌≡◌, [], IfOk, IfErr, OnErr};
+ghost use Rattle.std.specs.Prelude.{◌≡◌, [], not, IfSome, IfOk, IfErr, OnErr};
 ghost use Rattle.std.specs.String.{string_bytes};
+ghost use Rattle.kc_value.specs.UserValues.{chosen_in};
+ghost use Rattle.kc_value.specs.ChoiceRule.{is_symbol};
 
+use crate::choices::choices_text;
 use crate::command::{Command, Refusal, Reply};
-use crate::show::show_line;
-use crate::values::{type_of, value_of};
+use crate::show::{list_text, show_line};
+use crate::values::{choice_of, type_of, value_of};
 use kc_files::{Prefix, config_text};
 use kc_text::Text;
-use kc_tree::{Node, SymId, Tree, Tri, UserVal};
+use kc_tree::{ChoiceId, Node, SymId, Tree, Tri};
 use kc_value::{Fresh, Resolver, User, Value, solve};
 use std::alloc::{AllocError, Global};
 use std::marker::Model;
@@ -41,7 +44,13 @@ impl Model for Session {
 
 impl Session {
     ghost use Rattle.kc_session.specs.Session.{new_session, with_user};
-    ghost use Rattle.kc_session.specs.Effect.{IsApplied, IsReplyTo, set_outcome, unset_outcome, show_outcome, config_outcome};
+    ghost use Rattle.kc_tree.specs.declared.node.Node.TheVariants.{Vis};
+    ghost use Rattle.kc_tree.specs.Nodes.{IsNodeOf};
+    ghost use Rattle.kc_tree.specs.SymbolFaults.{is_tri_type};
+    ghost use Rattle.kc_tree.specs.TreeValue.{symbol_named};
+    ghost use Rattle.kc_value.specs.UserValues.{with_chosen};
+    ghost use Rattle.kc_files.specs.ConfigText.{type_of};
+    ghost use Rattle.kc_session.specs.Effect.{IsApplied, IsOutcome, IsReplyTo, keeps_text, set_member, set_value, set_symbol, unset_outcome, unset_symbol, unchosen, reset_outcome, show_outcome, list_outcome, choices_outcome, config_outcome};
 
     /// A session of a tree, without user values, with the prefix of the names in files.
     ///
@@ -68,7 +77,8 @@ impl Session {
         }
     }
 
-    /// Does one command. A refusal changes nothing, and only a query can be refused its memory.
+    /// Does one command. A refusal changes nothing, and only a query and an edit that keeps a text can be refused its
+    /// memory.
     #[tactic(auto, unfolding(crate::specs::Effect::perform))]
     pub fn apply(&mut self, command: Command<'_>) -> Reply
         ensures { IsApplied self.old command.entry result self.new }
@@ -76,44 +86,154 @@ impl Session {
         match command {
             Command::Set(name, value) => self.set(name.as_str(), value.as_str()),
             Command::Unset(name) => self.unset(name.as_str()),
+            Command::Reset => self.reset(),
             Command::Show(name) => self.show(name.as_str()),
+            Command::List => self.list(),
+            Command::Choices => self.choices(),
             Command::Config => self.config(),
         }
     }
 
-    fn set(&mut self, name: &str, value: &str) -> Reply
-        ensures reply { result ≡ (set_outcome self.old name.now value.now).reply }
-        ensures session { self.new ≡ with_user self.old (set_outcome self.old name.now value.now).user }
+    /// The symbol of a name.
+    fn find(&self, name: &str) -> Option<SymId>
+        ensures symbol { result ≡ symbol_named self.now.tree name.now }
+        ensures inside { IfSome result (λ s. IsNodeOf self.now.tree (Vis s)) }
     {
-        let Some(symbol) = self.tree.find(name) else {
-            return Reply::Refused(Refusal::UndefinedSymbol);
-        };
-        let Some(value) = value_of(type_of(&self.tree, symbol), value) else {
-            return Reply::Refused(Refusal::BadValue);
-        };
-        self.user.set(symbol, UserVal::Tri(value));
-        done(self.alloc)
+        self.tree.find(name)
+    }
+
+    #[tactic(auto, using(crate::proofs::Outcomes::unknown_applied, crate::proofs::Outcomes::symbol_applied))]
+    fn set(&mut self, name: &str, value: &str) -> Reply
+        ensures { IsApplied self.old (Command.Set name.now value.now) result self.new }
+    {
+        match self.find(name) {
+            Some(symbol) => self.set_symbol(symbol, value),
+            None => Reply::Refused(Refusal::UndefinedSymbol),
+        }
+    }
+
+    /// Gives a symbol a value, or makes it the chosen member of its choice.
+    #[tactic(auto, using(crate::proofs::Outcomes::member_outcome, crate::proofs::Outcomes::free_outcome))]
+    fn set_symbol(&mut self, symbol: SymId, value: &str) -> Reply
+        requires { IsNodeOf self.old.tree (Vis symbol) }
+        ensures { IsOutcome self.old (keeps_text self.old.tree symbol)
+            (set_symbol self.old value.now symbol) result self.new }
+    {
+        match choice_of(&self.tree, symbol) {
+            Some(choice) => self.set_member(symbol, choice, value),
+            None => self.set_value(symbol, value),
+        }
+    }
+
+    /// Makes a member of a choice the chosen one.
+    fn set_member(&mut self, member: SymId, choice: ChoiceId, value: &str) -> Reply
+        ensures reply { result ≡ (set_member self.old member choice value.now).reply }
+        ensures session { self.new ≡ with_user self.old (set_member self.old member choice value.now).user }
+    {
+        if value == "y" {
+            self.choose(choice, Some(member));
+            done(self.alloc)
+        } else {
+            Reply::Refused(Refusal::BadMemberValue)
+        }
+    }
+
+    /// Chooses a member of a choice, or none; nothing changes for a choice that the tree doesn't have.
+    #[tactic(auto, using(crate::proofs::Outcomes::chosen_outside))]
+    fn choose(&mut self, choice: ChoiceId, member: Option<SymId>)
+        ensures { self.new ≡ with_user self.old (with_chosen self.old.user choice member) }
+    {
+        if (choice.0 as usize) < self.tree.choices().len() {
+            self.user.choose(choice, member);
+        }
+    }
+
+    /// Gives a symbol that is no member a value.
+    #[tactic(auto, using(crate::proofs::Outcomes::value_refused, crate::proofs::Outcomes::value_kept, crate::proofs::Outcomes::value_starved))]
+    fn set_value(&mut self, symbol: SymId, value: &str) -> Reply
+        requires { IsNodeOf self.old.tree (Vis symbol) }
+        ensures { IsOutcome self.old (not (is_tri_type (type_of self.old.tree symbol)))
+            (set_value self.old symbol value.now) result self.new }
+    {
+        match value_of(self.alloc, type_of(&self.tree, symbol), value) {
+            Ok(Some(value)) => {
+                self.user.set(symbol, value);
+                done(self.alloc)
+            }
+            Ok(None) => Reply::Refused(Refusal::BadValue),
+            Err(_) => Reply::Refused(Refusal::NoMemory),
+        }
     }
 
     fn unset(&mut self, name: &str) -> Reply
         ensures reply { result ≡ (unset_outcome self.old name.now).reply }
         ensures session { self.new ≡ with_user self.old (unset_outcome self.old name.now).user }
     {
-        let Some(symbol) = self.tree.find(name) else {
-            return Reply::Refused(Refusal::UndefinedSymbol);
-        };
-        self.user.unset(symbol);
+        match self.find(name) {
+            Some(symbol) => self.unset_symbol(symbol),
+            None => Reply::Refused(Refusal::UndefinedSymbol),
+        }
+    }
+
+    /// Takes the value of a symbol away, or leaves its choice without a chosen member where that is this one.
+    fn unset_symbol(&mut self, symbol: SymId) -> Reply
+        requires { IsNodeOf self.old.tree (Vis symbol) }
+        ensures reply { result ≡ (unset_symbol self.old symbol).reply }
+        ensures session { self.new ≡ with_user self.old (unset_symbol self.old symbol).user }
+    {
+        match choice_of(&self.tree, symbol) {
+            Some(choice) => self.unset_member(symbol, choice),
+            None => {
+                self.user.unset(symbol);
+                done(self.alloc)
+            }
+        }
+    }
+
+    /// Leaves a choice without a chosen member, where this one is chosen.
+    fn unset_member(&mut self, member: SymId, choice: ChoiceId) -> Reply
+        ensures reply { result ≡ Reply.Done [] }
+        ensures session { self.new ≡ with_user self.old (unchosen self.old.user member choice) }
+    {
+        if is_chosen(&self.user, member, choice) {
+            self.choose(choice, None);
+            done(self.alloc)
+        } else {
+            done(self.alloc)
+        }
+    }
+
+    #[tactic(auto, using(crate::proofs::Outcomes::all_taken))]
+    fn reset(&mut self) -> Reply
+        ensures reply { result ≡ (reset_outcome self.old).reply }
+        ensures session { self.new ≡ with_user self.old (reset_outcome self.old).user }
+    {
+        self.user.reset();
         done(self.alloc)
     }
 
     fn show(&self, name: &str) -> Reply
         ensures { IsReplyTo result (show_outcome self.now name.now).reply }
     {
-        let Some(symbol) = self.tree.find(name) else {
+        let Some(symbol) = self.find(name) else {
             return Reply::Refused(Refusal::UndefinedSymbol);
         };
         let mut resolver = Fresh::new(self.alloc, &self.tree, &self.user);
         text_reply(show_line(self.alloc, &mut resolver, symbol))
+    }
+
+    fn list(&self) -> Reply
+        ensures { IsReplyTo result (list_outcome self.now).reply }
+    {
+        let mut resolver = Fresh::new(self.alloc, &self.tree, &self.user);
+        text_reply(list_text(self.alloc, &mut resolver))
+    }
+
+    fn choices(&self) -> Reply
+        ensures { IsReplyTo result (choices_outcome self.now).reply }
+    {
+        let mut resolver = Fresh::new(self.alloc, &self.tree, &self.user);
+        text_reply(choices_text(self.alloc, &mut resolver))
     }
 
     fn config(&self) -> Reply
@@ -122,6 +242,13 @@ impl Session {
         let mut resolver = Fresh::new(self.alloc, &self.tree, &self.user);
         text_reply(config_text(self.alloc, &mut resolver, &self.prefix, ""))
     }
+}
+
+/// Whether the user chose this member of a choice.
+fn is_chosen(user: &User, member: SymId, choice: ChoiceId) -> bool
+    ensures { result ≡ is_symbol (chosen_in user.now choice) member }
+{
+    user.chosen(choice).is_some_and(|chosen| chosen == member)
 }
 
 /// The reply to an edit that was done: no text.

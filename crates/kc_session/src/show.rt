@@ -1,15 +1,19 @@
-//! The line of the command `show`.
-ghost use Rattle.std.specs.Prelude.{◌≡◌, [], ◌∷◌, ◌++◌, IfOk, OnOk};
+//! The line of the command `show`, and those of `list`.
+ghost use Rattle.std.specs.Prelude.{◌≡◌, [], ◌∷◌, ◌++◌, length, codes, IfOk, OnOk};
 ghost use Rattle.std.specs.String.{string_bytes};
 ghost use Rattle.std.specs.Option.{option_copied};
 ghost use Rattle.kc_tree.specs.declared.node.Node.TheVariants.{Vis, Val};
 ghost use Rattle.kc_tree.specs.Nodes.{IsNodeOf};
+ghost use Rattle.kc_tree.specs.TreeValue.{name_of};
+ghost use Rattle.kc_value.specs.Solution.{solution};
 ghost use Rattle.kc_value.specs.UserValues.{IsUserFor};
-ghost use Rattle.kc_session.specs.ShowLine.{show_line_of, line_text, type_text, tri_text, values_text, user_text};
+ghost use Rattle.kc_files.specs.ConfigText.{type_of};
+ghost use Rattle.kc_session.specs.ShowLine.{show_line_of, list_text_of, line_text, shown_text, type_text, tri_text, values_text, user_part, given_text};
 
-use crate::values::type_of;
-use kc_tree::{Node, SymId, SymbolType, Tri, UserVal};
-use kc_value::{Resolver, assignable};
+use crate::values::{choice_of, type_of};
+use kc_files::push_text_in;
+use kc_tree::{Node, SymId, SymbolType, Tree, Tri, UserVal};
+use kc_value::{Resolver, User, Value, assignable, tri_letter};
 use std::alloc::{AllocError, Global};
 
 /// The line of `show` about a symbol.
@@ -27,49 +31,153 @@ pub(crate) fn show_line<R: Resolver>(
     ensures user { R.user_of resolver.new ≡ R.user_of resolver.old }
     ensures grew { R.grew resolver.old resolver.new (Vis symbol ∷ Val symbol ∷ []) }
 {
-    let value = resolver.node(Node::Val(symbol))?.as_tri();
+    let value = shown_text(alloc, resolver, symbol)?;
     let visibility = resolver.node(Node::Vis(symbol))?.as_tri();
     let values = assignable(alloc, resolver, symbol)?;
-    let tree = resolver.tree();
-    let (name, kind) = (tree.name(symbol), type_of(tree, symbol));
-    let user = resolver.user().get(symbol);
     line_of(
         alloc,
-        name,
-        kind,
-        value,
+        resolver.tree(),
+        resolver.user(),
+        symbol,
+        value.as_str(),
         visibility,
         values.as_slice(),
-        user,
     )
 }
 
-/// The line, from its parts.
+/// The text of the value that a symbol shows, by its type.
+fn shown_text<R: Resolver>(
+    alloc: Global,
+    resolver: &mut R,
+    symbol: SymId,
+) -> Result<String, AllocError>
+    requires { IsNodeOf (R.tree_of resolver.old) (Vis symbol) }
+    ensures text { IfOk result (λ text. string_bytes text
+        ≡ shown_text (type_of (R.tree_of resolver.old) symbol)
+        (solution (R.tree_of resolver.old) (R.user_of resolver.old) (Val symbol))) }
+    ensures tree { R.tree_of resolver.new ≡ R.tree_of resolver.old }
+    ensures user { R.user_of resolver.new ≡ R.user_of resolver.old }
+    ensures grew { R.grew resolver.old resolver.new (Val symbol ∷ []) }
+{
+    let kind = type_of(resolver.tree(), symbol);
+    text_of(alloc, kind, resolver.node(Node::Val(symbol))?)
+}
+
+/// The text of a value, by the type of its symbol.
+fn text_of(alloc: Global, kind: SymbolType, value: &Value) -> Result<String, AllocError>
+    ensures { IfOk result (λ text. string_bytes text ≡ shown_text kind value.now) }
+{
+    let mut text = String::new(alloc);
+    push_text_in(&mut text, kind, value.as_text())?;
+    Ok(text)
+}
+
+/// The line about a symbol of a tree, from the text of its value, its visibility and the values that it can be given.
 #[tactic(auto, unfolding(crate::specs::ShowLine::line_text))]
 fn line_of(
     alloc: Global,
-    name: &str,
-    kind: SymbolType,
-    value: Tri,
+    tree: &Tree,
+    user: &User,
+    symbol: SymId,
+    value: &str,
     visibility: Tri,
     values: &[Tri],
-    user: Option<&UserVal>,
 ) -> Result<String, AllocError>
+    requires { IsNodeOf tree.now (Vis symbol) }
+    ensures { IfOk result (λ text. (shown : _) → value.now ≡ shown_text (type_of tree.now symbol) shown
+        → string_bytes text ≡ line_text (name_of tree.now symbol) (type_of tree.now symbol) shown visibility values.now
+        (user_part tree.now user.now symbol)) }
+{
+    let user = user_part(alloc, tree, user, symbol)?;
+    let mut line = line_start(alloc, tree.name(symbol), type_of(tree, symbol))?;
+    line.push_str(value)?;
+    push_rest(&mut line, visibility, values, user.as_str())?;
+    Ok(line)
+}
+
+/// What the user gave a symbol: of a member of a choice y where he chose it, and a dash where he gave nothing.
+fn user_part(alloc: Global, tree: &Tree, user: &User, symbol: SymId) -> Result<String, AllocError>
+    requires { IsNodeOf tree.now (Vis symbol) }
+    ensures { IfOk result (λ text. string_bytes text ≡ user_part tree.now user.now symbol) }
+{
+    let Some(choice) = choice_of(tree, symbol) else {
+        return given_text(alloc, type_of(tree, symbol), user.get(symbol));
+    };
+    let is_chosen = user.chosen(choice).is_some_and(|chosen| chosen == symbol);
+    String::from_str(alloc, if is_chosen { "y" } else { "-" })
+}
+
+/// What the user gave a symbol of a type, a dash where he gave nothing.
+fn given_text(
+    alloc: Global,
+    kind: SymbolType,
+    value: Option<&UserVal>,
+) -> Result<String, AllocError>
+    ensures { IfOk result (λ text. string_bytes text ≡ given_text kind (option_copied value.entry)) }
+{
+    match value {
+        None => String::from_str(alloc, "-"),
+        Some(UserVal::Tri(tri)) => String::from_str(alloc, tri_letter(*tri)),
+        Some(UserVal::Text(text)) => {
+            let mut given = String::new(alloc);
+            push_text_in(&mut given, kind, text.as_str())?;
+            Ok(given)
+        }
+    }
+}
+
+/// The line up to the value.
+fn line_start(alloc: Global, name: &str, kind: SymbolType) -> Result<String, AllocError>
     ensures { IfOk result (λ text. string_bytes text
-        ≡ line_text name.now kind value visibility values.now (option_copied user.entry)) }
+        ≡ name.now ++ codes " type=" ++ type_text kind ++ codes " value=") }
 {
     let mut text = String::from_str(alloc, name)?;
     text.push_str(" type=")?;
     text.push_str(type_word(kind))?;
     text.push_str(" value=")?;
-    text.push_str(tri_word(value))?;
+    Ok(text)
+}
+
+/// What stands behind the value.
+fn push_rest(
+    text: &mut String,
+    visibility: Tri,
+    values: &[Tri],
+    user: &str,
+) -> Result<(), AllocError>
+    ensures { OnOk result (string_bytes text.new ≡ string_bytes text.old ++ codes " vis=" ++ tri_text visibility
+        ++ codes " can=" ++ values_text values.now ++ codes " user=" ++ user.now ++ codes "\n") }
+{
     text.push_str(" vis=")?;
-    text.push_str(tri_word(visibility))?;
+    text.push_str(tri_letter(visibility))?;
     text.push_str(" can=")?;
-    push_values(&mut text, values)?;
+    push_values(text, values)?;
     text.push_str(" user=")?;
-    text.push_str(user_word(user))?;
-    text.push_str("\n")?;
+    text.push_str(user)?;
+    text.push_str("\n")
+}
+
+/// How many symbols there are.
+fn symbol_count(tree: &Tree) -> u32
+    ensures { result ≡ length tree.now.symbols }
+{
+    tree.symbols().len() as u32
+}
+
+/// The lines of `list`: one about each symbol, by number.
+#[tactic(auto, unfolding(crate::specs::ShowLine::list_text_of))]
+pub(crate) fn list_text<R: Resolver>(alloc: Global, resolver: &mut R) -> Result<String, AllocError>
+    requires sized { IsUserFor (R.tree_of resolver.old) (R.user_of resolver.old) }
+    ensures text { IfOk result
+        (λ text. string_bytes text ≡ list_text_of (R.tree_of resolver.old) (R.user_of resolver.old)) }
+    ensures tree { R.tree_of resolver.new ≡ R.tree_of resolver.old }
+    ensures user { R.user_of resolver.new ≡ R.user_of resolver.old }
+{
+    let mut text = String::new(alloc);
+    for number in 0..symbol_count(resolver.tree()) {
+        let line = show_line(alloc, resolver, SymId(number))?;
+        text.push_str(line.as_str())?;
+    }
     Ok(text)
 }
 
@@ -79,27 +187,9 @@ fn type_word(kind: SymbolType) -> &'static str
     match kind {
         SymbolType::Bool => "bool",
         SymbolType::Tristate => "tristate",
-    }
-}
-
-fn tri_word(value: Tri) -> &'static str
-    ensures { result.now ≡ tri_text value }
-{
-    match value {
-        Tri::No => "n",
-        Tri::Module => "m",
-        Tri::Yes => "y",
-    }
-}
-
-/// The user value, a dash where there is none.
-fn user_word(user: Option<&UserVal>) -> &str
-    ensures { result.now ≡ user_text (option_copied user.entry) }
-{
-    match user {
-        None => "-",
-        Some(UserVal::Tri(value)) => tri_word(*value),
-        Some(UserVal::Text(text)) => text.as_str(),
+        SymbolType::String => "string",
+        SymbolType::Int => "int",
+        SymbolType::Hex => "hex",
     }
 }
 
@@ -110,10 +200,10 @@ fn push_values(text: &mut String, values: &[Tri]) -> Result<(), AllocError>
     let Some((first, rest)) = values.split_first() else {
         return text.push_str("-");
     };
-    text.push_str(tri_word(*first))?;
+    text.push_str(tri_letter(*first))?;
     for value in rest {
         text.push_str(",")?;
-        text.push_str(tri_word(*value))?;
+        text.push_str(tri_letter(*value))?;
     }
     Ok(())
 }

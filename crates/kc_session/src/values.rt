@@ -1,10 +1,15 @@
 //! The types of symbols, and the values that texts spell.
-ghost use Rattle.std.specs.Prelude.{◌≡◌};
+ghost use Rattle.std.specs.Prelude.{◌≡◌, IfOk, OnErr, IsTrue, is_some, not};
 ghost use Rattle.kc_tree.specs.declared.node.Node.TheVariants.{Vis};
 ghost use Rattle.kc_tree.specs.Nodes.{IsNodeOf};
-ghost use Rattle.kc_session.specs.Values.{type_of, value_of};
+ghost use Rattle.kc_tree.specs.SymbolFaults.{is_tri_type};
+ghost use Rattle.kc_tree.specs.TreeValue.{choice_of};
+ghost use Rattle.kc_files.specs.ConfigText.{type_of};
+ghost use Rattle.kc_session.specs.Values.{bool_of, tristate_of, value_of};
 
-use kc_tree::{SymId, SymbolType, Tree, Tri};
+use kc_text::Text;
+use kc_tree::{ChoiceId, SymId, SymbolType, Tree, Tri, UserVal, numeral};
+use std::alloc::{AllocError, Global};
 
 /// The declared type of a symbol.
 pub(crate) fn type_of(tree: &Tree, symbol: SymId) -> SymbolType
@@ -14,14 +19,56 @@ pub(crate) fn type_of(tree: &Tree, symbol: SymId) -> SymbolType
     tree.symbols()[symbol.0 as usize].kind()
 }
 
-/// The value that a text spells for a symbol of this type.
-pub(crate) fn value_of(kind: SymbolType, text: &str) -> Option<Tri>
-    ensures { result ≡ value_of kind text.now }
+/// The choice that a symbol is a member of.
+pub(crate) fn choice_of(tree: &Tree, symbol: SymId) -> Option<ChoiceId>
+    requires { IsNodeOf tree.now (Vis symbol) }
+    ensures { result ≡ choice_of tree.now symbol }
 {
-    match (kind, text) {
-        (_, "n") => Some(Tri::No),
-        (SymbolType::Tristate, "m") => Some(Tri::Module),
-        (_, "y") => Some(Tri::Yes),
+    tree.symbols()[symbol.0 as usize].choice()
+}
+
+/// The value of a bool that a text spells.
+fn bool_of(text: &str) -> Option<Tri>
+    ensures { result ≡ bool_of text.now }
+{
+    match text {
+        "n" => Some(Tri::No),
+        "y" => Some(Tri::Yes),
         _ => None,
+    }
+}
+
+/// That of a tristate.
+fn tristate_of(text: &str) -> Option<Tri>
+    ensures { result ≡ tristate_of text.now }
+{
+    match text {
+        "m" => Some(Tri::Module),
+        _ => bool_of(text),
+    }
+}
+
+/// The value that a text spells for a symbol of this type: for a string, an int or a hex a copy of the text.
+///
+/// The error is want of memory for that copy.
+pub(crate) fn value_of(
+    alloc: Global,
+    kind: SymbolType,
+    text: &str,
+) -> Result<Option<UserVal>, AllocError>
+    ensures value { IfOk result (λ v. v ≡ value_of kind text.now) }
+    ensures starved { OnErr result (IsTrue (not (is_tri_type kind))) }
+    ensures spelled { OnErr result (IsTrue (is_some (value_of kind text.now))) }
+{
+    match kind {
+        SymbolType::Bool => Ok(bool_of(text).map(UserVal::Tri)),
+        SymbolType::Tristate => Ok(tristate_of(text).map(UserVal::Tri)),
+        SymbolType::String => Ok(Some(UserVal::Text(Text::copy_of(alloc, text)?))),
+        SymbolType::Int | SymbolType::Hex => {
+            if numeral(kind, text).is_none() {
+                return Ok(None);
+            }
+            Ok(Some(UserVal::Text(Text::copy_of(alloc, text)?)))
+        }
     }
 }

@@ -5,6 +5,7 @@ use Rattle.std.specs.List.{range_with_len}
 use Rattle.std.proofs.lemmas.List.{reverse-append, reverse-reverse}
 use Rattle.kc_tree.specs.declared.id.SymId.{SymId}
 use Rattle.kc_tree.specs.declared.id.BlockId.{BlockId}
+use Rattle.kc_tree.specs.declared.id.ChoiceId.{ChoiceId}
 use Rattle.kc_tree.specs.declared.place.Owner.{Owner}
 use Rattle.kc_tree.specs.declared.statement.Statement.{Statement}
 use Rattle.kc_tree.specs.declared.statement.Statement.TheVariants as statement
@@ -13,6 +14,7 @@ use Rattle.kc_tree.specs.TreeOf.{Reading, definition_number, symbol_at, symbols_
 use Rattle.kc_tree.specs.Outline.{AreMade, IsNamedIn}
 use Rattle.kc_tree.specs.Adding.{with_some, entry_after, definition_entry, entry_with, with_reading}
 use Rattle.kc_tree.proofs.AddingParts.{reading, definitions_push, blocks_push, comments_push}
+use Rattle.kc_tree.proofs.AddingChoices.{choices_push}
 use Rattle.kc_tree.proofs.AddingSymbols.{symbols_push}
 
 map_range_get : {A : Type 0} → (f : ℕ → A) (k n i : ℕ) → i < n → slice_get (map f (range_with_len k n)) i ≡ Some (f (k + i))
@@ -39,10 +41,10 @@ entries_more rs r =
     rw (reverse-append rs (r ∷ []))
     (ap (λ qs. with_entry (entries_in rs) (entry_at qs r)) (reverse-reverse rs) ∙ same_end (entries_in rs) (entry_at rs r))
 
-entry_is : (names : List (List ℕ)) (rs : List Reading) (st : Statement) (b : Option BlockId) (o : Option Owner) → IsNamedIn names st → entry_at rs (reading st b o) ≡ entry_with (symbols_in (length names) rs) st b o
-entry_is names rs (statement.Config (Some s)) b o named = ap Some (definition_entry_is (length names) rs s named)
-entry_is names rs st b o named = refl
+entry_is : (names : List (List ℕ)) (rs : List Reading) (st : Statement) (b : Option BlockId) (ch : Option ChoiceId) (o : Option Owner) → IsNamedIn names st → entry_at rs (reading st b ch o) ≡ entry_with (symbols_in (length names) rs) st b o
+entry_is names rs (statement.Config (Some s)) b ch o named = ap Some (definition_entry_is (length names) rs s named)
+entry_is names rs st b ch o named = refl
 
-pub tree_push : (names : List (List ℕ)) (rs : List Reading) (st : Statement) (b : Option BlockId) (o : Option Owner) → AreMade rs → IsNamedIn names st → with_reading (tree_of names rs) (reading st b o) ≡ tree_of names (rs ++ reading st b o ∷ [])
-tree_push names rs st b o made named =
-    rw (symbols_push (length names) rs st b o, definitions_push rs st b o made, blocks_push rs st b o made, comments_push rs st b o made, entries_more rs (reading st b o), entry_is names rs st b o named) refl
+pub tree_push : (names : List (List ℕ)) (rs : List Reading) (st : Statement) (b : Option BlockId) (ch : Option ChoiceId) (o : Option Owner) → AreMade rs → IsNamedIn names st → with_reading (tree_of names rs) (reading st b ch o) ≡ tree_of names (rs ++ reading st b ch o ∷ [])
+tree_push names rs st b ch o made named =
+    rw (symbols_push (length names) rs st b ch o, definitions_push rs st b ch o made, blocks_push rs st b ch o made, choices_push rs st b ch o made, comments_push rs st b ch o made, entries_more rs (reading st b ch o), entry_is names rs st b ch o named) refl

@@ -25,6 +25,11 @@ change_at_same [] i = refl
 change_at_same (y ∷ xs) zero = refl
 change_at_same (y ∷ xs) (suc i) = ap (λ zs. y ∷ zs) (change_at_same xs i)
 
+pub change_at_twice : {A : Type 0} → (xs : List A) (i : ℕ) (f g : A → A) → change_at (change_at xs i f) i g ≡ change_at xs i (λ x. g (f x))
+change_at_twice [] i f g = refl
+change_at_twice (y ∷ xs) zero f g = refl
+change_at_twice (y ∷ xs) (suc i) f g = ap (λ zs. y ∷ zs) (change_at_twice xs i f g)
+
 -- ---- made by number
 pub map_range_same : {A : Type 0} → (g f : ℕ → A) (k n : ℕ) → ((i : ℕ) → k ≤ i → g i ≡ f i) → map g (range_with_len k n) ≡ map f (range_with_len k n)
 map_range_same g f k zero same = refl

@@ -1,5 +1,5 @@
 -- Rows of numbers while nodes are collected: one step after another, and lists without repeats.
-use Rattle.std.proofs.Common.{◌≡◌, ℕ, suc, ◌+◌, ◌<◌, ◌≤◌, ◌^◌, Bool, true, false, ◌||◌, eqb, List, [], ◌∷◌, ◌++◌, length, get_or, take, map, Some, None, refl, sym, ap, subst, ◌∙◌, inl, inr, ◌⊎◌, arith}
+use Rattle.std.proofs.Common.{◌≡◌, ℕ, suc, ◌+◌, ◌<◌, ◌≤◌, ◌^◌, Bool, true, false, ◌||◌, eqb, Option, List, [], ◌∷◌, ◌++◌, length, get_or, take, map, Some, None, refl, sym, ap, subst, ◌∙◌, inl, inr, ◌⊎◌, arith}
 use Rattle.std.specs.List.{list_any, flat_map, slice_get, Contains, All}
 use Rattle.std.specs.Option.{option_map_or}
 use Rattle.std.proofs.Math.Bool.{or_assoc}
@@ -10,14 +10,14 @@ use Rattle.std.proofs.lemmas.Option.{slice_get_past, slice_get_cases}
 use Rattle.std.proofs.lemmas.List.Folds.{list_any-append, list_any_at}
 use Rattle.std.proofs.lemmas.Grind.{flat_map-append}
 use Rattle.kc_tree.specs.declared.node.Node.{Node}
-use Rattle.kc_tree.specs.declared.node.Node.TheVariants.{Val}
-use Rattle.kc_tree.specs.declared.id.SymId.{SymId}
 use Rattle.kc_tree.specs.declared.expr.Expr.{Expr}
-use Rattle.kc_tree.specs.Nodes.{number_of, node_at, node_symbol}
-use Rattle.kc_tree.specs.TreeValue.{TreeValue, SymbolValue}
+use Rattle.kc_tree.specs.Nodes.{number_in, node_in}
+use Rattle.kc_tree.specs.TreeValue.{TreeValue}
 use Rattle.kc_tree.specs.Grammar.{formula, joined, both, either}
-use Rattle.kc_tree.specs.Uses.{symbol_nodes, formula_nodes, value_nodes, has_bare_module}
-use Rattle.kc_tree.proofs.NodeNumbers.{number_of-node_at, symbol_below}
+use Rattle.kc_tree.specs.Uses.{formula_nodes, value_nodes, has_bare_module}
+use Rattle.kc_tree.proofs.NodeNumbers.{number_in-node_in}
+use Rattle.kc_tree.specs.NodeRows.{AreNumbered}
+use Rattle.kc_tree.proofs.NodeRowLaws.{AreNumbered-none, AreNumbered-push}
 use Rattle.kc_tree.specs.Collected.{has_number, has_node, Adds, HaveSame, HasNodes, Holds}
 
 -- ---- tests of lists
@@ -65,56 +65,19 @@ pub any_flat : {X Y : Type 0} (p : Y → Bool) (f : X → List Y) (xs : List X) 
 any_flat p f [] = refl
 any_flat p f (x ∷ xs) = list_any-append p (f x) (flat_map f xs) ∙ ap (λ b. list_any p (f x) || b) (any_flat p f xs)
 
--- ---- rows, a step after another
 pub or_false : (b : Bool) → b ≡ (b || false)
 or_false true = refl
 or_false false = refl
 
-pub adds_none : (r : List ℕ) → Adds r r []
-adds_none r = record { has = λ k. or_false (has_number r k) }
+-- ---- a node where a list has an element
+pub none_past : {X : Type 0} (n : Node) (xs : List X) (k : ℕ) → length xs ≤ k → option_map_or (λ x. n ∷ []) (slice_get xs k) [] ≡ []
+none_past {X} n xs k h = ap (λ (o : Option X). option_map_or (λ x. n ∷ []) o []) (slice_get_past xs k h)
 
-pub adds_unchanged : (r s : List ℕ) → s ≡ r → Adds r s []
-adds_unchanged r s e = subst (λ x. Adds r x []) (sym e) (adds_none r)
-
-pub adds_then : (a b c : List ℕ) (xs ys : List Node) → Adds a b xs → Adds b c ys → Adds a c (xs ++ ys)
-adds_then a b c xs ys f g = record {
-  has = λ k.
-      g.has k
-      ∙ ap (λ x. x || has_node ys k) (f.has k)
-      ∙ or_assoc (has_number a k) (has_node xs k) (has_node ys k)
-      ∙ ap (λ x. has_number a k || x) (sym (list_any-append (λ n. eqb (number_of n) k) xs ys));
-}
-
-pub adds_alike : (a b : List ℕ) (xs ys : List Node) → Adds a b xs → ((k : ℕ) → has_node xs k ≡ has_node ys k) → Adds a b ys
-adds_alike a b xs ys f e = record { has = λ k. f.has k ∙ ap (λ x. has_number a k || x) (e k) }
-
-pub adds_number : (a b : List ℕ) (n : Node) (v : ℕ) → b ≡ a ++ v ∷ [] → v ≡ number_of n → Adds a b (n ∷ [])
-adds_number a b n v e i = record {
-  has = λ k.
-      ap (λ r. has_number r k) e
-      ∙ list_any-append (λ j. eqb j k) a (v ∷ [])
-      ∙ ap (λ x. has_number a k || (eqb x k || false)) i;
-}
-
--- one more element of a list, at a step of a loop
-pub adds_more : {X : Type 0} (f : X → List Node) (xs : List X) (i : ℕ) (x : X) (a b c : List ℕ) → i < length xs → x ≡ get_or xs i x → Adds a b (flat_map f (take i xs)) → Adds b c (f x) → Adds a c (flat_map f (take (i + 1) xs))
-adds_more f xs i x a b c h e g k =
-    let P : List Node → Type 0 = λ ns. Adds a c ns in
-    let one : take (i + 1) xs ≡ take i xs ++ x ∷ [] = take_more xs i x h ∙ ap (λ y. take i xs ++ y ∷ []) (sym e) in
-    subst P (sym (ap (flat_map f) one ∙ flat_map-append f (take i xs) (x ∷ []))) (adds_then a b c (flat_map f (take i xs)) (f x ++ []) g (adds_alike b c (f x) (f x ++ []) k (λ j. alike (f x) j)))
+pub one_within : {X : Type 0} (n : Node) (xs : List X) (k : ℕ) → k < length xs → option_map_or (λ x. n ∷ []) (slice_get xs k) [] ≡ n ∷ []
+one_within {X} n xs k h = go (slice_get_cases xs k).1
   where
-    alike : (ns : List Node) (j : ℕ) → has_node ns j ≡ has_node (ns ++ []) j
-    alike ns j = or_false (has_node ns j) ∙ sym (list_any-append (λ n. eqb (number_of n) j) ns [])
-
--- ---- symbols
-pub no_symbol : (t : TreeValue) (s : SymId) → length t.symbols ≤ s.0 → symbol_nodes t s ≡ []
-no_symbol t s h = ap (λ o. option_map_or (λ x. Val s ∷ []) o []) (slice_get_past t.symbols s.0 h)
-
-pub some_symbol : (t : TreeValue) (s : SymId) → s.0 < length t.symbols → symbol_nodes t s ≡ Val s ∷ []
-some_symbol t s h = go (slice_get_cases t.symbols s.0).1
-  where
-    go : ((x : SymbolValue) × (s.0 < length t.symbols) × (slice_get t.symbols s.0 ≡ Some x) × (get_or t.symbols s.0 x ≡ x)) ⊎ ((length t.symbols ≤ s.0) × (slice_get t.symbols s.0 ≡ None)) → symbol_nodes t s ≡ Val s ∷ []
-    go (inl a) = ap (λ o. option_map_or (λ x. Val s ∷ []) o []) a.2
+    go : ((x : X) × (k < length xs) × (slice_get xs k ≡ Some x) × (get_or xs k x ≡ x)) ⊎ ((length xs ≤ k) × (slice_get xs k ≡ None)) → option_map_or (λ x. n ∷ []) (slice_get xs k) [] ≡ n ∷ []
+    go (inl a) = ap (λ (o : Option X). option_map_or (λ x. n ∷ []) o []) a.2
     go (inr b) = absurd (omega (arith, b.0))
 
 -- ---- expressions
@@ -139,92 +102,139 @@ bare_either [] = refl
 bare_either (e ∷ []) = or_false (has_bare_module (formula e))
 bare_either (e ∷ f ∷ es) = ap (λ b. has_bare_module (formula e) || b) (bare_either (f ∷ es))
 
--- two lists that stand for the same nodes
-pub adds_equal : (a b : List ℕ) (xs ys : List Node) → xs ≡ ys → Adds a b xs → Adds a b ys
-adds_equal a b xs ys e f = subst (λ ns. Adds a b ns) e f
-
 -- ---- lists with the same numbers
-number_in : (xs : List ℕ) (k : ℕ) → has_number xs k ≡ true → Contains xs k
-number_in xs k e = let r = found (λ j. eqb j k) xs e in subst (λ (j : ℕ). Contains xs j) (eqb-true r.0 k r.2) r.1
+number_there : (xs : List ℕ) (k : ℕ) → has_number xs k ≡ true → Contains xs k
+number_there xs k e = let r = found (λ j. eqb j k) xs e in subst (λ (j : ℕ). Contains xs j) (eqb-true r.0 k r.2) r.1
 
 number_found : (xs : List ℕ) (k : ℕ) → Contains xs k → has_number xs k ≡ true
 number_found xs k c = any_contains (λ j. eqb j k) xs k c (eq-eqb k k refl)
 
 pub any_same : (p : ℕ → Bool) (xs ys : List ℕ) → HaveSame xs ys → list_any p xs ≡ list_any p ys
 any_same p xs ys h = any_of_same p xs ys
-    (λ x c. number_in ys x (sym (h.has x) ∙ number_found xs x c))
-    (λ x c. number_in xs x (h.has x ∙ number_found ys x c))
+    (λ x c. number_there ys x (sym (h.has x) ∙ number_found xs x c))
+    (λ x c. number_there xs x (h.has x ∙ number_found ys x c))
 
 pub same_from_contains : (xs ys : List ℕ) → ((k : ℕ) → Contains xs k → Contains ys k) → ((k : ℕ) → Contains ys k → Contains xs k) → HaveSame xs ys
 same_from_contains xs ys f g = record { has = λ k. any_of_same (λ j. eqb j k) xs ys f g }
 
--- ---- rows and their nodes
 pub any_map : {X Y : Type 0} (p : Y → Bool) (f : X → Y) (xs : List X) → list_any p (map f xs) ≡ list_any (λ x. p (f x)) xs
 any_map p f [] = refl
 any_map p f (x ∷ xs) = ap (λ b. p (f x) || b) (any_map p f xs)
 
-pub adds_numbers : (a b : List ℕ) (ns : List Node) → b ≡ a ++ map number_of ns → Adds a b ns
-adds_numbers a b ns e = record {
-  has = λ k.
-      ap (λ r. has_number r k) e
-      ∙ list_any-append (λ j. eqb j k) a (map number_of ns)
-      ∙ ap (λ x. has_number a k || x) (any_map (λ j. eqb j k) number_of ns);
-}
+-- in a tree of so many symbols
+module _ (symbols : ℕ) where
+  -- ---- rows, a step after another
+  pub adds_none : (r : List ℕ) → Adds symbols r r []
+  adds_none r = record { has = λ k. or_false (has_number r k) }
 
--- a row that was empty, and is then put in order
-pub has_nodes : (a b c : List ℕ) (ns : List Node) → a ≡ [] → Adds a b ns → HaveSame c b → HasNodes ns c
-has_nodes a b c ns e f h = record { has = λ k. h.has k ∙ f.has k ∙ ap (λ r. has_number r k || has_node ns k) e }
+  pub adds_unchanged : (r s : List ℕ) → s ≡ r → Adds symbols r s []
+  adds_unchanged r s e = subst (λ x. Adds symbols r x []) (sym e) (adds_none r)
 
--- the nodes of the numbers of a row
-pub node_row : (row : List ℕ) (k : ℕ) → has_node (map node_at row) k ≡ has_number row k
-node_row row k = any_map (λ n. eqb (number_of n) k) node_at row ∙ any_alike (λ j. eqb (number_of (node_at j)) k) (λ j. eqb j k) row (λ j. ap (λ i. eqb i k) (number_of-node_at j))
+  pub adds_then : (a b c : List ℕ) (xs ys : List Node) → Adds symbols a b xs → Adds symbols b c ys → Adds symbols a c (xs ++ ys)
+  adds_then a b c xs ys f g = record {
+    has = λ k.
+        g.has k
+        ∙ ap (λ x. x || has_node symbols ys k) (f.has k)
+        ∙ or_assoc (has_number a k) (has_node symbols xs k) (has_node symbols ys k)
+        ∙ ap (λ x. has_number a k || x) (sym (list_any-append (λ n. eqb (number_in symbols n) k) xs ys));
+  }
 
-pub node_found : (ns : List Node) (k : ℕ) → has_node ns k ≡ true → (n : Node) × Contains ns n × (number_of n ≡ k)
-node_found ns k e = let r = found (λ n. eqb (number_of n) k) ns e in (r.0, r.1, eqb-true (number_of r.0) k r.2)
+  pub adds_alike : (a b : List ℕ) (xs ys : List Node) → Adds symbols a b xs → ((k : ℕ) → has_node symbols xs k ≡ has_node symbols ys k) → Adds symbols a b ys
+  adds_alike a b xs ys f e = record { has = λ k. f.has k ∙ ap (λ x. has_number a k || x) (e k) }
 
-pub node_has : (ns : List Node) (n : Node) → Contains ns n → has_node ns (number_of n) ≡ true
-node_has ns n c = any_contains (λ m. eqb (number_of m) (number_of n)) ns n c (eq-eqb (number_of n) (number_of n) refl)
+  pub adds_number : (a b : List ℕ) (n : Node) (v : ℕ) → b ≡ a ++ v ∷ [] → v ≡ number_in symbols n → Adds symbols a b (n ∷ [])
+  adds_number a b n v e i = record {
+    has = λ k.
+        ap (λ r. has_number r k) e
+        ∙ list_any-append (λ j. eqb j k) a (v ∷ [])
+        ∙ ap (λ x. has_number a k || (eqb x k || false)) i;
+  }
 
--- the numbers of a row of nodes of a tree are small
-pub numbers_small : (count : ℕ) (ns : List Node) (row : List ℕ) → count ≤ 65535 → All (λ n. node_symbol n < count) ns → HasNodes ns row → All (λ k. k < 2 ^ 32) row
-numbers_small count ns row few within h = λ i d l.
-    let k = get_or row i d in
-    let c = Contains-get_or row i d l in
-    let r = node_found ns k (sym (h.has k) ∙ number_found row k c) in
-    let below = symbol_below r.0 count (All-contains (λ n. node_symbol n < count) ns r.0 within r.1) in
-    omega (arith, r.2)
+  -- one more element of a list, at a step of a loop
+  pub adds_more : {X : Type 0} (f : X → List Node) (xs : List X) (i : ℕ) (x : X) (a b c : List ℕ) → i < length xs → x ≡ get_or xs i x → Adds symbols a b (flat_map f (take i xs)) → Adds symbols b c (f x) → Adds symbols a c (flat_map f (take (i + 1) xs))
+  adds_more f xs i x a b c h e g k =
+      let P : List Node → Type 0 = λ ns. Adds symbols a c ns in
+      let one : take (i + 1) xs ≡ take i xs ++ x ∷ [] = take_more xs i x h ∙ ap (λ y. take i xs ++ y ∷ []) (sym e) in
+      subst P (sym (ap (flat_map f) one ∙ flat_map-append f (take i xs) (x ∷ []))) (adds_then a b c (flat_map f (take i xs)) (f x ++ []) g (adds_alike b c (f x) (f x ++ []) k (λ j. alike (f x) j)))
+    where
+      alike : (ns : List Node) (j : ℕ) → has_node symbols ns j ≡ has_node symbols (ns ++ []) j
+      alike ns j = or_false (has_node symbols ns j) ∙ sym (list_any-append (λ n. eqb (number_in symbols n) j) ns [])
 
--- ---- tables
-pub holds_none : (rows : List (List Node)) → rows ≡ [] → Holds [] rows
-holds_none rows e = record {
-  whole = ap length e;
-  each = λ j k. ap (λ rs. has_node (get_or rs j []) k) e;
-}
+  -- two lists that stand for the same nodes
+  pub adds_equal : (a b : List ℕ) (xs ys : List Node) → xs ≡ ys → Adds symbols a b xs → Adds symbols a b ys
+  adds_equal a b xs ys e f = subst (λ ns. Adds symbols a b ns) e f
 
-pub holds_push : (lists rows : List (List Node)) (l r : List Node) → Holds lists rows → ((k : ℕ) → has_node r k ≡ has_node l k) → Holds (lists ++ l ∷ []) (rows ++ r ∷ [])
-holds_push lists rows l r h e = record {
-  whole = omega (arith, length_push rows r, length_push lists l, h.whole);
-  each = λ j k. at j k (cases_lt j (length rows));
-}
-  where
-    past : (j k : ℕ) → length rows ≤ j → (j < length rows + 1) ⊎ (length rows + 1 ≤ j) → has_node (get_or (rows ++ r ∷ []) j []) k ≡ has_node (get_or (lists ++ l ∷ []) j []) k
-    past j k i (inl m) =
-        ap (λ ns. has_node ns k) (get_or_push rows r [] j (omega arith))
-        ∙ e k
-        ∙ sym (ap (λ ns. has_node ns k) (get_or_push lists l [] j (omega (arith, h.whole))))
-    past j k i (inr m) =
-        ap (λ ns. has_node ns k) (get_or_past (rows ++ r ∷ []) j [] (omega (arith, length_push rows r)))
-        ∙ sym (ap (λ ns. has_node ns k) (get_or_past (lists ++ l ∷ []) j [] (omega (arith, length_push lists l, h.whole))))
+  -- ---- rows and their nodes
+  pub adds_numbers : (a b : List ℕ) (ns : List Node) → b ≡ a ++ map (number_in symbols) ns → Adds symbols a b ns
+  adds_numbers a b ns e = record {
+    has = λ k.
+        ap (λ r. has_number r k) e
+        ∙ list_any-append (λ j. eqb j k) a (map (number_in symbols) ns)
+        ∙ ap (λ x. has_number a k || x) (any_map (λ j. eqb j k) (number_in symbols) ns);
+  }
 
-    at : (j k : ℕ) → (j < length rows) ⊎ (length rows ≤ j) → has_node (get_or (rows ++ r ∷ []) j []) k ≡ has_node (get_or (lists ++ l ∷ []) j []) k
-    at j k (inl i) =
-        ap (λ ns. has_node ns k) (get_or_append_left rows (r ∷ []) [] j i)
-        ∙ h.each j k
-        ∙ sym (ap (λ ns. has_node ns k) (get_or_append_left lists (l ∷ []) [] j (omega (arith, h.whole))))
-    at j k (inr i) = past j k i (cases_lt j (length rows + 1))
+  -- a row that was empty, and is then put in order
+  pub has_nodes : (a b c : List ℕ) (ns : List Node) → a ≡ [] → Adds symbols a b ns → HaveSame c b → HasNodes symbols ns c
+  has_nodes a b c ns e f h = record { has = λ k. h.has k ∙ f.has k ∙ ap (λ r. has_number r k || has_node symbols ns k) e }
 
--- the table of one more list
-pub holds_more : {X : Type 0} (f : X → List Node) (xs : List X) (i : ℕ) (x : X) (rows : List (List Node)) → i < length xs → x ≡ get_or xs i x → Holds (map f (take i xs) ++ f x ∷ []) rows → Holds (map f (take (i + 1) xs)) rows
-holds_more f xs i x rows h e g =
-    let one : take (i + 1) xs ≡ take i xs ++ x ∷ [] = take_more xs i x h ∙ ap (λ y. take i xs ++ y ∷ []) (sym e) in
-    subst (λ ls. Holds ls rows) (sym (ap (map f) one ∙ map_push f (take i xs) x)) g
+  -- the nodes of the numbers of a row
+  pub node_row : (row : List ℕ) (k : ℕ) → has_node symbols (map (node_in symbols) row) k ≡ has_number row k
+  node_row row k = any_map (λ n. eqb (number_in symbols n) k) (node_in symbols) row ∙ any_alike (λ j. eqb (number_in symbols (node_in symbols j)) k) (λ j. eqb j k) row (λ j. ap (λ i. eqb i k) (number_in-node_in symbols j))
+
+  pub node_found : (ns : List Node) (k : ℕ) → has_node symbols ns k ≡ true → (n : Node) × Contains ns n × (number_in symbols n ≡ k)
+  node_found ns k e = let r = found (λ n. eqb (number_in symbols n) k) ns e in (r.0, r.1, eqb-true (number_in symbols r.0) k r.2)
+
+  pub node_has : (ns : List Node) (n : Node) → Contains ns n → has_node symbols ns (number_in symbols n) ≡ true
+  node_has ns n c = any_contains (λ m. eqb (number_in symbols m) (number_in symbols n)) ns n c (eq-eqb (number_in symbols n) (number_in symbols n) refl)
+
+  -- the numbers of a row of nodes are small where those of the nodes are
+  pub numbers_small : (ns : List Node) (row : List ℕ) → All (λ n. number_in symbols n < 2 ^ 32) ns → HasNodes symbols ns row → All (λ k. k < 2 ^ 32) row
+  numbers_small ns row small h = λ i d l.
+      let k = get_or row i d in
+      let c = Contains-get_or row i d l in
+      let r = node_found ns k (sym (h.has k) ∙ number_found row k c) in
+      let below = All-contains (λ n. number_in symbols n < 2 ^ 32) ns r.0 small r.1 in
+      omega (arith, r.2)
+
+  -- ---- tables
+  pub holds_none : (rows : List (List Node)) → rows ≡ [] → Holds symbols [] rows
+  holds_none rows e = record {
+    whole = ap length e;
+    each = λ j k. ap (λ rs. has_node symbols (get_or rs j []) k) e;
+    numbered = subst (λ rs. AreNumbered symbols rs) (sym e) (AreNumbered-none symbols);
+  }
+
+  pub holds_push : (lists rows : List (List Node)) (l r : List Node) → Holds symbols lists rows → AreNumbered symbols (rows ++ r ∷ []) → ((k : ℕ) → has_node symbols r k ≡ has_node symbols l k) → Holds symbols (lists ++ l ∷ []) (rows ++ r ∷ [])
+  holds_push lists rows l r h made e = record {
+    whole = omega (arith, length_push rows r, length_push lists l, h.whole);
+    each = λ j k. at j k (cases_lt j (length rows));
+    numbered = made;
+  }
+    where
+      past : (j k : ℕ) → length rows ≤ j → (j < length rows + 1) ⊎ (length rows + 1 ≤ j) → has_node symbols (get_or (rows ++ r ∷ []) j []) k ≡ has_node symbols (get_or (lists ++ l ∷ []) j []) k
+      past j k i (inl m) =
+          ap (λ ns. has_node symbols ns k) (get_or_push rows r [] j (omega arith))
+          ∙ e k
+          ∙ sym (ap (λ ns. has_node symbols ns k) (get_or_push lists l [] j (omega (arith, h.whole))))
+      past j k i (inr m) =
+          ap (λ ns. has_node symbols ns k) (get_or_past (rows ++ r ∷ []) j [] (omega (arith, length_push rows r)))
+          ∙ sym (ap (λ ns. has_node symbols ns k) (get_or_past (lists ++ l ∷ []) j [] (omega (arith, length_push lists l, h.whole))))
+
+      at : (j k : ℕ) → (j < length rows) ⊎ (length rows ≤ j) → has_node symbols (get_or (rows ++ r ∷ []) j []) k ≡ has_node symbols (get_or (lists ++ l ∷ []) j []) k
+      at j k (inl i) =
+          ap (λ ns. has_node symbols ns k) (get_or_append_left rows (r ∷ []) [] j i)
+          ∙ h.each j k
+          ∙ sym (ap (λ ns. has_node symbols ns k) (get_or_append_left lists (l ∷ []) [] j (omega (arith, h.whole))))
+      at j k (inr i) = past j k i (cases_lt j (length rows + 1))
+
+  -- a row that was made is added
+  pub holds_row : (lists rows new : List (List Node)) (l : List Node) (count : ℕ) (row items : List ℕ) → Holds symbols lists rows → new ≡ rows ++ map (node_in count) row ∷ [] → count ≡ symbols → row ≡ items → HasNodes symbols l items → Holds symbols (lists ++ l ∷ []) new
+  holds_row lists rows new l count row items h e n r k =
+      subst (λ (rs : List (List Node)). Holds symbols (lists ++ l ∷ []) rs) (sym (e ∙ ap (λ i. rows ++ map (node_in i) row ∷ []) n))
+      (holds_push lists rows l (map (node_in symbols) row) h (AreNumbered-push symbols rows row h.numbered) (λ j. node_row row j ∙ ap (λ ks. has_number ks j) r ∙ k.has j))
+
+  -- the table of one more list
+  pub holds_more : {X : Type 0} (f : X → List Node) (xs : List X) (i : ℕ) (x : X) (rows : List (List Node)) → i < length xs → x ≡ get_or xs i x → Holds symbols (map f (take i xs) ++ f x ∷ []) rows → Holds symbols (map f (take (i + 1) xs)) rows
+  holds_more f xs i x rows h e g =
+      let one : take (i + 1) xs ≡ take i xs ++ x ∷ [] = take_more xs i x h ∙ ap (λ y. take i xs ++ y ∷ []) (sym e) in
+      subst (λ ls. Holds symbols ls rows) (sym (ap (map f) one ∙ map_push f (take i xs) x)) g

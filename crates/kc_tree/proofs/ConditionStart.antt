@@ -1,8 +1,9 @@
 -- Where the condition of a default begins: no expression has an `if` of its own.
-use Rattle.std.proofs.Common.{◌≡◌, ◌+◌, ℕ, Bool, true, false, not, ◌||◌, cond, List, [], ◌∷◌, ◌++◌, length, take, drop, Option, Some, None, codes, unwrap_or, position, nat_lt, ◌==◌, MatchOption, refl, sym, ap, ◌∙◌, subst, zero-add, add-zero, arith}
+use Rattle.std.proofs.Common.{◌≡◌, ◌+◌, ◌-◌, ℕ, Bool, true, false, not, ◌||◌, cond, List, [], ◌∷◌, ◌++◌, length, take, drop, Option, Some, None, codes, unwrap_or, position, nat_lt, ◌==◌, MatchOption, refl, sym, ap, ◌∙◌, subst, zero-add, add-zero, arith}
 use Rattle.std.specs.Str.{bytes_eq}
 use Rattle.std.specs.List.{list_any, position_or_len}
 use Rattle.std.proofs.lemmas.Bool.{ltb-false}
+use Rattle.std.proofs.lemmas.List.{take_all}
 use Rattle.std.proofs.lemmas.List.Sums.{prefix_len-le-length}
 use Rattle.std.proofs.lemmas.List.Folds.{list_any-append}
 use Rattle.std.proofs.Math.Seq.{take-append_seam, drop-append_seam}
@@ -13,9 +14,10 @@ use Rattle.kc_text.specs.declared.line.Token.TheVariants.{Word, Expanded, Quoted
 use Rattle.kc_tree.specs.declared.expr.Term.{Term}
 use Rattle.kc_tree.specs.declared.expr.Expr.{Expr}
 use Rattle.kc_tree.specs.declared.definition.DefaultValue.{DefaultValue}
+use Rattle.kc_tree.specs.declared.definition.Range.{Range}
 use Rattle.kc_tree.specs.Forms.{is_word, condition_start, IsReading}
 use Rattle.kc_tree.specs.Grammar.{Symbol, term, compares, bang, ampersands, bars, opening, closing, if_word, Formula, atom, compare, negation, group, both, either, formula, spelled, sign_symbol, symbol_of, symbols_of, IsExpression, IsNoExpression}
-use Rattle.kc_tree.specs.Statements.{IsCondition, IsWordAndExpression, IsDefault}
+use Rattle.kc_tree.specs.Statements.{IsCondition, IsWordAndExpression, IsDefault, IsRange}
 
 -- ---- no `if` in an expression
 is_if_symbol : Symbol → Bool
@@ -143,3 +145,13 @@ no_default_condition names tokens back k o start is none unread d h =
     let condition = (default_split names tokens d h).1 in
     let same : drop (condition_start tokens) tokens ≡ back = ap (λ n. drop n tokens) (sym start) ∙ sym is in
     (rw none at unread) d.condition (subst (λ (xs : List Token). IsCondition names xs d.condition) same condition)
+
+-- ---- no range where its condition is none
+behind_two : (a b : Token) (rest : List Token) → take (length (a ∷ b ∷ rest) - 2) rest ≡ rest
+behind_two a b rest = take_all (length (a ∷ b ∷ rest) - 2) rest (omega arith)
+
+pub no_range_condition : (names : List (List ℕ)) (tokens : List Token) (o : Option (Option Expr)) → o ≡ None → IsReading (IsCondition names (take (length tokens - 2) (drop 2 tokens))) o → (r : Range) → IsRange names tokens r → ⊥
+no_range_condition names tokens o none unread r h =
+    let same : h.2 ≡ take (length tokens - 2) (drop 2 tokens) =
+    sym (ap (λ (xs : List Token). take (length xs - 2) (drop 2 xs)) h.3 ∙ behind_two h.0 h.1 h.2) in
+    (rw none at unread) r.condition (subst (λ (xs : List Token). IsCondition names xs r.condition) same h.6)

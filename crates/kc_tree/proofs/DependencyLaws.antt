@@ -10,10 +10,10 @@ use Rattle.kc_tree.specs.declared.id.BlockId.{BlockId}
 use Rattle.kc_tree.specs.declared.definition.Prompt.{Prompt}
 use Rattle.kc_tree.specs.declared.symbol.Reverse.{Reverse}
 use Rattle.kc_tree.specs.declared.node.Node.{Node}
-use Rattle.kc_tree.specs.Nodes.{number_of}
+use Rattle.kc_tree.specs.Nodes.{number_in}
 use Rattle.kc_tree.specs.TreeValue.{TreeValue, BlockValue, DefinitionValue, blocks_from, blocks_around}
-use Rattle.kc_tree.specs.Uses.{symbol_nodes, conditions_nodes, own_condition_nodes, depends_nodes, visible_nodes, dependency_nodes, default_nodes, definition_nodes, prompt_nodes, reverse_nodes}
-use Rattle.kc_tree.specs.Collected.{has_number, has_node, HaveSame, Holds, own_lists, depends_lists, visible_lists, dependency_at, depends_at, visible_at, block_numbers, block_numbers_at, innermost_at, defaults_at, prompt_own_at, prompted_at, source_nodes}
+use Rattle.kc_tree.specs.Uses.{symbol_nodes, conditions_nodes, own_condition_nodes, depends_nodes, visible_nodes, dependency_nodes, default_nodes, range_nodes, definition_nodes, prompt_nodes, reverse_nodes}
+use Rattle.kc_tree.specs.Collected.{has_number, has_node, HaveSame, Holds, own_lists, depends_lists, visible_lists, dependency_at, depends_at, visible_at, block_numbers, block_numbers_at, innermost_at, defaults_at, ranges_at, prompt_own_at, prompted_at, source_nodes}
 use Rattle.kc_tree.proofs.CollectedLaws.{any_same, any_alike, any_or, any_flat, any_map, or_false}
 
 -- ---- lists and options
@@ -29,9 +29,6 @@ filtered_step q g x xs h (Some y) e = rw e (ap (λ b. q y || b) h)
 pub any_filtered : {X Y : Type 0} (q : Y → Bool) (g : X → Option Y) (xs : List X) → list_any q (filter_map g xs) ≡ list_any (λ x. option_map_or q (g x) false) xs
 any_filtered q g [] = refl
 any_filtered q g (x ∷ xs) = filtered_step q g x xs (any_filtered q g xs) (g x) refl
-
-has_both : (xs ys : List Node) (k : ℕ) → has_node (xs ++ ys) k ≡ (has_node xs k || has_node ys k)
-has_both xs ys k = list_any-append (λ n. eqb (number_of n) k) xs ys
 
 -- ---- blocks
 block_nodes : (f : BlockValue → List Node) (blocks : List BlockValue) (n : ℕ) (id : Option BlockId) → flat_map f (blocks_from blocks n id) ≡ flat_map (λ b. option_map_or f (slice_get blocks b) []) (block_numbers blocks n id)
@@ -127,123 +124,159 @@ around_nodes t f j = at (slice_get t.definitions j)
     at None = refl
     at (Some d) = reads (block_numbers t.blocks 64 d.block) ∙ sym (block_nodes f t.blocks 64 d.block)
 
-pub around_same : (t : TreeValue) (f : BlockValue → List Node) (rows : List (List Node)) (js bs : List ℕ) (k : ℕ) → Holds (map f t.blocks) rows → HaveSame bs (flat_map (block_numbers_at t) js) → has_node (flat_map (λ b. get_or rows b []) bs) k ≡ list_any (λ j. has_node (option_map_or (λ d. flat_map f (blocks_around t d.block)) (slice_get t.definitions j) []) k) js
-around_same t f rows js bs k h e =
-    any_flat test (λ b. get_or rows b []) bs
-    ∙ any_same (λ b. has_node (get_or rows b []) k) bs (flat_map (block_numbers_at t) js) e
-    ∙ any_alike (λ b. has_node (get_or rows b []) k) (λ b. has_node (get_or (map f t.blocks) b []) k) (flat_map (block_numbers_at t) js) (λ b. h.each b k)
-    ∙ any_flat (λ b. has_node (get_or (map f t.blocks) b []) k) (block_numbers_at t) js
-    ∙ any_alike (λ j. list_any (λ b. has_node (get_or (map f t.blocks) b []) k) (block_numbers_at t j)) (λ j. has_node (option_map_or (λ d. flat_map f (blocks_around t d.block)) (slice_get t.definitions j) []) k) js
-    (λ j. sym (any_flat test (λ b. get_or (map f t.blocks) b []) (block_numbers_at t j)) ∙ ap (λ ns. has_node ns k) (around_nodes t f j))
-  where
-    test : Node → Bool
-    test n = eqb (number_of n) k
+-- in a tree of so many symbols
+module _ (symbols : ℕ) where
+  has_both : (xs ys : List Node) (k : ℕ) → has_node symbols (xs ++ ys) k ≡ (has_node symbols xs k || has_node symbols ys k)
+  has_both xs ys k = list_any-append (λ n. eqb (number_in symbols n) k) xs ys
 
--- ---- the dependencies of definitions
-dependency_parts : (t : TreeValue) (k j : ℕ) → (has_node (option_map_or (λ d. conditions_nodes t d.depends) (slice_get t.definitions j) []) k || has_node (depends_at t j) k) ≡ has_node (dependency_at t j) k
-dependency_parts t k j = at (slice_get t.definitions j)
-  where
-    at : (o : Option DefinitionValue) → (has_node (option_map_or (λ d. conditions_nodes t d.depends) o []) k || has_node (option_map_or (λ d. depends_nodes t (blocks_around t d.block)) o []) k) ≡ has_node (option_map_or (dependency_nodes t) o []) k
-    at None = refl
-    at (Some d) = sym (has_both (conditions_nodes t d.depends) (depends_nodes t (blocks_around t d.block)) k)
+  pub around_same : (t : TreeValue) (f : BlockValue → List Node) (rows : List (List Node)) (js bs : List ℕ) (k : ℕ) → Holds symbols (map f t.blocks) rows → HaveSame bs (flat_map (block_numbers_at t) js) → has_node symbols (flat_map (λ b. get_or rows b []) bs) k ≡ list_any (λ j. has_node symbols (option_map_or (λ d. flat_map f (blocks_around t d.block)) (slice_get t.definitions j) []) k) js
+  around_same t f rows js bs k h e =
+      any_flat test (λ b. get_or rows b []) bs
+      ∙ any_same (λ b. has_node symbols (get_or rows b []) k) bs (flat_map (block_numbers_at t) js) e
+      ∙ any_alike (λ b. has_node symbols (get_or rows b []) k) (λ b. has_node symbols (get_or (map f t.blocks) b []) k) (flat_map (block_numbers_at t) js) (λ b. h.each b k)
+      ∙ any_flat (λ b. has_node symbols (get_or (map f t.blocks) b []) k) (block_numbers_at t) js
+      ∙ any_alike (λ j. list_any (λ b. has_node symbols (get_or (map f t.blocks) b []) k) (block_numbers_at t j)) (λ j. has_node symbols (option_map_or (λ d. flat_map f (blocks_around t d.block)) (slice_get t.definitions j) []) k) js
+      (λ j. sym (any_flat test (λ b. get_or (map f t.blocks) b []) (block_numbers_at t j)) ∙ ap (λ ns. has_node symbols ns k) (around_nodes t f j))
+    where
+      test : Node → Bool
+      test n = eqb (number_in symbols n) k
 
-pub dependencies : (t : TreeValue) (own depends : List (List Node)) (js js₂ bs : List ℕ) → Holds (own_lists t) own → Holds (depends_lists t) depends → HaveSame js₂ js → HaveSame bs (flat_map (block_numbers_at t) js₂) → (k : ℕ) → has_node (flat_map (λ j. get_or own j []) js₂ ++ flat_map (λ b. get_or depends b []) bs) k ≡ has_node (flat_map (dependency_at t) js) k
-dependencies t own depends js js₂ bs f g e h k =
-    has_both (flat_map (λ j. get_or own j []) js₂) (flat_map (λ b. get_or depends b []) bs) k
-    ∙ ap (λ b. b || has_node (flat_map (λ b. get_or depends b []) bs) k) first
-    ∙ ap (λ b. list_any (λ j. has_node (option_map_or (λ d. conditions_nodes t d.depends) (slice_get t.definitions j) []) k) js₂ || b) (around_same t (λ b. conditions_nodes t b.depends) depends js₂ bs k g h)
-    ∙ sym (any_or (λ j. has_node (option_map_or (λ d. conditions_nodes t d.depends) (slice_get t.definitions j) []) k) (λ j. has_node (depends_at t j) k) js₂)
-    ∙ any_alike (λ j. has_node (option_map_or (λ d. conditions_nodes t d.depends) (slice_get t.definitions j) []) k || has_node (depends_at t j) k) (λ j. has_node (dependency_at t j) k) js₂ (dependency_parts t k)
-    ∙ any_same (λ j. has_node (dependency_at t j) k) js₂ js e
-    ∙ sym (any_flat test (dependency_at t) js)
-  where
-    test : Node → Bool
-    test n = eqb (number_of n) k
+  -- what the blocks from one outwards read
+  pub blocks_alike : (t : TreeValue) (f : BlockValue → List Node) (rows : List (List Node)) (id : Option BlockId) (bs : List ℕ) → Holds symbols (map f t.blocks) rows → bs ≡ block_numbers t.blocks 64 id → (k : ℕ) → has_node symbols (flat_map (λ b. get_or rows b []) bs) k ≡ has_node symbols (flat_map f (blocks_around t id)) k
+  blocks_alike t f rows id bs h e k =
+      any_flat test (λ b. get_or rows b []) bs
+      ∙ ap (list_any (λ b. has_node symbols (get_or rows b []) k)) e
+      ∙ any_alike (λ b. has_node symbols (get_or rows b []) k) (λ b. has_node symbols (option_map_or f (slice_get t.blocks b) []) k) (block_numbers t.blocks 64 id) (λ b. h.each b k ∙ ap (λ ns. has_node symbols ns k) (get_or_mapped f t.blocks b))
+      ∙ sym (any_flat test (λ b. option_map_or f (slice_get t.blocks b) []) (block_numbers t.blocks 64 id))
+      ∙ ap (λ ns. has_node symbols ns k) (sym (block_nodes f t.blocks 64 id))
+    where
+      test : Node → Bool
+      test n = eqb (number_in symbols n) k
 
-    first : has_node (flat_map (λ j. get_or own j []) js₂) k ≡ list_any (λ j. has_node (option_map_or (λ d. conditions_nodes t d.depends) (slice_get t.definitions j) []) k) js₂
-    first =
-        any_flat test (λ j. get_or own j []) js₂
-        ∙ any_alike (λ j. has_node (get_or own j []) k) (λ j. has_node (option_map_or (λ d. conditions_nodes t d.depends) (slice_get t.definitions j) []) k) js₂
-        (λ j. f.each j k ∙ ap (λ ns. has_node ns k) (get_or_mapped (λ d. conditions_nodes t d.depends) t.definitions j))
+  -- what the prompt of a choice reads
+  pub choice_prompt_alike : (t : TreeValue) (depends visible : List (List Node)) (own : List Node) (id : BlockId) (bs : List ℕ) → Holds symbols (depends_lists t) depends → Holds symbols (visible_lists t) visible → bs ≡ block_numbers t.blocks 64 (Some id) → (k : ℕ) → has_node symbols (own ++ (flat_map (λ b. get_or depends b []) bs ++ flat_map (λ b. get_or visible b []) bs)) k ≡ has_node symbols (own ++ (depends_nodes t (blocks_around t (Some id)) ++ visible_nodes t (blocks_around t (Some id)))) k
+  choice_prompt_alike t depends visible own id bs f g e k =
+      has_both own (flat_map (λ b. get_or depends b []) bs ++ flat_map (λ b. get_or visible b []) bs) k
+      ∙ ap (λ b. has_node symbols own k || b) (has_both (flat_map (λ b. get_or depends b []) bs) (flat_map (λ b. get_or visible b []) bs) k
+      ∙ ap (λ b. b || has_node symbols (flat_map (λ b. get_or visible b []) bs) k) (blocks_alike t (λ b. conditions_nodes t b.depends) depends (Some id) bs f e k)
+      ∙ ap (λ b. has_node symbols (depends_nodes t (blocks_around t (Some id))) k || b) (blocks_alike t (λ b. conditions_nodes t b.visible) visible (Some id) bs g e k)
+      ∙ sym (has_both (depends_nodes t (blocks_around t (Some id))) (visible_nodes t (blocks_around t (Some id))) k))
+      ∙ sym (has_both own (depends_nodes t (blocks_around t (Some id)) ++ visible_nodes t (blocks_around t (Some id))) k)
 
--- ---- what is computed from definitions
-definition_parts : (t : TreeValue) (k j : ℕ) → (has_node (defaults_at t j) k || has_node (dependency_at t j) k) ≡ option_map_or (λ d. has_node (definition_nodes t d) k) (slice_get t.definitions j) false
-definition_parts t k j = at (slice_get t.definitions j)
-  where
-    at : (o : Option DefinitionValue) → (has_node (option_map_or (λ d. flat_map (default_nodes t) d.defaults) o []) k || has_node (option_map_or (dependency_nodes t) o []) k) ≡ option_map_or (λ d. has_node (definition_nodes t d) k) o false
-    at None = refl
-    at (Some d) = sym (has_both (flat_map (default_nodes t) d.defaults) (dependency_nodes t d) k)
+  -- ---- the dependencies of definitions
+  dependency_parts : (t : TreeValue) (k j : ℕ) → (has_node symbols (option_map_or (λ d. conditions_nodes t d.depends) (slice_get t.definitions j) []) k || has_node symbols (depends_at t j) k) ≡ has_node symbols (dependency_at t j) k
+  dependency_parts t k j = at (slice_get t.definitions j)
+    where
+      at : (o : Option DefinitionValue) → (has_node symbols (option_map_or (λ d. conditions_nodes t d.depends) o []) k || has_node symbols (option_map_or (λ d. depends_nodes t (blocks_around t d.block)) o []) k) ≡ has_node symbols (option_map_or (dependency_nodes t) o []) k
+      at None = refl
+      at (Some d) = sym (has_both (conditions_nodes t d.depends) (depends_nodes t (blocks_around t d.block)) k)
 
-pub definitions_alike : (t : TreeValue) (js : List ℕ) (k : ℕ) → has_node (flat_map (defaults_at t) js ++ flat_map (dependency_at t) js) k ≡ has_node (flat_map (definition_nodes t) (filter_map (slice_get t.definitions) js)) k
-definitions_alike t js k =
-    has_both (flat_map (defaults_at t) js) (flat_map (dependency_at t) js) k
-    ∙ ap (λ b. b || has_node (flat_map (dependency_at t) js) k) (any_flat test (defaults_at t) js)
-    ∙ ap (λ b. list_any (λ j. has_node (defaults_at t j) k) js || b) (any_flat test (dependency_at t) js)
-    ∙ sym (any_or (λ j. has_node (defaults_at t j) k) (λ j. has_node (dependency_at t j) k) js)
-    ∙ any_alike (λ j. has_node (defaults_at t j) k || has_node (dependency_at t j) k) (λ j. option_map_or (λ d. has_node (definition_nodes t d) k) (slice_get t.definitions j) false) js (definition_parts t k)
-    ∙ sym (any_filtered (λ d. has_node (definition_nodes t d) k) (slice_get t.definitions) js)
-    ∙ sym (any_flat test (definition_nodes t) (filter_map (slice_get t.definitions) js))
-  where
-    test : Node → Bool
-    test n = eqb (number_of n) k
+  pub dependencies : (t : TreeValue) (own depends : List (List Node)) (js js₂ bs : List ℕ) → Holds symbols (own_lists t) own → Holds symbols (depends_lists t) depends → HaveSame js₂ js → HaveSame bs (flat_map (block_numbers_at t) js₂) → (k : ℕ) → has_node symbols (flat_map (λ j. get_or own j []) js₂ ++ flat_map (λ b. get_or depends b []) bs) k ≡ has_node symbols (flat_map (dependency_at t) js) k
+  dependencies t own depends js js₂ bs f g e h k =
+      has_both (flat_map (λ j. get_or own j []) js₂) (flat_map (λ b. get_or depends b []) bs) k
+      ∙ ap (λ b. b || has_node symbols (flat_map (λ b. get_or depends b []) bs) k) first
+      ∙ ap (λ b. list_any (λ j. has_node symbols (option_map_or (λ d. conditions_nodes t d.depends) (slice_get t.definitions j) []) k) js₂ || b) (around_same t (λ b. conditions_nodes t b.depends) depends js₂ bs k g h)
+      ∙ sym (any_or (λ j. has_node symbols (option_map_or (λ d. conditions_nodes t d.depends) (slice_get t.definitions j) []) k) (λ j. has_node symbols (depends_at t j) k) js₂)
+      ∙ any_alike (λ j. has_node symbols (option_map_or (λ d. conditions_nodes t d.depends) (slice_get t.definitions j) []) k || has_node symbols (depends_at t j) k) (λ j. has_node symbols (dependency_at t j) k) js₂ (dependency_parts t k)
+      ∙ any_same (λ j. has_node symbols (dependency_at t j) k) js₂ js e
+      ∙ sym (any_flat test (dependency_at t) js)
+    where
+      test : Node → Bool
+      test n = eqb (number_in symbols n) k
 
-reverse_parts : (t : TreeValue) (k : ℕ) (r : Reverse) → (has_node (source_nodes t r) k || has_node (dependency_at t r.definition) k) ≡ has_node (reverse_nodes t r) k
-reverse_parts t k r =
-    ap (λ b. b || has_node (dependency_at t r.definition) k) (has_both (symbol_nodes t r.by) (own_condition_nodes t r.condition) k)
-    ∙ or_assoc (has_node (symbol_nodes t r.by) k) (has_node (own_condition_nodes t r.condition) k) (has_node (dependency_at t r.definition) k)
-    ∙ ap (λ b. has_node (symbol_nodes t r.by) k || b) (sym (has_both (own_condition_nodes t r.condition) (dependency_at t r.definition) k))
-    ∙ sym (has_both (symbol_nodes t r.by) (own_condition_nodes t r.condition ++ dependency_at t r.definition) k)
+      first : has_node symbols (flat_map (λ j. get_or own j []) js₂) k ≡ list_any (λ j. has_node symbols (option_map_or (λ d. conditions_nodes t d.depends) (slice_get t.definitions j) []) k) js₂
+      first =
+          any_flat test (λ j. get_or own j []) js₂
+          ∙ any_alike (λ j. has_node symbols (get_or own j []) k) (λ j. has_node symbols (option_map_or (λ d. conditions_nodes t d.depends) (slice_get t.definitions j) []) k) js₂
+          (λ j. f.each j k ∙ ap (λ ns. has_node symbols ns k) (get_or_mapped (λ d. conditions_nodes t d.depends) t.definitions j))
 
-pub reverses_alike : (t : TreeValue) (rs : List Reverse) (k : ℕ) → has_node (flat_map (source_nodes t) rs ++ flat_map (dependency_at t) (map (λ r. r.definition) rs)) k ≡ has_node (flat_map (reverse_nodes t) rs) k
-reverses_alike t rs k =
-    has_both (flat_map (source_nodes t) rs) (flat_map (dependency_at t) (map (λ r. r.definition) rs)) k
-    ∙ ap (λ b. b || has_node (flat_map (dependency_at t) (map (λ r. r.definition) rs)) k) (any_flat test (source_nodes t) rs)
-    ∙ ap (λ b. list_any (λ r. has_node (source_nodes t r) k) rs || b) (any_flat test (dependency_at t) (map (λ r. r.definition) rs) ∙ any_map (λ j. has_node (dependency_at t j) k) (λ r. r.definition) rs)
-    ∙ sym (any_or (λ r. has_node (source_nodes t r) k) (λ r. has_node (dependency_at t r.definition) k) rs)
-    ∙ any_alike (λ r. has_node (source_nodes t r) k || has_node (dependency_at t r.definition) k) (λ r. has_node (reverse_nodes t r) k) rs (reverse_parts t k)
-    ∙ sym (any_flat test (reverse_nodes t) rs)
-  where
-    test : Node → Bool
-    test n = eqb (number_of n) k
+  -- ---- what is computed from definitions
+  definition_parts : (t : TreeValue) (k j : ℕ) → (has_node symbols (defaults_at t j) k || (has_node symbols (ranges_at t j) k || has_node symbols (dependency_at t j) k)) ≡ option_map_or (λ d. has_node symbols (definition_nodes t d) k) (slice_get t.definitions j) false
+  definition_parts t k j = at (slice_get t.definitions j)
+    where
+      at : (o : Option DefinitionValue) → (has_node symbols (option_map_or (λ d. flat_map (default_nodes t) d.defaults) o []) k || (has_node symbols (option_map_or (λ d. flat_map (range_nodes t) d.ranges) o []) k || has_node symbols (option_map_or (dependency_nodes t) o []) k)) ≡ option_map_or (λ d. has_node symbols (definition_nodes t d) k) o false
+      at None = refl
+      at (Some d) =
+          ap (λ b. has_node symbols (flat_map (default_nodes t) d.defaults) k || b) (sym (has_both (flat_map (range_nodes t) d.ranges) (dependency_nodes t d) k))
+          ∙ sym (has_both (flat_map (default_nodes t) d.defaults) (flat_map (range_nodes t) d.ranges ++ dependency_nodes t d) k)
 
--- ---- prompts
-prompt_parts : (t : TreeValue) (k j : ℕ) → (has_node (prompt_own_at t j) k || (list_any (λ i. has_node (dependency_at t i) k) (prompted_at t j) || list_any (λ i. has_node (visible_at t i) k) (prompted_at t j))) ≡ option_map_or (λ d. has_node (prompt_nodes t d) k) (slice_get t.definitions j) false
-prompt_parts t k j = at (slice_get t.definitions j) refl
-  where
-    of_prompt : (d : DefinitionValue) (o : Option Prompt) → slice_get t.definitions j ≡ Some d → (has_node (option_map_or (λ p. own_condition_nodes t p.condition) o []) k || (list_any (λ i. has_node (dependency_at t i) k) (option_map_or (λ p. j ∷ []) o []) || list_any (λ i. has_node (visible_at t i) k) (option_map_or (λ p. j ∷ []) o []))) ≡ has_node (option_map_or (λ p. own_condition_nodes t p.condition ++ (dependency_nodes t d ++ visible_nodes t (blocks_around t d.block))) o []) k
-    of_prompt d None e = refl
-    of_prompt d (Some p) e =
-        ap (λ b. has_node (own_condition_nodes t p.condition) k || (b || (has_node (visible_at t j) k || false))) (sym (or_false (has_node (dependency_at t j) k)) ∙ ap (λ (o : Option DefinitionValue). has_node (option_map_or (dependency_nodes t) o []) k) e)
-        ∙ ap (λ b. has_node (own_condition_nodes t p.condition) k || (has_node (dependency_nodes t d) k || b)) (sym (or_false (has_node (visible_at t j) k)) ∙ ap (λ (o : Option DefinitionValue). has_node (option_map_or (λ d. visible_nodes t (blocks_around t d.block)) o []) k) e)
-        ∙ ap (λ b. has_node (own_condition_nodes t p.condition) k || b) (sym (has_both (dependency_nodes t d) (visible_nodes t (blocks_around t d.block)) k))
-        ∙ sym (has_both (own_condition_nodes t p.condition) (dependency_nodes t d ++ visible_nodes t (blocks_around t d.block)) k)
+  pub definitions_alike : (t : TreeValue) (js : List ℕ) (k : ℕ) → has_node symbols (flat_map (defaults_at t) js ++ (flat_map (ranges_at t) js ++ flat_map (dependency_at t) js)) k ≡ has_node symbols (flat_map (definition_nodes t) (filter_map (slice_get t.definitions) js)) k
+  definitions_alike t js k =
+      has_both (flat_map (defaults_at t) js) (flat_map (ranges_at t) js ++ flat_map (dependency_at t) js) k
+      ∙ ap (λ b. has_node symbols (flat_map (defaults_at t) js) k || b) rest
+      ∙ ap (λ b. b || list_any (λ j. has_node symbols (ranges_at t j) k || has_node symbols (dependency_at t j) k) js) (any_flat test (defaults_at t) js)
+      ∙ sym (any_or (λ j. has_node symbols (defaults_at t j) k) (λ j. has_node symbols (ranges_at t j) k || has_node symbols (dependency_at t j) k) js)
+      ∙ any_alike (λ j. has_node symbols (defaults_at t j) k || (has_node symbols (ranges_at t j) k || has_node symbols (dependency_at t j) k)) (λ j. option_map_or (λ d. has_node symbols (definition_nodes t d) k) (slice_get t.definitions j) false) js (definition_parts t k)
+      ∙ sym (any_filtered (λ d. has_node symbols (definition_nodes t d) k) (slice_get t.definitions) js)
+      ∙ sym (any_flat test (definition_nodes t) (filter_map (slice_get t.definitions) js))
+    where
+      test : Node → Bool
+      test n = eqb (number_in symbols n) k
 
-    at : (o : Option DefinitionValue) → slice_get t.definitions j ≡ o → (has_node (option_map_or (λ d. option_map_or (λ p. own_condition_nodes t p.condition) d.prompt []) o []) k || (list_any (λ i. has_node (dependency_at t i) k) (option_map_or (λ d. option_map_or (λ p. j ∷ []) d.prompt []) o []) || list_any (λ i. has_node (visible_at t i) k) (option_map_or (λ d. option_map_or (λ p. j ∷ []) d.prompt []) o []))) ≡ option_map_or (λ d. has_node (prompt_nodes t d) k) o false
-    at None e = refl
-    at (Some d) e = of_prompt d d.prompt e
+      rest : has_node symbols (flat_map (ranges_at t) js ++ flat_map (dependency_at t) js) k ≡ list_any (λ j. has_node symbols (ranges_at t j) k || has_node symbols (dependency_at t j) k) js
+      rest =
+          has_both (flat_map (ranges_at t) js) (flat_map (dependency_at t) js) k
+          ∙ ap (λ b. b || has_node symbols (flat_map (dependency_at t) js) k) (any_flat test (ranges_at t) js)
+          ∙ ap (λ b. list_any (λ j. has_node symbols (ranges_at t j) k) js || b) (any_flat test (dependency_at t) js)
+          ∙ sym (any_or (λ j. has_node symbols (ranges_at t j) k) (λ j. has_node symbols (dependency_at t j) k) js)
 
-pub prompts_alike : (t : TreeValue) (visible : List (List Node)) (js ps bs : List ℕ) → ps ≡ flat_map (prompted_at t) js → Holds (visible_lists t) visible → HaveSame bs (flat_map (block_numbers_at t) ps) → (k : ℕ) → has_node (flat_map (prompt_own_at t) js ++ (flat_map (dependency_at t) ps ++ flat_map (λ b. get_or visible b []) bs)) k ≡ has_node (flat_map (prompt_nodes t) (filter_map (slice_get t.definitions) js)) k
-prompts_alike t visible js ps bs e h g k =
-    has_both (flat_map (prompt_own_at t) js) (flat_map (dependency_at t) ps ++ flat_map (λ b. get_or visible b []) bs) k
-    ∙ ap (λ b. has_node (flat_map (prompt_own_at t) js) k || b) (has_both (flat_map (dependency_at t) ps) (flat_map (λ b. get_or visible b []) bs) k ∙ ap (λ b. b || has_node (flat_map (λ b. get_or visible b []) bs) k) depends_there ∙ ap (λ b. list_any (λ j. list_any dep (prompted_at t j)) js || b) visible_there)
-    ∙ ap (λ b. b || (list_any (λ j. list_any dep (prompted_at t j)) js || list_any (λ j. list_any vis (prompted_at t j)) js)) (any_flat test (prompt_own_at t) js)
-    ∙ ap (λ b. list_any (λ j. has_node (prompt_own_at t j) k) js || b) (sym (any_or (λ j. list_any dep (prompted_at t j)) (λ j. list_any vis (prompted_at t j)) js))
-    ∙ sym (any_or (λ j. has_node (prompt_own_at t j) k) (λ j. list_any dep (prompted_at t j) || list_any vis (prompted_at t j)) js)
-    ∙ any_alike (λ j. has_node (prompt_own_at t j) k || (list_any dep (prompted_at t j) || list_any vis (prompted_at t j))) (λ j. option_map_or (λ d. has_node (prompt_nodes t d) k) (slice_get t.definitions j) false) js (prompt_parts t k)
-    ∙ sym (any_filtered (λ d. has_node (prompt_nodes t d) k) (slice_get t.definitions) js)
-    ∙ sym (any_flat test (prompt_nodes t) (filter_map (slice_get t.definitions) js))
-  where
-    test : Node → Bool
-    test n = eqb (number_of n) k
+  reverse_parts : (t : TreeValue) (k : ℕ) (r : Reverse) → (has_node symbols (source_nodes t r) k || has_node symbols (dependency_at t r.definition) k) ≡ has_node symbols (reverse_nodes t r) k
+  reverse_parts t k r =
+      ap (λ b. b || has_node symbols (dependency_at t r.definition) k) (has_both (symbol_nodes t r.by) (own_condition_nodes t r.condition) k)
+      ∙ or_assoc (has_node symbols (symbol_nodes t r.by) k) (has_node symbols (own_condition_nodes t r.condition) k) (has_node symbols (dependency_at t r.definition) k)
+      ∙ ap (λ b. has_node symbols (symbol_nodes t r.by) k || b) (sym (has_both (own_condition_nodes t r.condition) (dependency_at t r.definition) k))
+      ∙ sym (has_both (symbol_nodes t r.by) (own_condition_nodes t r.condition ++ dependency_at t r.definition) k)
 
-    dep : ℕ → Bool
-    dep i = has_node (dependency_at t i) k
+  pub reverses_alike : (t : TreeValue) (rs : List Reverse) (k : ℕ) → has_node symbols (flat_map (source_nodes t) rs ++ flat_map (dependency_at t) (map (λ r. r.definition) rs)) k ≡ has_node symbols (flat_map (reverse_nodes t) rs) k
+  reverses_alike t rs k =
+      has_both (flat_map (source_nodes t) rs) (flat_map (dependency_at t) (map (λ r. r.definition) rs)) k
+      ∙ ap (λ b. b || has_node symbols (flat_map (dependency_at t) (map (λ r. r.definition) rs)) k) (any_flat test (source_nodes t) rs)
+      ∙ ap (λ b. list_any (λ r. has_node symbols (source_nodes t r) k) rs || b) (any_flat test (dependency_at t) (map (λ r. r.definition) rs) ∙ any_map (λ j. has_node symbols (dependency_at t j) k) (λ r. r.definition) rs)
+      ∙ sym (any_or (λ r. has_node symbols (source_nodes t r) k) (λ r. has_node symbols (dependency_at t r.definition) k) rs)
+      ∙ any_alike (λ r. has_node symbols (source_nodes t r) k || has_node symbols (dependency_at t r.definition) k) (λ r. has_node symbols (reverse_nodes t r) k) rs (reverse_parts t k)
+      ∙ sym (any_flat test (reverse_nodes t) rs)
+    where
+      test : Node → Bool
+      test n = eqb (number_in symbols n) k
 
-    vis : ℕ → Bool
-    vis i = has_node (visible_at t i) k
+  -- ---- prompts
+  prompt_parts : (t : TreeValue) (k j : ℕ) → (has_node symbols (prompt_own_at t j) k || (list_any (λ i. has_node symbols (dependency_at t i) k) (prompted_at t j) || list_any (λ i. has_node symbols (visible_at t i) k) (prompted_at t j))) ≡ option_map_or (λ d. has_node symbols (prompt_nodes t d) k) (slice_get t.definitions j) false
+  prompt_parts t k j = at (slice_get t.definitions j) refl
+    where
+      of_prompt : (d : DefinitionValue) (o : Option Prompt) → slice_get t.definitions j ≡ Some d → (has_node symbols (option_map_or (λ p. own_condition_nodes t p.condition) o []) k || (list_any (λ i. has_node symbols (dependency_at t i) k) (option_map_or (λ p. j ∷ []) o []) || list_any (λ i. has_node symbols (visible_at t i) k) (option_map_or (λ p. j ∷ []) o []))) ≡ has_node symbols (option_map_or (λ p. own_condition_nodes t p.condition ++ (dependency_nodes t d ++ visible_nodes t (blocks_around t d.block))) o []) k
+      of_prompt d None e = refl
+      of_prompt d (Some p) e =
+          ap (λ b. has_node symbols (own_condition_nodes t p.condition) k || (b || (has_node symbols (visible_at t j) k || false))) (sym (or_false (has_node symbols (dependency_at t j) k)) ∙ ap (λ (o : Option DefinitionValue). has_node symbols (option_map_or (dependency_nodes t) o []) k) e)
+          ∙ ap (λ b. has_node symbols (own_condition_nodes t p.condition) k || (has_node symbols (dependency_nodes t d) k || b)) (sym (or_false (has_node symbols (visible_at t j) k)) ∙ ap (λ (o : Option DefinitionValue). has_node symbols (option_map_or (λ d. visible_nodes t (blocks_around t d.block)) o []) k) e)
+          ∙ ap (λ b. has_node symbols (own_condition_nodes t p.condition) k || b) (sym (has_both (dependency_nodes t d) (visible_nodes t (blocks_around t d.block)) k))
+          ∙ sym (has_both (own_condition_nodes t p.condition) (dependency_nodes t d ++ visible_nodes t (blocks_around t d.block)) k)
 
-    depends_there : has_node (flat_map (dependency_at t) ps) k ≡ list_any (λ j. list_any dep (prompted_at t j)) js
-    depends_there = any_flat test (dependency_at t) ps ∙ ap (list_any dep) e ∙ any_flat dep (prompted_at t) js
+      at : (o : Option DefinitionValue) → slice_get t.definitions j ≡ o → (has_node symbols (option_map_or (λ d. option_map_or (λ p. own_condition_nodes t p.condition) d.prompt []) o []) k || (list_any (λ i. has_node symbols (dependency_at t i) k) (option_map_or (λ d. option_map_or (λ p. j ∷ []) d.prompt []) o []) || list_any (λ i. has_node symbols (visible_at t i) k) (option_map_or (λ d. option_map_or (λ p. j ∷ []) d.prompt []) o []))) ≡ option_map_or (λ d. has_node symbols (prompt_nodes t d) k) o false
+      at None e = refl
+      at (Some d) e = of_prompt d d.prompt e
 
-    visible_there : has_node (flat_map (λ b. get_or visible b []) bs) k ≡ list_any (λ j. list_any vis (prompted_at t j)) js
-    visible_there = around_same t (λ b. conditions_nodes t b.visible) visible ps bs k h g ∙ ap (list_any vis) e ∙ any_flat vis (prompted_at t) js
+  pub prompts_alike : (t : TreeValue) (visible : List (List Node)) (js ps bs : List ℕ) → ps ≡ flat_map (prompted_at t) js → Holds symbols (visible_lists t) visible → HaveSame bs (flat_map (block_numbers_at t) ps) → (k : ℕ) → has_node symbols (flat_map (prompt_own_at t) js ++ (flat_map (dependency_at t) ps ++ flat_map (λ b. get_or visible b []) bs)) k ≡ has_node symbols (flat_map (prompt_nodes t) (filter_map (slice_get t.definitions) js)) k
+  prompts_alike t visible js ps bs e h g k =
+      has_both (flat_map (prompt_own_at t) js) (flat_map (dependency_at t) ps ++ flat_map (λ b. get_or visible b []) bs) k
+      ∙ ap (λ b. has_node symbols (flat_map (prompt_own_at t) js) k || b) (has_both (flat_map (dependency_at t) ps) (flat_map (λ b. get_or visible b []) bs) k ∙ ap (λ b. b || has_node symbols (flat_map (λ b. get_or visible b []) bs) k) depends_there ∙ ap (λ b. list_any (λ j. list_any dep (prompted_at t j)) js || b) visible_there)
+      ∙ ap (λ b. b || (list_any (λ j. list_any dep (prompted_at t j)) js || list_any (λ j. list_any vis (prompted_at t j)) js)) (any_flat test (prompt_own_at t) js)
+      ∙ ap (λ b. list_any (λ j. has_node symbols (prompt_own_at t j) k) js || b) (sym (any_or (λ j. list_any dep (prompted_at t j)) (λ j. list_any vis (prompted_at t j)) js))
+      ∙ sym (any_or (λ j. has_node symbols (prompt_own_at t j) k) (λ j. list_any dep (prompted_at t j) || list_any vis (prompted_at t j)) js)
+      ∙ any_alike (λ j. has_node symbols (prompt_own_at t j) k || (list_any dep (prompted_at t j) || list_any vis (prompted_at t j))) (λ j. option_map_or (λ d. has_node symbols (prompt_nodes t d) k) (slice_get t.definitions j) false) js (prompt_parts t k)
+      ∙ sym (any_filtered (λ d. has_node symbols (prompt_nodes t d) k) (slice_get t.definitions) js)
+      ∙ sym (any_flat test (prompt_nodes t) (filter_map (slice_get t.definitions) js))
+    where
+      test : Node → Bool
+      test n = eqb (number_in symbols n) k
+
+      dep : ℕ → Bool
+      dep i = has_node symbols (dependency_at t i) k
+
+      vis : ℕ → Bool
+      vis i = has_node symbols (visible_at t i) k
+
+      depends_there : has_node symbols (flat_map (dependency_at t) ps) k ≡ list_any (λ j. list_any dep (prompted_at t j)) js
+      depends_there = any_flat test (dependency_at t) ps ∙ ap (list_any dep) e ∙ any_flat dep (prompted_at t) js
+
+      visible_there : has_node symbols (flat_map (λ b. get_or visible b []) bs) k ≡ list_any (λ j. list_any vis (prompted_at t j)) js
+      visible_there = around_same t (λ b. conditions_nodes t b.visible) visible ps bs k h g ∙ ap (list_any vis) e ∙ any_flat vis (prompted_at t) js

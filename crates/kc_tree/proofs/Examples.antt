@@ -1,16 +1,23 @@
 -- What the definitions give for small lists of lines.
-use Rattle.std.proofs.Common.{◌≡◌, ℕ, false, List, [], ◌∷◌, Some, None, codes, refl}
+use Rattle.std.proofs.Common.{◌≡◌, ℕ, ◌-◌, ◌^◌, false, List, [], ◌∷◌, Some, None, codes, refl, sym, subst}
+use Rattle.std.specs.Prelude.{pos, neg_ℤ}
 use Rattle.kc_text.specs.LineValue.{LineValue}
 use Rattle.kc_text.specs.declared.line.LineKind.TheVariants.{Statement, EndOfFile}
 use Rattle.kc_text.specs.declared.line.Operator.TheVariants as sign
 use Rattle.kc_text.specs.declared.line.Token.{Token}
 use Rattle.kc_text.specs.declared.line.Token.TheVariants.{Word, Quoted, Operator}
 use Rattle.kc_tree.specs.declared.expr.Comparison.TheVariants as comparison
-use Rattle.kc_tree.specs.declared.expr.Term.TheVariants.{Tri, Symbol, Undefined}
+use Rattle.kc_tree.specs.declared.expr.Term.TheVariants.{Tri, Text, Symbol, Undefined}
 use Rattle.kc_tree.specs.declared.tri.Tri.TheVariants.{Module, Yes}
 use Rattle.kc_tree.specs.declared.place.Owner.TheVariants.{Definition, Menu}
 use Rattle.kc_tree.specs.declared.fault.TreeProblem.TheVariants.{LeftOut, StrayAttribute, UnbalancedBlock, UnknownStatement}
-use Rattle.kc_tree.specs.Grammar.{Derives, atom, compare, negation, both, either, group}
+use Rattle.kc_tree.specs.declared.expr.Expr.{Expr}
+use Rattle.kc_tree.specs.declared.definition.Range.{Range}
+use Rattle.kc_tree.specs.declared.keyword.Keyword.TheVariants as keyword
+use Rattle.kc_tree.specs.declared.statement.Statement.TheVariants as statement
+use Rattle.kc_tree.specs.Grammar.{Derives, atom, compare, negation, both, either, group, term, symbol_of, formula, term_alone, lone_term}
+use Rattle.kc_tree.specs.Statements.{HasForm}
+use Rattle.kc_tree.specs.Numerals.{int_numeral, hex_numeral}
 use Rattle.kc_tree.specs.LineFaults.{early_problem}
 use Rattle.kc_tree.specs.Names.{names_of}
 use Rattle.kc_tree.specs.Places.{open_blocks, innermost, owner_at}
@@ -99,3 +106,63 @@ not_equal_and_group : Derives (codes "A" ∷ [])
     (both (negation (compare comparison.Equal (Symbol (record { 0 = 0 })) (Tri Yes)))
     (group (either (atom (Tri Module)) (atom (Undefined (codes "B"))))))
 not_equal_and_group = record { level = (tt, (tt, tt)); is = refl }
+
+-- ---- terms: `(A)` is one in its parentheses, and none without dropping them
+in_parentheses : lone_term (group (atom (Symbol (record { 0 = 0 })))) ≡ Some (Symbol (record { 0 = 0 }))
+in_parentheses = refl
+
+not_alone : term_alone (group (atom (Symbol (record { 0 = 0 })))) ≡ None
+not_alone = refl
+
+-- `'y'` is a text
+quoted_constant : symbol_of [] (Quoted (codes "y")) ≡ term (Text (codes "y"))
+quoted_constant = refl
+
+-- ---- forms: `range 1 5`, and `default A`
+abbrev one_to_five : Range
+one_to_five = record { low = Undefined (codes "1"); high = Undefined (codes "5"); condition = None }
+
+range_of_two : HasForm [] (line 0 (word (codes "range") ∷ word (codes "1") ∷ word (codes "5") ∷ [])) (statement.Range one_to_five)
+unfolding HasForm
+range_of_two = (keyword.Range, refl, (refl, (word (codes "1"), word (codes "5"), [], refl, refl, refl, refl)))
+
+default_of_a_name : (e : Expr) → formula e ≡ atom (Symbol (record { 0 = 0 }))
+    → HasForm (codes "A" ∷ []) (line 0 (word (codes "default") ∷ word (codes "A") ∷ [])) (statement.Default (record { value = e; condition = None }))
+unfolding HasForm
+default_of_a_name e is =
+    let derived : Derives (codes "A" ∷ []) (word (codes "A") ∷ []) (atom (Symbol (record { 0 = 0 }))) = record { level = tt; is = refl } in
+    (keyword.Default, refl, (refl, (word (codes "A") ∷ [], [], refl, subst (Derives (codes "A" ∷ []) (word (codes "A") ∷ [])) (sym is) derived, refl)))
+
+-- ---- numerals: the edges of both types
+int_lowest : int_numeral (codes "-9223372036854775808") ≡ Some (neg_ℤ (pos (2 ^ 63)))
+int_lowest = refl
+
+int_below : int_numeral (codes "-9223372036854775809") ≡ None
+int_below = refl
+
+int_highest : int_numeral (codes "9223372036854775807") ≡ Some (pos (2 ^ 63 - 1))
+int_highest = refl
+
+int_above : int_numeral (codes "9223372036854775808") ≡ None
+int_above = refl
+
+int_minus_zero : int_numeral (codes "-0") ≡ Some (pos 0)
+int_minus_zero = refl
+
+int_leading_zeros : int_numeral (codes "007") ≡ Some (pos 7)
+int_leading_zeros = refl
+
+int_of_no_digits : int_numeral (codes "-") ≡ None
+int_of_no_digits = refl
+
+hex_highest : hex_numeral (codes "0xffffffffffffffff") ≡ Some (pos (2 ^ 64 - 1))
+hex_highest = refl
+
+hex_above : hex_numeral (codes "0x10000000000000000") ≡ None
+hex_above = refl
+
+hex_capital_sign : hex_numeral (codes "0X1f") ≡ Some (pos 31)
+hex_capital_sign = refl
+
+hex_without_sign : hex_numeral (codes "1F") ≡ Some (pos 31)
+hex_without_sign = refl

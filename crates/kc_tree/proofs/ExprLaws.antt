@@ -1,21 +1,14 @@
 -- What the parts of an expression read.
-use Rattle.std.proofs.Common.{◌≡◌, ◌⊎◌, inl, inr, ◌∙◌, ap, sym, map, Vec, rules}
+use Rattle.std.proofs.Common.{◌≡◌, ◌⊎◌, inl, inr, ◌∙◌, ap, sym, Vec}
 use Rattle.std.specs.Global.{Global}
 use Rattle.std.specs.List.{flat_map, list_any}
-use Rattle.kc_tree.specs.declared.expr.Expr.{Expr, the_lemmas}
-use Rattle.kc_tree.specs.declared.expr.Expr.TheFolds.{fold-roll-Expr}
-use Rattle.kc_tree.specs.declared.expr.Expr.TheOpen as layer
+use Rattle.kc_tree.specs.declared.expr.Expr.{Expr}
 use Rattle.kc_tree.specs.declared.expr.Expr.TheViews as view
 use Rattle.kc_tree.specs.TreeValue.{TreeValue}
-use Rattle.kc_tree.specs.Grammar.{Formula, formula, formula_step, joined, both, either}
+use Rattle.kc_tree.specs.Grammar.{formula}
 use Rattle.kc_tree.specs.Uses.{formula_nodes, value_nodes, has_bare_module}
+use Rattle.kc_tree.proofs.FormulaLaws.{formula_all, formula_any}
 use Rattle.kc_tree.proofs.CollectedLaws.{joined_both, joined_either, bare_both, bare_either}
-
-formula_all : (ps : Vec Expr Global) → formula (view.All ps) ≡ joined both (map formula ps.items)
-formula_all ps = ap formula (sym (view.rolls-All ps)) ∙ fold-roll-Expr Formula formula_step (layer.All ps)
-
-formula_any : (ps : Vec Expr Global) → formula (view.Any ps) ≡ joined either (map formula ps.items)
-formula_any ps = search (rules, the_lemmas)
 
 -- the nodes of the parts, however they are joined
 pub value_parts : (t : TreeValue) (e : Expr) (ps : Vec Expr Global) → (e ≡ view.All ps) ⊎ (e ≡ view.Any ps) → flat_map (value_nodes t) ps.items ≡ value_nodes t e

@@ -8,16 +8,16 @@ use Rattle.kc_tree.specs.Users.{times, uses_in, AddsCounts, HasRoom}
 use Rattle.kc_tree.proofs.RoomLaws.{HasRoom-less}
 use Rattle.kc_tree.proofs.UseCounts.{count_is}
 
-no_numbers : (n : ℕ) → numbers_of (replicate n []) ≡ replicate n []
-no_numbers zero = refl
-no_numbers (suc n) = ap (λ rows. [] ∷ rows) (no_numbers n)
+no_numbers : (symbols n : ℕ) → numbers_of symbols (replicate n []) ≡ replicate n []
+no_numbers symbols zero = refl
+no_numbers symbols (suc n) = ap (λ rows. [] ∷ rows) (no_numbers symbols n)
 
-module _ (g : List (List ℕ)) (counts rooms : List ℕ) (spans : List Span) (nodes : List Node) (counted : AddsCounts (replicate (length g) 0) counts (uses_in g)) (same : rooms ≡ counts) (empty : rows_in nodes spans ≡ replicate (length rooms) []) where
+module _ (symbols : ℕ) (g : List (List ℕ)) (counts rooms : List ℕ) (spans : List Span) (nodes : List Node) (counted : AddsCounts (replicate (length g) 0) counts (uses_in g)) (same : rooms ≡ counts) (empty : rows_in nodes spans ≡ replicate (length rooms) []) where
   wide : length rooms ≡ length g
   wide = ap length same ∙ counted.size ∙ length-replicate {A = ℕ} (length g) 0
 
-  pub first_users : numbers_of (rows_in nodes spans) ≡ replicate (length g) []
-  first_users = ap numbers_of empty ∙ no_numbers (length rooms) ∙ ap (λ n. replicate n []) wide
+  pub first_users : numbers_of symbols (rows_in nodes spans) ≡ replicate (length g) []
+  first_users = ap (numbers_of symbols) empty ∙ no_numbers symbols (length rooms) ∙ ap (λ n. replicate n []) wide
 
   pub first_rooms : HasRoom spans (length nodes) (slice_index rooms) → HasRoom spans (length nodes) (times (uses_in g))
   first_rooms r =

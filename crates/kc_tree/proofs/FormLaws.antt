@@ -21,19 +21,28 @@ use Rattle.kc_tree.specs.TreeValue.{symbol_among}
 type_word_is_other : (k : SymbolType) → is_config_word (type_word k) ≡ false
 type_word_is_other kind.Bool = refl
 type_word_is_other kind.Tristate = refl
+type_word_is_other kind.String = refl
+type_word_is_other kind.Int = refl
+type_word_is_other kind.Hex = refl
 
-default_word_is_other : (k : SymbolType) → is_config_word (default_word k) ≡ false
-default_word_is_other kind.Bool = refl
-default_word_is_other kind.Tristate = refl
+default_word_is_other : (t : SymbolType) (k : Keyword) → default_word t ≡ Some k → is_config_word k ≡ false
+default_word_is_other kind.Bool k e = let same : k ≡ keyword.DefBool = cc in ap is_config_word same
+default_word_is_other kind.Tristate k e = let same : k ≡ keyword.DefTristate = cc in ap is_config_word same
+default_word_is_other kind.String k e = absurd (cc)
+default_word_is_other kind.Int k e = absurd (cc)
+default_word_is_other kind.Hex k e = absurd (cc)
 
 module _ (names : List (List ℕ)) where
   -- the symbol that tokens define, by whether their first is `config`
   symbol_defined : Bool → List Token → Option SymId
   symbol_defined config tokens = option_and_then (symbol_among names) (cond config (name_alone tokens) None)
 
-  none_defined : (k j : Keyword) (tokens : List Token) → k ≡ j → is_config_word j ≡ false → symbol_defined (is_config_word k) tokens ≡ None
+  other_defines_none : (k : Keyword) (tokens : List Token) → is_config_word k ≡ false → symbol_defined (is_config_word k) tokens ≡ None
   unfolding symbol_defined
-  none_defined k j tokens e other = ap (λ b. symbol_defined b tokens) (ap is_config_word e ∙ other)
+  other_defines_none k tokens other = ap (λ b. symbol_defined b tokens) other
+
+  none_defined : (k j : Keyword) (tokens : List Token) → k ≡ j → is_config_word j ≡ false → symbol_defined (is_config_word k) tokens ≡ None
+  none_defined k j tokens e other = other_defines_none k tokens (ap is_config_word e ∙ other)
 
   one_defined : (k : Keyword) (first t : Token) (rest : List Token) (name : List ℕ) → k ≡ keyword.Config → rest ≡ t ∷ [] → name_word t ≡ Some name → symbol_defined (is_config_word k) (first ∷ rest) ≡ symbol_among names name
   unfolding symbol_defined
@@ -49,13 +58,16 @@ module _ (names : List (List ℕ)) where
   defined_after k first rest statement.EndMenu f = none_defined k keyword.EndMenu (first ∷ rest) f.0 refl
   defined_after k first rest (statement.If e) f = none_defined k keyword.If (first ∷ rest) f.0 refl
   defined_after k first rest statement.EndIf f = none_defined k keyword.EndIf (first ∷ rest) f.0 refl
+  defined_after k first rest statement.Choice f = none_defined k keyword.Choice (first ∷ rest) f.0 refl
+  defined_after k first rest statement.EndChoice f = none_defined k keyword.EndChoice (first ∷ rest) f.0 refl
   defined_after k first rest (statement.Comment title) f = none_defined k keyword.Comment (first ∷ rest) f.0 refl
   defined_after k first rest statement.MainMenu f = none_defined k keyword.MainMenu (first ∷ rest) f.0 refl
   defined_after k first rest (statement.Type t) f = none_defined k (type_word t) (first ∷ rest) f.0 (type_word_is_other t)
   defined_after k first rest (statement.TypeAndPrompt t p) f = none_defined k (type_word t) (first ∷ rest) f.0 (type_word_is_other t)
-  defined_after k first rest (statement.TypeAndDefault t d) f = none_defined k (default_word t) (first ∷ rest) f.0 (default_word_is_other t)
+  defined_after k first rest (statement.TypeAndDefault t d) f = other_defines_none k (first ∷ rest) (default_word_is_other t k f.0)
   defined_after k first rest (statement.Prompt p) f = none_defined k keyword.Prompt (first ∷ rest) f.0 refl
   defined_after k first rest (statement.Default d) f = none_defined k keyword.Default (first ∷ rest) f.0 refl
+  defined_after k first rest (statement.Range r) f = none_defined k keyword.Range (first ∷ rest) f.0 refl
   defined_after k first rest (statement.DependsOn e) f = none_defined k keyword.Depends (first ∷ rest) f.0 refl
   defined_after k first rest (statement.VisibleIf e) f = none_defined k keyword.Visible (first ∷ rest) f.0 refl
   defined_after k first rest (statement.Select s c) f = none_defined k keyword.Select (first ∷ rest) f.0 refl
@@ -63,6 +75,7 @@ module _ (names : List (List ℕ)) where
   defined_after k first rest statement.Modules (inl f) = none_defined k keyword.Modules (first ∷ rest) f.0 refl
   defined_after k first rest statement.Modules (inr f) = none_defined k keyword.Option (first ∷ rest) f.0 refl
   defined_after k first rest statement.AllNoConfigYes f = none_defined k keyword.Option (first ∷ rest) f.0 refl
+  defined_after k first rest statement.Optional f = none_defined k keyword.Optional (first ∷ rest) f.0 refl
   defined_after k first rest statement.Help f = none_defined k keyword.Help (first ∷ rest) f.0 refl
 
   defined_of : (kind : LineKind) (tokens : List Token) (s : Statement) → HasFormOf names kind tokens s → symbol_defined (option_map_or is_config_word (keyword_at kind tokens) false) tokens ≡ defined_in s

@@ -1,13 +1,14 @@
 -- What the variants of an expression stand for.
-use Rattle.std.proofs.Common.{◌≡◌, Box, Global, sym, ap, ◌∙◌}
+use Rattle.std.proofs.Common.{◌≡◌, Box, Vec, Global, map, sym, ap, ◌∙◌, rules}
 use Rattle.kc_tree.specs.declared.expr.Term.{Term}
 use Rattle.kc_tree.specs.declared.expr.Comparison.{Comparison}
 use Rattle.kc_tree.specs.declared.expr.Operands.{Operands}
-use Rattle.kc_tree.specs.declared.expr.Expr.{Expr}
+use Rattle.kc_tree.specs.declared.expr.Expr.{Expr, the_lemmas}
 use Rattle.kc_tree.specs.declared.expr.Expr.TheVariants as variant
+use Rattle.kc_tree.specs.declared.expr.Expr.TheViews as view
 use Rattle.kc_tree.specs.declared.expr.Expr.TheOpen.{Expr-F}
 use Rattle.kc_tree.specs.declared.expr.Expr.TheFolds.{fold-roll-Expr}
-use Rattle.kc_tree.specs.Grammar.{Formula, atom, compare, group, formula_step, formula}
+use Rattle.kc_tree.specs.Grammar.{Formula, atom, compare, group, both, either, joined, formula_step, formula}
 
 pub formula_term : (x : Term) → formula (variant.Term x) ≡ atom x
 formula_term x = ap formula (sym (variant.rolls-Term x)) ∙ fold-roll-Expr Formula formula_step (Expr-F.Term x)
@@ -17,3 +18,10 @@ formula_compare c o = ap formula (sym (variant.rolls-Compare c o)) ∙ fold-roll
 
 pub formula_group : (e : Box Expr Global) → formula (variant.Group e) ≡ group (formula e.value)
 formula_group e = ap formula (sym (variant.rolls-Group e)) ∙ fold-roll-Expr Formula formula_step (Expr-F.Group e)
+
+-- parts are joined
+pub formula_all : (ps : Vec Expr Global) → formula (view.All ps) ≡ joined both (map formula ps.items)
+formula_all ps = ap formula (sym (view.rolls-All ps)) ∙ fold-roll-Expr Formula formula_step (Expr-F.All ps)
+
+pub formula_any : (ps : Vec Expr Global) → formula (view.Any ps) ≡ joined either (map formula ps.items)
+formula_any ps = search (rules, the_lemmas)

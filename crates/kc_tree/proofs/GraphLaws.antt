@@ -1,13 +1,15 @@
 -- A graph with an order has no loop, and a closed one names only its own nodes.
-use Rattle.std.proofs.Common.{◌≡◌, ℕ, ◌+◌, ◌-◌, ◌<◌, List, [], ◌∷◌, All, Contains, length, zero, suc, get_or, map, slice_index, inl, inr, refl, ap, sym, subst, ◌∙◌, arith}
+use Rattle.std.proofs.Common.{◌≡◌, ℕ, ◌+◌, ◌-◌, ◌<◌, List, [], ◌∷◌, All, Some, None, length, zero, suc, get_or, map, slice_index, inl, inr, refl, ap, sym, ◌∙◌, arith}
+use Rattle.std.specs.List.{slice_get}
+use Rattle.std.specs.Option.{option_map}
 use Rattle.std.proofs.lemmas.Bool.{cases_lt}
 use Rattle.std.proofs.lemmas.List.{get_or_past, get_or_default, length-map}
-use Rattle.std.proofs.lemmas.List.Elements.{All-contains, All-get_or, All-map, Contains-get_or}
+use Rattle.std.proofs.lemmas.List.Elements.{All-contains, All-get_or, All-map}
+use Rattle.std.proofs.lemmas.Option.{slice_get-map, slice_get_within, get_or_from_slice_get}
 use Rattle.kc_tree.specs.declared.node.Node.{Node}
 use Rattle.kc_tree.specs.Graph.{row, Uses, IsClosed, IsOrder, IsLoop}
 use Rattle.kc_tree.specs.NodeRows.{numbers_of}
-use Rattle.kc_tree.specs.Nodes.{number_of}
-use Rattle.kc_tree.proofs.NodeNumbers.{Contains-map}
+use Rattle.kc_tree.specs.Nodes.{number_in}
 
 -- a node that uses another one has a row
 pub user-within : (g : List (List ℕ)) (p q : ℕ) → Uses g p q → p < length g
@@ -41,18 +43,32 @@ no_loop g order is_order nodes loop =
     none_below g order nodes is_order loop (placed.0 + 1) 0 placed.0 loop.some placed.1 (get_or_default order placed.0 _ _ placed.1 ∙ placed.2) (omega arith)
 
 -- a row of numbers is made of that of the nodes
-pub row_of_nodes : (rows : List (List Node)) (i : ℕ) → row (numbers_of rows) i ≡ map number_of (get_or rows i [])
-row_of_nodes [] i = refl
-row_of_nodes (r ∷ rows) zero = refl
-row_of_nodes (r ∷ rows) (suc i) = row_of_nodes rows i
+pub row_of_nodes : (symbols : ℕ) (rows : List (List Node)) (i : ℕ) → row (numbers_of symbols rows) i ≡ map (number_in symbols) (get_or rows i [])
+row_of_nodes symbols [] i = refl
+row_of_nodes symbols (r ∷ rows) zero = refl
+row_of_nodes symbols (r ∷ rows) (suc i) = row_of_nodes symbols rows i
 
--- the nodes of a row of a closed graph, as it lies in memory
-pub row_within : (rows : List (List Node)) (g : List (List ℕ)) (uses : List Node) (node : ℕ) → numbers_of rows ≡ g → IsClosed (numbers_of rows) → uses ≡ get_or rows node [] → All (λ used. number_of used < length g) uses
-row_within rows g uses node view closed read =
-    let is : row (numbers_of rows) node ≡ map number_of uses = row_of_nodes rows node ∙ ap (map number_of) (sym read) in
-    λ k d h.
-    let P : List ℕ → Type 0 = λ ks. Contains ks (number_of (get_or uses k d)) in
-    rw (← view) (closed node (number_of (get_or uses k d)) (subst P (sym is) (Contains-map number_of uses (get_or uses k d) (Contains-get_or uses k d h))))
+-- a row of a graph, as it lies in memory
+row_is : (symbols : ℕ) (rows : List (List Node)) (g : List (List ℕ)) (uses : List Node) (node : ℕ) → numbers_of symbols rows ≡ g → uses ≡ get_or rows node [] → row g node ≡ map (number_in symbols) uses
+row_is symbols rows g uses node view read = ap (λ h. row h node) (sym view) ∙ row_of_nodes symbols rows node ∙ ap (map (number_in symbols)) (sym read)
+
+-- the number of the node at a place of a row
+pub use_read : (symbols : ℕ) (rows : List (List Node)) (g : List (List ℕ)) (uses : List Node) (node place : ℕ) (n : Node) → numbers_of symbols rows ≡ g → uses ≡ get_or rows node [] → slice_get uses place ≡ Some n → slice_get (row g node) place ≡ Some (number_in symbols n)
+use_read symbols rows g uses node place n view read found =
+    ap (λ r. slice_get r place) (row_is symbols rows g uses node view read)
+    ∙ slice_get-map (number_in symbols) uses place
+    ∙ ap (option_map (number_in symbols)) found
+
+pub no_use_read : (symbols : ℕ) (rows : List (List Node)) (g : List (List ℕ)) (uses : List Node) (node place : ℕ) → numbers_of symbols rows ≡ g → uses ≡ get_or rows node [] → slice_get uses place ≡ None → slice_get (row g node) place ≡ None
+no_use_read symbols rows g uses node place view read missing =
+    ap (λ r. slice_get r place) (row_is symbols rows g uses node view read)
+    ∙ slice_get-map (number_in symbols) uses place
+    ∙ ap (option_map (number_in symbols)) missing
+
+-- a use of a closed graph has a row
+pub use_within : (g : List (List ℕ)) (node place used : ℕ) → IsClosed g → slice_get (row g node) place ≡ Some used → used < length g
+use_within g node place used closed found =
+    closed node used (place, slice_get_within (row g node) place used found, get_or_from_slice_get (row g node) place used used found)
 
 -- rows whose entries are all below their number are closed
 pub IsClosed-from_all : {X : Type 0} (numbers : X → List ℕ) (rows : List X) → All (λ r. All (λ used. used < length rows) (numbers r)) rows → IsClosed (map numbers rows)

@@ -1,7 +1,9 @@
+pub mod AddingChoices
 pub mod AddingEntries
 pub mod AddingParts
 pub mod AddingSymbols
 pub mod ChangeLaws
+pub mod ChoiceLines
 pub mod CollectedLaws
 pub mod ConditionStart
 pub mod DependencyLaws
@@ -15,12 +17,15 @@ pub mod GraphLaws
 pub mod JoinLaws
 pub mod LinkLaws
 pub mod ListLaws
+pub mod LoneLaws
 pub mod MarkLaws
 pub mod NamesLemmas
 pub mod NestingLaws
 pub mod NodeGraphLaws
 pub mod NodeNumbers
 pub mod NodeRowLaws
+pub mod NumeralLaws
+pub mod OpenChoices
 pub mod OrderLaws
 pub mod OutlineFacts
 pub mod OwnerLaws

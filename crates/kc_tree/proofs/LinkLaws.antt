@@ -1,5 +1,5 @@
 -- From an order or a loop of numbers to what the tree says of its nodes.
-use Rattle.std.proofs.Common.{subst, ◌∷◌, ◌≡◌, ℕ, ◌+◌, ◌-◌, ◌<◌, ◌≤◌, List, [], length, get_or, map, refl, sym, ap, inl, inr, ◌⊎◌, arith}
+use Rattle.std.proofs.Common.{subst, Some, None, ◌^◌, ◌∷◌, ◌≡◌, ℕ, ◌+◌, ◌-◌, ◌<◌, ◌≤◌, List, [], length, get_or, map, refl, sym, ap, inl, inr, ◌⊎◌, arith}
 use Rattle.std.specs.List.{All, Contains}
 use Rattle.std.proofs.lemmas.List.{get_or_past}
 use Rattle.std.proofs.lemmas.List.Elements.{All-from_get_or, All-map}
@@ -8,16 +8,22 @@ use Rattle.kc_tree.specs.declared.fault.NamedNode.{NamedNode}
 use Rattle.kc_tree.specs.declared.node.Node.{Node}
 use Rattle.kc_tree.specs.TreeValue.{TreeValue}
 use Rattle.kc_tree.specs.Nodes.{number_of, node_at}
-use Rattle.kc_tree.specs.NodeRows.{numbers_of}
+use Rattle.kc_tree.specs.NodeRows.{numbers_of, AreNumbered}
 use Rattle.kc_tree.specs.Order.{IsOrder, IsLoop}
 use Rattle.kc_tree.specs.declared.tree.Tree.TheInside.{Inside}
 use Rattle.kc_tree.specs.Inside.{tree_view, IsWellMade}
 use Rattle.kc_tree.specs.Accepted.{IsEntryOf}
-use Rattle.kc_tree.specs.Faults.{IsNamed, IsNamedLoop, IsLoopless}
-use Rattle.kc_tree.specs.Linked.{named_node}
+use Rattle.kc_text.specs.LineValue.{LineValue}
+use Rattle.kc_tree.specs.declared.id.ChoiceId.{ChoiceId}
+use Rattle.kc_tree.specs.declared.fault.TreeFault.{TreeFault}
+use Rattle.kc_tree.specs.declared.fault.TreeFault.TheVariants.{Line, Symbol, Choice, Loop, NoMemory}
+use Rattle.kc_tree.specs.declared.outline_faults.OutlineFault.TheVariants as outline_problem
+use Rattle.kc_tree.specs.OutlineFaults.{outline_fault}
+use Rattle.kc_tree.specs.Faults.{IsNamed, IsNamedLoop, IsLoopless, IsTreeProblem}
+use Rattle.kc_tree.specs.Linked.{named_node, IsLinkFault, IsToldChoice}
 use Rattle.kc_tree.specs.Graph as graph
 use Rattle.kc_tree.specs.NodeGraph.{IsGraphOf}
-use Rattle.kc_tree.proofs.NodeNumbers.{number_of-node_at, symbol_below, at_below}
+use Rattle.kc_tree.proofs.NodeNumbers.{at_below, below_at}
 use Rattle.kc_tree.proofs.WithinLaws.{used_within}
 use Rattle.kc_tree.proofs.NodeGraphLaws.{loop_of_nodes, loop_of_numbers, table_of_uses, table_of_users}
 
@@ -35,9 +41,9 @@ has_row g p q u = at (cases_lt p (length g))
 pub closed_graph : (t : TreeValue) (g : List (List ℕ)) → IsGraphOf t g → graph.IsClosed g
 closed_graph t g i p q u =
     let row = has_row g p q u in
-    let below = at_below p (length t.symbols) (omega (arith, i.whole)) in
-    let there = used_within t (node_at p) (node_at q) below ((i.exact p q).0 u) in
-    omega (arith, i.whole, number_of-node_at q, symbol_below (node_at q) (length t.symbols) there)
+    let below = at_below t p (omega (arith, i.whole)) in
+    let there = used_within t (node_at t p) (node_at t q) below ((i.exact p q).0 u) in
+    omega (arith, i.whole, below_at t q there)
 
 pub order_below : (g : List (List ℕ)) (b : ℕ) (order : List ℕ) → length g < b → graph.IsOrder g order → All (λ k. k < b) order
 order_below g b order l o = All-from_get_or (λ k. k < b) order 0 (λ i h. let below = o.within i h in omega arith)
@@ -54,36 +60,59 @@ loop_below g b nodes l o = All-from_get_or (λ k. k < b) nodes 0 (λ i h. below 
         let there = subst P last row in
         omega arith
 
-nodes_named : (names : List (List ℕ)) (numbers : List ℕ) → map (λ x. x.node) (map (named_node names) numbers) ≡ map node_at numbers
-nodes_named names [] = refl
-nodes_named names (k ∷ ks) = ap (λ ns. node_at k ∷ ns) (nodes_named names ks)
+nodes_named : (t : TreeValue) (numbers : List ℕ) → map (λ x. x.node) (map (named_node t) numbers) ≡ map (node_at t) numbers
+nodes_named t [] = refl
+nodes_named t (k ∷ ks) = ap (λ ns. node_at t k ∷ ns) (nodes_named t ks)
 
 -- a loop of numbers, as nodes with names
-pub named_loop : (t : TreeValue) (g : List (List ℕ)) (names : List (List ℕ)) (numbers : List ℕ) (nodes : List NamedNode) → graph.IsLoop g numbers → nodes ≡ map (named_node names) numbers → t.names ≡ names → IsGraphOf t g → IsNamedLoop t nodes
-named_loop t g names numbers nodes l e n h =
+pub named_loop : (t : TreeValue) (g : List (List ℕ)) (numbers : List ℕ) (nodes : List NamedNode) → graph.IsLoop g numbers → nodes ≡ map (named_node t) numbers → IsGraphOf t g → IsNamedLoop t nodes
+named_loop t g numbers nodes l e h =
     let P : List NamedNode → Type 0 = λ xs. IsNamedLoop t xs in
     let Q : List Node → Type 0 = λ ns. IsLoop t ns in
-    let R : List (List ℕ) → Type 0 = λ ns. All (IsNamed t) (map (named_node ns) numbers) in
-    let with_names : IsNamedLoop t (map (named_node names) numbers) = record {
-      loop = subst Q (sym (nodes_named names numbers)) (loop_of_nodes t g h numbers l);
-      named = subst R n (All-map (IsNamed t) (named_node t.names) numbers (λ k d i. refl));
+    let with_names : IsNamedLoop t (map (named_node t) numbers) = record {
+      loop = subst Q (sym (nodes_named t numbers)) (loop_of_nodes t g h numbers l);
+      named = All-map (IsNamed t) (named_node t) numbers (λ k d i. refl);
     } in
     subst P (sym e) with_names
 
 pub loopless_nodes : (t : TreeValue) (g : List (List ℕ)) → graph.HasNoLoop g → IsGraphOf t g → IsLoopless t
-loopless_nodes t g none h nodes l = none (map number_of nodes) (loop_of_numbers t g h nodes l)
+loopless_nodes t g none h nodes l = none (map (number_of t) nodes) (loop_of_numbers t g h nodes l)
+
+-- what stops the linking is what stops the making of the tree
+pub link_problem : (lines : List LineValue) (t : TreeValue) → outline_fault t ≡ None → (fault : TreeFault) → IsLinkFault t fault → IsTreeProblem lines t fault
+link_problem lines t none (Line problem path number) h = h
+link_problem lines t none (Symbol problem name) h = absurd h
+link_problem lines t none (Choice path number) h = absurd h
+link_problem lines t none (Loop nodes) h = (none, h)
+link_problem lines t none NoMemory h = h
+
+-- the fault of a choice that is told is that of the choice
+pub choice_problem : (lines : List LineValue) (t : TreeValue) (c : ChoiceId) → outline_fault t ≡ Some (outline_problem.Choice c) → (fault : TreeFault) → IsToldChoice lines c fault → IsTreeProblem lines t fault
+choice_problem lines t c is (Line problem path number) h = h
+choice_problem lines t c is (Symbol problem name) h = absurd h
+choice_problem lines t c is (Choice path number) h = record {
+  choice = c.0;
+  is = is;
+  line = h.line;
+  line_is = h.line_is;
+  path_is = h.path_is;
+  number_is = h.number_is;
+}
+choice_problem lines t c is (Loop nodes) h = absurd h
+choice_problem lines t c is NoMemory h = h
 
 -- the fields of a tree, from the graph of its nodes
-pub well_made : (a : Inside) → length a.symbols.items ≤ 65535 → length a.names ≡ length a.symbols.items → All (IsEntryOf (tree_view a)) a.entries.items → IsGraphOf (tree_view a) (numbers_of a.uses) → IsOrder (tree_view a) a.order.items → graph.IsConverse (numbers_of a.uses) (numbers_of a.used_by) → IsWellMade a
-well_made a few named entries h order converse = record {
+pub well_made : (a : Inside) → length a.symbols.items ≤ 65535 → length a.choices.items ≤ 2 ^ 30 → length a.names ≡ length a.symbols.items → All (IsEntryOf (tree_view a)) a.entries.items → IsGraphOf (tree_view a) (numbers_of (length a.symbols.items) a.uses) → AreNumbered (length a.symbols.items) a.uses → IsOrder (tree_view a) a.order.items → graph.IsConverse (numbers_of (length a.symbols.items) a.uses) (numbers_of (length a.symbols.items) a.used_by) → AreNumbered (length a.symbols.items) a.used_by → IsWellMade a
+well_made a few few_choices named entries h uses_numbered order converse users_numbered = record {
   accepted = record {
     few = few;
+    few_choices = few_choices;
     named = named;
     within = used_within (tree_view a);
     ordered = (a.order.items, order);
     entries = entries;
   };
   order = order;
-  uses = table_of_uses (tree_view a) a.uses h;
-  used_by = table_of_users (tree_view a) (numbers_of a.uses) a.used_by h converse;
+  uses = table_of_uses (tree_view a) a.uses (used_within (tree_view a)) uses_numbered h;
+  used_by = table_of_users (tree_view a) (numbers_of (length a.symbols.items) a.uses) a.used_by users_numbered h converse;
 }

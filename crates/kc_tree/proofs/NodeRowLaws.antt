@@ -1,13 +1,13 @@
 -- Rows of nodes in one list, a row at a time.
-use Rattle.std.proofs.Common.{◌≡◌, ℕ, ◌-◌, ◌≤◌, suc, List, [], ◌∷◌, ◌++◌, length, take, drop, map, All, refl, sym, ap, subst, ◌∙◌, arith, length-append, length-drop}
+use Rattle.std.proofs.Common.{◌≡◌, ℕ, ◌-◌, ◌≤◌, suc, List, [], ◌∷◌, ◌++◌, length, get_or, take, drop, map, All, refl, sym, ap, subst, ◌∙◌, arith, length-append, length-drop}
 use Rattle.std.proofs.Math.Seq.{drop-append_seam, take-length}
 use Rattle.std.proofs.lemmas.List.{map_push, take-append-le, drop-append-le}
-use Rattle.std.proofs.lemmas.List.Elements.{All-push}
+use Rattle.std.proofs.lemmas.List.Elements.{All-drop, All-map, All-nil, All-push, All-take}
 use Rattle.kc_tree.specs.declared.node.Node.{Node}
 use Rattle.kc_tree.specs.declared.node_rows.Span.{Span}
-use Rattle.kc_tree.specs.Nodes.{number_of, node_at}
-use Rattle.kc_tree.specs.NodeRows.{row_in, rows_in, numbers_of, FitsIn}
-use Rattle.kc_tree.proofs.NodeNumbers.{node_at-number_of, number_of-node_at}
+use Rattle.kc_tree.specs.Nodes.{number_in, node_in}
+use Rattle.kc_tree.specs.NodeRows.{row_in, rows_in, numbers_of, FitsIn, IsNumbered, AreNumbered}
+use Rattle.kc_tree.proofs.NodeNumbers.{number_in-node_in, numbered_in}
 
 -- spans that fit in a list fit in a longer one
 pub fit-longer : (spans : List Span) (n m : ℕ) → n ≤ m → All (FitsIn n) spans → All (FitsIn m) spans
@@ -68,19 +68,27 @@ module _ (spans spans' : List Span) (nodes nodes' : List Node) (more : List Node
       let Q : List Span → Type 0 = λ ss. All (FitsIn (length (nodes ++ more))) ss in
       subst P (sym added) (subst Q (sym spans_are) (fit-push nodes more spans fit))
 
-numbers_at : (numbers : List ℕ) → map number_of (map node_at numbers) ≡ numbers
-numbers_at [] = refl
-numbers_at (k ∷ ks) = ap (λ n. n ∷ map number_of (map node_at ks)) (number_of-node_at k) ∙ ap (λ ns. k ∷ ns) (numbers_at ks)
+module _ (symbols : ℕ) where
+  numbers_at : (numbers : List ℕ) → map (number_in symbols) (map (node_in symbols) numbers) ≡ numbers
+  numbers_at [] = refl
+  numbers_at (k ∷ ks) = ap (λ n. n ∷ map (number_in symbols) (map (node_in symbols) ks)) (number_in-node_in symbols k) ∙ ap (λ ns. k ∷ ns) (numbers_at ks)
 
--- the numbers of rows to which the nodes of numbers are added
-pub numbers_of-push : (rows : List (List Node)) (numbers : List ℕ) → numbers_of (rows ++ map node_at numbers ∷ []) ≡ numbers_of rows ++ numbers ∷ []
-numbers_of-push rows numbers = map_push (map number_of) rows (map node_at numbers) ∙ ap (λ r. numbers_of rows ++ r ∷ []) (numbers_at numbers)
+  -- the numbers of rows to which the nodes of numbers are added
+  pub numbers_of-push : (rows : List (List Node)) (numbers : List ℕ) → numbers_of symbols (rows ++ map (node_in symbols) numbers ∷ []) ≡ numbers_of symbols rows ++ numbers ∷ []
+  numbers_of-push rows numbers = map_push (map (number_in symbols)) rows (map (node_in symbols) numbers) ∙ ap (λ r. numbers_of symbols rows ++ r ∷ []) (numbers_at numbers)
 
-nodes_at : (nodes : List Node) → map node_at (map number_of nodes) ≡ nodes
-nodes_at [] = refl
-nodes_at (n ∷ ns) = ap (λ m. m ∷ map node_at (map number_of ns)) (node_at-number_of n) ∙ ap (λ ms. n ∷ ms) (nodes_at ns)
+  -- ---- nodes that are the ones of their numbers
+  pub AreNumbered-none : AreNumbered symbols []
+  AreNumbered-none = All-nil (All (IsNumbered symbols))
 
--- the nodes of the numbers of rows are those rows
-pub nodes_of-numbers_of : (rows : List (List Node)) → map (map node_at) (numbers_of rows) ≡ rows
-nodes_of-numbers_of [] = refl
-nodes_of-numbers_of (r ∷ rs) = ap (λ x. x ∷ map (map node_at) (numbers_of rs)) (nodes_at r) ∙ ap (λ xs. r ∷ xs) (nodes_of-numbers_of rs)
+  nodes_numbered : (numbers : List ℕ) → All (IsNumbered symbols) (map (node_in symbols) numbers)
+  nodes_numbered numbers = All-map (IsNumbered symbols) (node_in symbols) numbers (λ k d h. numbered_in symbols (get_or numbers k d))
+
+  pub AreNumbered-push : (rows : List (List Node)) (numbers : List ℕ) → AreNumbered symbols rows → AreNumbered symbols (rows ++ map (node_in symbols) numbers ∷ [])
+  AreNumbered-push rows numbers known = All-push (All (IsNumbered symbols)) rows (map (node_in symbols) numbers) known (nodes_numbered numbers)
+
+  -- rows that lie in nodes which are
+  pub AreNumbered-rows_in : (nodes : List Node) (spans : List Span) → All (IsNumbered symbols) nodes → AreNumbered symbols (rows_in nodes spans)
+  AreNumbered-rows_in nodes spans known =
+      All-map (All (IsNumbered symbols)) (row_in nodes) spans
+      (λ k d h. let s = get_or spans k d in All-take (IsNumbered symbols) (s.end - s.start) (drop s.start nodes) (All-drop (IsNumbered symbols) s.start nodes known))

@@ -15,6 +15,7 @@ use Rattle.kc_text.specs.declared.line.LineKind.TheVariants.{Statement as Statem
 use Rattle.kc_text.specs.declared.line.Token.{Token}
 use Rattle.kc_tree.specs.declared.id.SymId.{SymId}
 use Rattle.kc_tree.specs.declared.id.BlockId.{BlockId}
+use Rattle.kc_tree.specs.declared.id.ChoiceId.{ChoiceId}
 use Rattle.kc_tree.specs.declared.place.Owner.{Owner}
 use Rattle.kc_tree.specs.declared.place.Owner.TheVariants as owner
 use Rattle.kc_tree.specs.declared.statement.Statement.{Statement}
@@ -34,7 +35,7 @@ use Rattle.kc_tree.specs.Names.{names_of}
 use Rattle.kc_tree.specs.PlaceValue.{IsPlaceAfter}
 use Rattle.kc_tree.specs.Reader.{IsOutlineAfter, IsStop, IsToldFor}
 use Rattle.kc_tree.specs.Statements.{HasFormOf, HasForm}
-use Rattle.kc_tree.specs.TreeOf.{Reading, AreReadingsBefore, tree_of, symbol_at, symbol_entry, menu_entry, comment_entry, definition_number, entry_at, with_entry, entries_before}
+use Rattle.kc_tree.specs.TreeOf.{Reading, AreReadingsBefore, tree_of, symbol_at, symbol_entry, menu_entry, choice_entry, comment_entry, definition_number, entry_at, with_entry, entries_before}
 use Rattle.kc_tree.specs.TreeValue.{TreeValue}
 
 -- before the first line
@@ -84,36 +85,46 @@ module _ (names : List (List ℕ)) (t : TreeValue) (same : length t.symbols ≡ 
   menu_more es None all = all
   menu_more es (Some (owner.Definition s j)) all = all
   menu_more es (Some (owner.Menu b)) all = All-push (IsEntryOf t) es (entry.Menu b) all tt
+  menu_more es (Some (owner.Choice c b)) all = all
   menu_more es (Some (owner.Comment c)) all = all
+
+  choice_more : (es : List Entry) (o : Option Owner) → All (IsEntryOf t) es → All (IsEntryOf t) (with_entry es (choice_entry o))
+  choice_more es None all = all
+  choice_more es (Some (owner.Definition s j)) all = all
+  choice_more es (Some (owner.Menu b)) all = all
+  choice_more es (Some (owner.Choice c b)) all = All-push (IsEntryOf t) es (entry.Choice c) all tt
+  choice_more es (Some (owner.Comment c)) all = all
 
   comment_more : (es : List Entry) (o : Option Owner) → All (IsEntryOf t) es → All (IsEntryOf t) (with_entry es (comment_entry o))
   comment_more es None all = all
   comment_more es (Some (owner.Definition s j)) all = all
   comment_more es (Some (owner.Menu b)) all = all
+  comment_more es (Some (owner.Choice c b)) all = all
   comment_more es (Some (owner.Comment c)) all = All-push (IsEntryOf t) es (entry.Comment c) all tt
 
   end_more : (es : List Entry) (b : Option BlockId) → All (IsEntryOf t) es → All (IsEntryOf t) (with_entry es (option_map entry.EndMenu b))
   end_more es None all = all
   end_more es (Some b) all = All-push (IsEntryOf t) es (entry.EndMenu b) all tt
 
-  entry_more : (earlier : List Reading) (es : List Entry) (s : Statement) (b : Option BlockId) (o : Option Owner) → IsNamedIn names s
-      → All (IsEntryOf t) es → All (IsEntryOf t) (with_entry es (entry_at earlier (record { statement = s; block = b; owner = o })))
-  entry_more earlier es (statement.Config None) b o named all = all
-  entry_more earlier es (statement.Config (Some s)) b o named all =
+  entry_more : (earlier : List Reading) (es : List Entry) (s : Statement) (b : Option BlockId) (ch : Option ChoiceId) (o : Option Owner) → IsNamedIn names s
+      → All (IsEntryOf t) es → All (IsEntryOf t) (with_entry es (entry_at earlier (record { statement = s; block = b; choice = ch; owner = o })))
+  entry_more earlier es (statement.Config None) b ch o named all = all
+  entry_more earlier es (statement.Config (Some s)) b ch o named all =
       let within : s.0 < length t.symbols = omega (arith, named, same) in
       All-push (IsEntryOf t) es (symbol_entry earlier s) all
       (symbol_entry_within earlier s (filter_map (definition_number s) earlier) within refl)
-  entry_more earlier es (statement.Menu title) b o named all = menu_more es o all
-  entry_more earlier es statement.EndMenu b o named all = end_more es b all
-  entry_more earlier es (statement.Comment title) b o named all = comment_more es o all
-  entry_more earlier es _ b o named all = all
+  entry_more earlier es (statement.Menu title) b ch o named all = menu_more es o all
+  entry_more earlier es statement.EndMenu b ch o named all = end_more es b all
+  entry_more earlier es statement.Choice b ch o named all = choice_more es o all
+  entry_more earlier es (statement.Comment title) b ch o named all = comment_more es o all
+  entry_more earlier es _ b ch o named all = all
 
   entries_within : (following : ℕ) (lines : List LineValue) (qs : List Reading) → AreReadingsBefore names following lines qs → All (IsEntryOf t) (entries_before qs)
   entries_within following [] [] h = λ k d within. absurd (omega (arith, within))
   entries_within following [] (q ∷ qs) h = absurd h
   entries_within following (l ∷ lines) [] h = absurd h
   entries_within following (l ∷ lines) (q ∷ qs) h =
-      entry_more (reverse qs) (entries_before qs) q.statement q.block q.owner (named_by_form names l q.statement h.0.sound.form)
+      entry_more (reverse qs) (entries_before qs) q.statement q.block q.choice q.owner (named_by_form names l q.statement h.0.sound.form)
       (entries_within (following + 1) lines qs h.1)
 
 -- the symbols of the outline, one for each name
@@ -184,5 +195,6 @@ first_fault lines i l names t (Problem problem) (fault.Line p path number) is sa
       },
     )
 first_fault lines i l names t (Problem problem) (fault.Symbol p name) is same after stopped within tells = absurd tells
+first_fault lines i l names t (Problem problem) (fault.Choice path number) is same after stopped within tells = absurd tells
 first_fault lines i l names t (Problem problem) (fault.Loop nodes) is same after stopped within tells = absurd tells
 first_fault lines i l names t (Problem problem) fault.NoMemory is same after stopped within tells = tt

@@ -1,5 +1,5 @@
 -- Where a line stands, one line further on.
-use Rattle.std.proofs.Common.{◌≡◌, ℕ, zero, suc, ◌+◌, Bool, true, false, not, ◌&&◌, cond, List, [], ◌∷◌, drop, Option, Some, None, option_and_then, unwrap_or, count_by, find, refl, ap, sym, ◌∙◌, arith}
+use Rattle.std.proofs.Common.{◌≡◌, ℕ, zero, suc, ◌+◌, Bool, true, false, not, ◌&&◌, cond, if◌then◌else◌, List, [], ◌∷◌, drop, Option, Some, None, option_and_then, unwrap_or, count_by, find, refl, ap, sym, ◌∙◌, arith}
 use Rattle.std.specs.Option.{option_map_or}
 use Rattle.std.proofs.lemmas.List.Sums.{sum_by-cons}
 use Rattle.kc_text.specs.LineValue.{LineValue}
@@ -8,7 +8,7 @@ use Rattle.kc_tree.specs.declared.keyword.Keyword.{Keyword}
 use Rattle.kc_tree.specs.declared.keyword.Keyword.TheVariants as keyword
 use Rattle.kc_tree.specs.declared.place.OpenBlock.{OpenBlock}
 use Rattle.kc_tree.specs.declared.place.Place.{Place}
-use Rattle.kc_tree.specs.Keywords.{keyword_of, is_attribute, is_attribute_word, is_opener, is_opener_word, is_closer, is_closer_word, is_config, is_config_word, is_comment, is_comment_word}
+use Rattle.kc_tree.specs.Keywords.{keyword_of, is_attribute, is_attribute_word, is_opener, is_opener_word, is_closer, is_closer_word, is_config, is_config_word, is_comment, is_comment_word, is_choice, is_choice_word}
 use Rattle.kc_tree.specs.Names.{defined_name}
 use Rattle.kc_tree.specs.Places.{block_opened, still_open, open_blocks, made_by}
 use Rattle.kc_tree.specs.PlaceValue.{IsPlaceAfter, blocks_after, owner_made}
@@ -31,6 +31,23 @@ still_open-suc (l ∷ earlier) zero =
     open_step_zero (is_opener l) (is_closer l) (block_opened l earlier) (still_open earlier zero) (still_open earlier 1) (still_open earlier 2) (still_open-suc earlier zero) (still_open-suc earlier 1)
 still_open-suc (l ∷ earlier) (suc n) =
     open_step_suc (is_opener l) (is_closer l) (still_open earlier n) (still_open earlier (suc n)) (still_open earlier (suc (suc n))) (still_open earlier (suc (suc (suc n)))) (still_open-suc earlier n) (still_open-suc earlier (suc n)) (still_open-suc earlier (suc (suc n)))
+
+-- the block that a line may open, by its keyword, and by what may be its keyword
+abbrev pub block_of : Keyword → ℕ → ℕ → ℕ → OpenBlock
+block_of k blocks run choices = record {
+  id = record { 0 = blocks };
+  keyword = k;
+  run = run;
+  choice = if is_choice_word k then Some (record { 0 = choices }) else None;
+}
+
+abbrev block_by : Option Keyword → ℕ → ℕ → ℕ → OpenBlock
+block_by o blocks run choices = record {
+  id = record { 0 = blocks };
+  keyword = unwrap_or o keyword.If;
+  run = run;
+  choice = if option_map_or is_choice_word o false then Some (record { 0 = choices }) else None;
+}
 
 -- ---- after a line of a keyword
 module _ (l : LineValue) (earlier : List LineValue) (k : Keyword) (is : keyword_of l ≡ Some k) where
@@ -82,23 +99,32 @@ no_comment_of _ = refl
 no_comment : (k : Keyword) → is_attribute_word k ≡ true → is_comment_word k ≡ false
 no_comment k attribute = ap (λ b. b && is_comment_word k) (sym attribute) ∙ no_comment_of k
 
-made_by-owner_made : (names : List (List ℕ)) (l : LineValue) (earlier : List LineValue) (k : Keyword) → made_by names (Some k) l earlier ≡ owner_made k (option_and_then (symbol_among names) (defined_name l)) (count_by is_config earlier) (count_by is_opener earlier) (count_by is_comment earlier)
+no_choice_of : (k : Keyword) → (is_attribute_word k && is_choice_word k) ≡ false
+no_choice_of keyword.Choice = refl
+no_choice_of _ = refl
+
+no_choice : (k : Keyword) → is_attribute_word k ≡ true → is_choice_word k ≡ false
+no_choice k attribute = ap (λ b. b && is_choice_word k) (sym attribute) ∙ no_choice_of k
+
+made_by-owner_made : (names : List (List ℕ)) (l : LineValue) (earlier : List LineValue) (k : Keyword) → made_by names (Some k) l earlier ≡ owner_made k (option_and_then (symbol_among names) (defined_name l)) (count_by is_config earlier) (count_by is_opener earlier) (count_by is_choice earlier) (count_by is_comment earlier)
 made_by-owner_made names l earlier keyword.Config = refl
 made_by-owner_made names l earlier keyword.Menu = refl
+made_by-owner_made names l earlier keyword.Choice = refl
 made_by-owner_made names l earlier keyword.Comment = refl
 made_by-owner_made names l earlier _ = refl
 
 -- ---- the place after a line, by what the line is
 module _ (names : List (List ℕ)) (l : LineValue) (earlier : List LineValue) (p q : Place) (known : IsPlaceAfter names earlier p) where
-  place_more : (a o d m : Bool) → is_attribute l ≡ a → is_opener l ≡ o → is_config l ≡ d → is_comment l ≡ m
+  place_more : (a o d h m : Bool) → is_attribute l ≡ a → is_opener l ≡ o → is_config l ≡ d → is_choice l ≡ h → is_comment l ≡ m
       → q.stack ≡ open_blocks (l ∷ earlier)
       → q.statement ≡ cond a p.statement (keyword_of l)
       → q.owner ≡ cond a p.owner (made_by names (keyword_of l) l earlier)
       → q.definitions ≡ cond d (p.definitions + 1) p.definitions
       → q.blocks ≡ cond o (p.blocks + 1) p.blocks
+      → q.choices ≡ cond h (p.choices + 1) p.choices
       → q.comments ≡ cond m (p.comments + 1) p.comments
       → IsPlaceAfter names (l ∷ earlier) q
-  place_more a o d m is_a is_o is_d is_m stack statement owner definitions blocks comments = record {
+  place_more a o d h m is_a is_o is_d is_h is_m stack statement owner definitions blocks choices comments = record {
     stack = stack;
     statement =
         statement
@@ -119,6 +145,11 @@ module _ (names : List (List ℕ)) (l : LineValue) (earlier : List LineValue) (p
         ∙ ap (λ b. cond b (p.blocks + 1) p.blocks) (sym is_o)
         ∙ ap (λ n. cond (is_opener l) (n + 1) n) known.blocks
         ∙ sym (counted is_opener l earlier);
+    choices =
+        choices
+        ∙ ap (λ b. cond b (p.choices + 1) p.choices) (sym is_h)
+        ∙ ap (λ n. cond (is_choice l) (n + 1) n) known.choices
+        ∙ sym (counted is_choice l earlier);
     comments =
         comments
         ∙ ap (λ b. cond b (p.comments + 1) p.comments) (sym is_m)
@@ -127,16 +158,16 @@ module _ (names : List (List ℕ)) (l : LineValue) (earlier : List LineValue) (p
   }
 
   -- a line without keyword
-  pub IsPlaceAfter-nothing : keyword_of l ≡ None → q.stack ≡ p.stack → q.statement ≡ None → q.owner ≡ None → q.definitions ≡ p.definitions → q.blocks ≡ p.blocks → q.comments ≡ p.comments → IsPlaceAfter names (l ∷ earlier) q
-  IsPlaceAfter-nothing is stack statement owner definitions blocks comments =
+  pub IsPlaceAfter-nothing : keyword_of l ≡ None → q.stack ≡ p.stack → q.statement ≡ None → q.owner ≡ None → q.definitions ≡ p.definitions → q.blocks ≡ p.blocks → q.choices ≡ p.choices → q.comments ≡ p.comments → IsPlaceAfter names (l ∷ earlier) q
+  IsPlaceAfter-nothing is stack statement owner definitions blocks choices comments =
       let no = λ (w : Keyword → Bool). ap (λ o. option_map_or w o false) is in
-      place_more false false false false (no is_attribute_word) (no is_opener_word) (no is_config_word) (no is_comment_word)
+      place_more false false false false false (no is_attribute_word) (no is_opener_word) (no is_config_word) (no is_choice_word) (no is_comment_word)
       (stack ∙ known.stack ∙ sym (
       ap (λ b. cond b (block_opened l earlier ∷ still_open earlier zero) (cond (is_closer l) (still_open earlier 1) (still_open earlier zero))) (no is_opener_word)
       ∙ ap (λ b. cond b (still_open earlier 1) (still_open earlier zero)) (no is_closer_word)))
       (statement ∙ sym is)
       (owner ∙ sym (ap (λ o. made_by names o l earlier) is))
-      definitions blocks comments
+      definitions blocks choices comments
 
   module _ (k : Keyword) (is : keyword_of l ≡ Some k) where
     -- an attribute
@@ -144,36 +175,39 @@ module _ (names : List (List ℕ)) (l : LineValue) (earlier : List LineValue) (p
     IsPlaceAfter-attribute attribute same =
         let of = of_word l earlier k is in
         let opens = no_opener k attribute in
-        place_more true false false false (of is_attribute_word ∙ attribute) (of is_opener_word ∙ opens) (of is_config_word ∙ no_config k attribute) (of is_comment_word ∙ no_comment k attribute)
+        place_more true false false false false (of is_attribute_word ∙ attribute) (of is_opener_word ∙ opens) (of is_config_word ∙ no_config k attribute) (of is_choice_word ∙ no_choice k attribute) (of is_comment_word ∙ no_comment k attribute)
         (ap (λ x. x.stack) same ∙ known.stack
         ∙ sym (open_blocks-cons l earlier k is
         ∙ ap (λ b. cond b (block_opened l earlier ∷ open_blocks earlier) (cond (is_closer_word k) (drop 1 (open_blocks earlier)) (open_blocks earlier))) opens
         ∙ ap (λ b. cond b (drop 1 (open_blocks earlier)) (open_blocks earlier)) (no_closer k attribute)))
-        (ap (λ x. x.statement) same) (ap (λ x. x.owner) same) (ap (λ x. x.definitions) same) (ap (λ x. x.blocks) same) (ap (λ x. x.comments) same)
+        (ap (λ x. x.statement) same) (ap (λ x. x.owner) same) (ap (λ x. x.definitions) same) (ap (λ x. x.blocks) same) (ap (λ x. x.choices) same) (ap (λ x. x.comments) same)
 
     -- a statement, which may define a symbol
     pub IsPlaceAfter-statement : is_attribute_word k ≡ false → (symbol : Option SymId) → symbol ≡ option_and_then (symbol_among names) (defined_name l)
-        → q.stack ≡ blocks_after k (record { id = record { 0 = p.blocks }; keyword = k; run = l.run }) p.stack
+        → q.stack ≡ blocks_after k (block_of k p.blocks l.run p.choices) p.stack
         → q.statement ≡ Some k
-        → q.owner ≡ owner_made k symbol p.definitions p.blocks p.comments
+        → q.owner ≡ owner_made k symbol p.definitions p.blocks p.choices p.comments
         → q.definitions ≡ cond (is_config_word k) (p.definitions + 1) p.definitions
         → q.blocks ≡ cond (is_opener_word k) (p.blocks + 1) p.blocks
+        → q.choices ≡ cond (is_choice_word k) (p.choices + 1) p.choices
         → q.comments ≡ cond (is_comment_word k) (p.comments + 1) p.comments
         → IsPlaceAfter names (l ∷ earlier) q
-    IsPlaceAfter-statement attribute symbol symbol_is stack statement owner definitions blocks comments =
+    IsPlaceAfter-statement attribute symbol symbol_is stack statement owner definitions blocks choices comments =
         let of = of_word l earlier k is in
-        place_more false (is_opener_word k) (is_config_word k) (is_comment_word k) (of is_attribute_word ∙ attribute) (of is_opener_word) (of is_config_word) (of is_comment_word)
+        place_more false (is_opener_word k) (is_config_word k) (is_choice_word k) (is_comment_word k) (of is_attribute_word ∙ attribute) (of is_opener_word) (of is_config_word) (of is_choice_word) (of is_comment_word)
         (stack
-        ∙ ap (λ n. blocks_after k (record { id = record { 0 = n }; keyword = k; run = l.run }) p.stack) known.blocks
-        ∙ ap (λ j. blocks_after k (record { id = record { 0 = count_by is_opener earlier }; keyword = unwrap_or j keyword.If; run = l.run }) p.stack) (sym is)
+        ∙ ap (λ n. blocks_after k (block_of k n l.run p.choices) p.stack) known.blocks
+        ∙ ap (λ n. blocks_after k (block_of k (count_by is_opener earlier) l.run n) p.stack) known.choices
+        ∙ ap (λ j. blocks_after k (block_by j (count_by is_opener earlier) l.run (count_by is_choice earlier)) p.stack) (sym is)
         ∙ ap (blocks_after k (block_opened l earlier)) known.stack
         ∙ sym (open_blocks-cons l earlier k is))
         (statement ∙ sym is)
         (owner
-        ∙ ap (λ n. owner_made k symbol n p.blocks p.comments) known.definitions
-        ∙ ap (λ n. owner_made k symbol (count_by is_config earlier) n p.comments) known.blocks
-        ∙ ap (λ n. owner_made k symbol (count_by is_config earlier) (count_by is_opener earlier) n) known.comments
-        ∙ ap (λ s. owner_made k s (count_by is_config earlier) (count_by is_opener earlier) (count_by is_comment earlier)) symbol_is
+        ∙ ap (λ n. owner_made k symbol n p.blocks p.choices p.comments) known.definitions
+        ∙ ap (λ n. owner_made k symbol (count_by is_config earlier) n p.choices p.comments) known.blocks
+        ∙ ap (λ n. owner_made k symbol (count_by is_config earlier) (count_by is_opener earlier) n p.comments) known.choices
+        ∙ ap (λ n. owner_made k symbol (count_by is_config earlier) (count_by is_opener earlier) (count_by is_choice earlier) n) known.comments
+        ∙ ap (λ s. owner_made k s (count_by is_config earlier) (count_by is_opener earlier) (count_by is_choice earlier) (count_by is_comment earlier)) symbol_is
         ∙ sym (made_by-owner_made names l earlier k)
         ∙ ap (λ o. made_by names o l earlier) (sym is))
-        definitions blocks comments
+        definitions blocks choices comments

@@ -20,19 +20,23 @@ word_of (statement.Menu t) = Some keyword.Menu
 word_of statement.EndMenu = Some keyword.EndMenu
 word_of (statement.If e) = Some keyword.If
 word_of statement.EndIf = Some keyword.EndIf
+word_of statement.Choice = Some keyword.Choice
+word_of statement.EndChoice = Some keyword.EndChoice
 word_of (statement.Comment t) = Some keyword.Comment
 word_of statement.MainMenu = Some keyword.MainMenu
 word_of (statement.Type k) = Some (type_word k)
 word_of (statement.TypeAndPrompt k p) = Some (type_word k)
-word_of (statement.TypeAndDefault k d) = Some (default_word k)
+word_of (statement.TypeAndDefault k d) = default_word k
 word_of (statement.Prompt p) = Some keyword.Prompt
 word_of (statement.Default d) = Some keyword.Default
+word_of (statement.Range r) = Some keyword.Range
 word_of (statement.DependsOn e) = Some keyword.Depends
 word_of (statement.VisibleIf e) = Some keyword.Visible
 word_of (statement.Select s c) = Some keyword.Select
 word_of (statement.Imply s c) = Some keyword.Imply
 word_of statement.Modules = Some keyword.Modules
 word_of statement.AllNoConfigYes = Some keyword.Option
+word_of statement.Optional = Some keyword.Optional
 word_of statement.Help = Some keyword.Help
 
 -- a test of words that doesn't tell `option` from `modules`
@@ -47,19 +51,23 @@ module _ (f : Keyword → Bool) (same : f keyword.Option ≡ f keyword.Modules) 
   after names k tokens statement.EndMenu h = ap f h.0
   after names k tokens (statement.If e) h = ap f h.0
   after names k tokens statement.EndIf h = ap f h.0
+  after names k tokens statement.Choice h = ap f h.0
+  after names k tokens statement.EndChoice h = ap f h.0
   after names k tokens (statement.Comment t) h = ap f h.0
   after names k tokens statement.MainMenu h = ap f h.0
   after names k tokens (statement.Type j) h = ap f h.0
   after names k tokens (statement.TypeAndPrompt j p) h = ap f h.0
-  after names k tokens (statement.TypeAndDefault j d) h = ap f h.0
+  after names k tokens (statement.TypeAndDefault j d) h = ap holds (sym h.0)
   after names k tokens (statement.Prompt p) h = ap f h.0
   after names k tokens (statement.Default d) h = ap f h.0
+  after names k tokens (statement.Range r) h = ap f h.0
   after names k tokens (statement.DependsOn e) h = ap f h.0
   after names k tokens (statement.VisibleIf e) h = ap f h.0
   after names k tokens (statement.Select s c) h = ap f h.0
   after names k tokens (statement.Imply s c) h = ap f h.0
   after names k tokens statement.Modules h = ⊎_elim (λ x. ap f x.0) (λ x. ap f x.0 ∙ same) h
   after names k tokens statement.AllNoConfigYes h = ap f h.0
+  after names k tokens statement.Optional h = ap f h.0
   after names k tokens statement.Help h = ap f h.0
 
   of : (names : List (List ℕ)) (line : LineKind) (tokens : List Token) (s : Statement) → HasFormOf names line tokens s → holds (keyword_at line tokens) ≡ holds (word_of s)

@@ -6,7 +6,7 @@ use Rattle.std.proofs.lemmas.List.Sums.{sum_by-cons}
 use Rattle.kc_tree.specs.declared.node.Node.{Node}
 use Rattle.kc_tree.specs.declared.node_rows.Span.{Span}
 use Rattle.kc_tree.specs.Graph.{row}
-use Rattle.kc_tree.specs.Nodes.{number_of}
+use Rattle.kc_tree.specs.Nodes.{number_in}
 use Rattle.kc_tree.specs.NodeRows.{row_in, rows_in, numbers_of, FitsIn}
 use Rattle.kc_tree.specs.Users.{times, start_at, end_at, HasRoom, HasPlace, AddsUser}
 use Rattle.kc_tree.proofs.ListLaws.{set_cases}
@@ -128,7 +128,7 @@ row_in-grown nodes a b user ordered within =
     ∙ ap (take (m + 1)) (drop-set-add a nodes m user)
     ∙ take_more_set (drop a nodes) m user inside
 
-module _ (nodes : List Node) (spans : List Span) (q : ℕ) (user : Node) (inside : q < length spans) (place : HasPlace spans (length nodes) q) where
+module _ (symbols : ℕ) (nodes : List Node) (spans : List Span) (q : ℕ) (user : Node) (inside : q < length spans) (place : HasPlace spans (length nodes) q) where
   abbrev after : List Node
   after = set nodes (end_at spans q) user
 
@@ -159,18 +159,18 @@ module _ (nodes : List Node) (spans : List Span) (q : ℕ) (user : Node) (inside
       let wide'' = length-set rows q full in
       ext_get_or [] (rows_in after (set spans q (grown spans q))) (set rows q full) (omega arith) (λ i h. row_at i (omega arith))
 
-  pub numbers_of-place : numbers_of (rows_in after (set spans q (grown spans q))) ≡ set (numbers_of (rows_in nodes spans)) q (row (numbers_of (rows_in nodes spans)) q ++ number_of user ∷ [])
+  pub numbers_of-place : numbers_of symbols (rows_in after (set spans q (grown spans q))) ≡ set (numbers_of symbols (rows_in nodes spans)) q (row (numbers_of symbols (rows_in nodes spans)) q ++ number_in symbols user ∷ [])
   numbers_of-place =
       let rows = rows_in nodes spans in
       let mine = row_in nodes (get_or spans q none) in
       let wide = length-map spans (row_in nodes) in
-      let is : row (numbers_of rows) q ≡ map number_of mine = get_or-map (map number_of) rows q [] [] (omega arith) ∙ ap (map number_of) (get_or-map (row_in nodes) spans q none [] inside) in
-      ap numbers_of rows_in-place
-      ∙ map-set (map number_of) rows q (mine ++ user ∷ [])
-      ∙ ap (set (numbers_of rows) q) (map_push number_of mine user ∙ ap (λ r. r ++ number_of user ∷ []) (sym is))
+      let is : row (numbers_of symbols rows) q ≡ map (number_in symbols) mine = get_or-map (map (number_in symbols)) rows q [] [] (omega arith) ∙ ap (map (number_in symbols)) (get_or-map (row_in nodes) spans q none [] inside) in
+      ap (numbers_of symbols) rows_in-place
+      ∙ map-set (map (number_in symbols)) rows q (mine ++ user ∷ [])
+      ∙ ap (set (numbers_of symbols rows) q) (map_push (number_in symbols) mine user ∙ ap (λ r. r ++ number_in symbols user ∷ []) (sym is))
 
 -- the next use of a row is put at its place
-module _ (old : List (List ℕ)) (spans spans' : List Span) (nodes nodes' : List Node) (uses rest : List ℕ) (user k x : ℕ) (node : Node) (next : k < length uses) (is : get_or uses k 0 ≡ x) (inside : x < length spans) (room : HasRoom spans (length nodes) (times (drop k uses ++ rest))) where
+module _ (symbols : ℕ) (old : List (List ℕ)) (spans spans' : List Span) (nodes nodes' : List Node) (uses rest : List ℕ) (user k x : ℕ) (node : Node) (next : k < length uses) (is : get_or uses k 0 ≡ x) (inside : x < length spans) (room : HasRoom spans (length nodes) (times (drop k uses ++ rest))) where
   left : drop k uses ++ rest ≡ x ∷ (drop (k + 1) uses ++ rest)
   left = ap (λ us. us ++ rest) (drop_more uses k 0 next) ∙ ap (λ u. u ∷ (drop (k + 1) uses ++ rest)) is
 
@@ -187,16 +187,16 @@ module _ (old : List (List ℕ)) (spans spans' : List Span) (nodes nodes' : List
         let Q : ℕ → Type 0 = λ n. HasRoom (set spans x (grown spans x)) n (times (drop (k + 1) uses ++ rest)) in
         subst P (sym spans_are) (subst Q (sym (ap length nodes_are ∙ length-set nodes (end_at spans x) node)) (HasRoom-next x (drop (k + 1) uses ++ rest) spans (length nodes) inside room_left))
 
-    pub added_next : number_of node ≡ user → AddsUser old (numbers_of (rows_in nodes spans)) (take k uses) user → AddsUser old (numbers_of (rows_in nodes' spans')) (take (k + 1) uses) user
+    pub added_next : number_in symbols node ≡ user → AddsUser old (numbers_of symbols (rows_in nodes spans)) (take k uses) user → AddsUser old (numbers_of symbols (rows_in nodes' spans')) (take (k + 1) uses) user
     added_next at before =
-        let now = numbers_of (rows_in nodes spans) in
+        let now = numbers_of symbols (rows_in nodes spans) in
         let wide = length-map spans (row_in nodes) in
-        let wide' = length-map (rows_in nodes spans) (map number_of) in
+        let wide' = length-map (rows_in nodes spans) (map (number_in symbols)) in
         let P : List (List ℕ) → Type 0 = λ rows. AddsUser old rows (take (k + 1) uses) user in
-        let same : numbers_of (rows_in nodes' spans') ≡ set now x (row now x ++ user ∷ []) =
-        ap (λ ns. numbers_of (rows_in ns spans')) nodes_are
-        ∙ ap (λ ss. numbers_of (rows_in (set nodes (end_at spans x) node) ss)) spans_are
-        ∙ numbers_of-place nodes spans x node inside place_next
+        let same : numbers_of symbols (rows_in nodes' spans') ≡ set now x (row now x ++ user ∷ []) =
+        ap (λ ns. numbers_of symbols (rows_in ns spans')) nodes_are
+        ∙ ap (λ ss. numbers_of symbols (rows_in (set nodes (end_at spans x) node) ss)) spans_are
+        ∙ numbers_of-place symbols nodes spans x node inside place_next
         ∙ ap (λ u. set now x (row now x ++ u ∷ [])) at
         in
         subst P (sym same) (AddsUser-more old now uses user k x before next is (omega arith))

@@ -15,11 +15,12 @@ use Rattle.kc_tree.specs.declared.id.SymId.{SymId}
 use Rattle.kc_tree.specs.declared.expr.Expr.{Expr}
 use Rattle.kc_tree.specs.declared.definition.Prompt.{Prompt}
 use Rattle.kc_tree.specs.declared.definition.DefaultValue.{DefaultValue}
+use Rattle.kc_tree.specs.declared.definition.Range.{Range}
 use Rattle.kc_tree.specs.declared.symbol.SymbolType.{SymbolType}
 use Rattle.kc_tree.specs.declared.symbol.SymbolType.TheVariants as kind
 use Rattle.kc_tree.specs.declared.statement_forms.selection.Selection.{Selection}
 use Rattle.kc_tree.specs.Forms.{IsReading}
-use Rattle.kc_tree.specs.Statements.{IsPrompt, IsDefault, IsWordAndExpression, IsSelection, type_word, default_word, HasFormAfter, HasFormOf, HasForm, HasNoForm}
+use Rattle.kc_tree.specs.Statements.{IsPrompt, IsDefault, IsRange, IsWordAndExpression, IsSelection, type_word, default_word, HasFormAfter, HasFormOf, HasForm, HasNoForm}
 
 -- ---- lines
 pub end_says_so : (names : List (List ℕ)) (l : LineValue) → l.kind ≡ EndLine → HasForm names l statement.EndOfFile
@@ -50,10 +51,14 @@ module _ {E : Type 0} where
 SaidBehind : List (List ℕ) → Keyword → List Token → Type 0
 SaidBehind names keyword.Bool tokens = (tokens ≡ []) ⊎ ((p : Prompt) × IsPrompt names tokens p)
 SaidBehind names keyword.Tristate tokens = (tokens ≡ []) ⊎ ((p : Prompt) × IsPrompt names tokens p)
+SaidBehind names keyword.String tokens = (tokens ≡ []) ⊎ ((p : Prompt) × IsPrompt names tokens p)
+SaidBehind names keyword.Int tokens = (tokens ≡ []) ⊎ ((p : Prompt) × IsPrompt names tokens p)
+SaidBehind names keyword.Hex tokens = (tokens ≡ []) ⊎ ((p : Prompt) × IsPrompt names tokens p)
 SaidBehind names keyword.DefBool tokens = (d : DefaultValue) × IsDefault names tokens d
 SaidBehind names keyword.DefTristate tokens = (d : DefaultValue) × IsDefault names tokens d
 SaidBehind names keyword.Prompt tokens = (p : Prompt) × IsPrompt names tokens p
 SaidBehind names keyword.Default tokens = (d : DefaultValue) × IsDefault names tokens d
+SaidBehind names keyword.Range tokens = (r : Range) × IsRange names tokens r
 SaidBehind names keyword.Depends tokens = (e : Expr) × IsWordAndExpression names (codes "on") tokens e
 SaidBehind names keyword.Visible tokens = (e : Expr) × IsWordAndExpression names (codes "if") tokens e
 SaidBehind names keyword.Select tokens = (s : Option SymId) × (c : Option Expr) × IsSelection names tokens s c
@@ -63,6 +68,12 @@ SaidBehind names k tokens = Unit {0}
 behind : (names : List (List ℕ)) (tokens : List Token) (k x : Keyword) → k ≡ x → SaidBehind names x tokens → SaidBehind names k tokens
 behind names tokens k x e h = subst (λ (y : Keyword). SaidBehind names y tokens) (sym e) h
 
+the_word : (k j : Keyword) → Some j ≡ Some k → k ≡ j
+the_word k j e = cc
+
+no_word : (k : Keyword) → None ≡ Some k → ⊥
+no_word k e = cc
+
 said : (names : List (List ℕ)) (k : Keyword) (tokens : List Token) (s : Statement) → HasFormAfter names k tokens s → SaidBehind names k tokens
 unfolding SaidBehind
 said names k tokens statement.EndOfFile h = absurd h
@@ -71,16 +82,32 @@ said names k tokens (statement.Menu title) h = behind names tokens k keyword.Men
 said names k tokens statement.EndMenu h = behind names tokens k keyword.EndMenu h.0 tt
 said names k tokens (statement.If e) h = behind names tokens k keyword.If h.0 tt
 said names k tokens statement.EndIf h = behind names tokens k keyword.EndIf h.0 tt
+said names k tokens statement.Choice h = behind names tokens k keyword.Choice h.0 tt
+said names k tokens statement.EndChoice h = behind names tokens k keyword.EndChoice h.0 tt
 said names k tokens (statement.Comment title) h = behind names tokens k keyword.Comment h.0 tt
 said names k tokens statement.MainMenu h = behind names tokens k keyword.MainMenu h.0 tt
 said names k tokens (statement.Type kind.Bool) h = behind names tokens k keyword.Bool h.0 (inl h.1)
 said names k tokens (statement.Type kind.Tristate) h = behind names tokens k keyword.Tristate h.0 (inl h.1)
+said names k tokens (statement.Type kind.String) h = behind names tokens k keyword.String h.0 (inl h.1)
+said names k tokens (statement.Type kind.Int) h = behind names tokens k keyword.Int h.0 (inl h.1)
+said names k tokens (statement.Type kind.Hex) h = behind names tokens k keyword.Hex h.0 (inl h.1)
 said names k tokens (statement.TypeAndPrompt kind.Bool p) h = behind names tokens k keyword.Bool h.0 (inr (p, h.1))
 said names k tokens (statement.TypeAndPrompt kind.Tristate p) h = behind names tokens k keyword.Tristate h.0 (inr (p, h.1))
-said names k tokens (statement.TypeAndDefault kind.Bool d) h = behind names tokens k keyword.DefBool h.0 (d, h.1)
-said names k tokens (statement.TypeAndDefault kind.Tristate d) h = behind names tokens k keyword.DefTristate h.0 (d, h.1)
+said names k tokens (statement.TypeAndPrompt kind.String p) h = behind names tokens k keyword.String h.0 (inr (p, h.1))
+said names k tokens (statement.TypeAndPrompt kind.Int p) h = behind names tokens k keyword.Int h.0 (inr (p, h.1))
+said names k tokens (statement.TypeAndPrompt kind.Hex p) h = behind names tokens k keyword.Hex h.0 (inr (p, h.1))
+said names k tokens (statement.TypeAndDefault kind.Bool d) h =
+    let same : k ≡ keyword.DefBool = the_word k keyword.DefBool h.0 in
+    behind names tokens k keyword.DefBool same (d, h.1)
+said names k tokens (statement.TypeAndDefault kind.Tristate d) h =
+    let same : k ≡ keyword.DefTristate = the_word k keyword.DefTristate h.0 in
+    behind names tokens k keyword.DefTristate same (d, h.1)
+said names k tokens (statement.TypeAndDefault kind.String d) h = absurd (no_word k h.0)
+said names k tokens (statement.TypeAndDefault kind.Int d) h = absurd (no_word k h.0)
+said names k tokens (statement.TypeAndDefault kind.Hex d) h = absurd (no_word k h.0)
 said names k tokens (statement.Prompt p) h = behind names tokens k keyword.Prompt h.0 (p, h.1)
 said names k tokens (statement.Default d) h = behind names tokens k keyword.Default h.0 (d, h.1)
+said names k tokens (statement.Range r) h = behind names tokens k keyword.Range h.0 (r, h.1)
 said names k tokens (statement.DependsOn e) h = behind names tokens k keyword.Depends h.0 (e, h.1)
 said names k tokens (statement.VisibleIf e) h = behind names tokens k keyword.Visible h.0 (e, h.1)
 said names k tokens (statement.Select s c) h = behind names tokens k keyword.Select h.0 (s, c, h.1)
@@ -88,6 +115,7 @@ said names k tokens (statement.Imply s c) h = behind names tokens k keyword.Impl
 said names k tokens statement.Modules h =
     elim h [ inl p ↦ behind names tokens k keyword.Modules p.0 tt | inr p ↦ behind names tokens k keyword.Option p.0 tt ]
 said names k tokens statement.AllNoConfigYes h = behind names tokens k keyword.Option h.0 tt
+said names k tokens statement.Optional h = behind names tokens k keyword.Optional h.0 tt
 said names k tokens statement.Help h = behind names tokens k keyword.Help h.0 tt
 
 -- ---- what a part that was read says
@@ -116,6 +144,12 @@ unfolding SaidBehind
 default_says names tokens k o r is maps =
     reading_mapped (IsDefault names tokens) (HasFormAfter names k tokens) (λ x. statement.Default x) o r
     (λ x h. (is, h)) (λ none s h. let part = at_keyword names tokens k keyword.Default is s h in none part.0 part.1) maps
+
+pub range_says : (names : List (List ℕ)) (tokens : List Token) (k : Keyword) (o : Option Range) (r : Option Statement) → k ≡ keyword.Range → Maps (λ x. statement.Range x) o r → IsReading (IsRange names tokens) o → IsReading (HasFormAfter names k tokens) r
+unfolding SaidBehind
+range_says names tokens k o r is maps =
+    reading_mapped (IsRange names tokens) (HasFormAfter names k tokens) (λ x. statement.Range x) o r
+    (λ x h. (is, h)) (λ none s h. let part = at_keyword names tokens k keyword.Range is s h in none part.0 part.1) maps
 
 pub depends_says : (names : List (List ℕ)) (tokens : List Token) (k : Keyword) (o : Option Expr) (r : Option Statement) → k ≡ keyword.Depends → Maps (λ x. statement.DependsOn x) o r → IsReading (IsWordAndExpression names (codes "on") tokens) o → IsReading (HasFormAfter names k tokens) r
 unfolding SaidBehind
@@ -157,12 +191,21 @@ no_type names tokens kind.Bool o some is none s h =
     elim (said names keyword.Bool tokens s h) [ inl e ↦ some_token tokens some e | inr part ↦ (rw is at none) part.0 part.1 ]
 no_type names tokens kind.Tristate o some is none s h =
     elim (said names keyword.Tristate tokens s h) [ inl e ↦ some_token tokens some e | inr part ↦ (rw is at none) part.0 part.1 ]
+no_type names tokens kind.String o some is none s h =
+    elim (said names keyword.String tokens s h) [ inl e ↦ some_token tokens some e | inr part ↦ (rw is at none) part.0 part.1 ]
+no_type names tokens kind.Int o some is none s h =
+    elim (said names keyword.Int tokens s h) [ inl e ↦ some_token tokens some e | inr part ↦ (rw is at none) part.0 part.1 ]
+no_type names tokens kind.Hex o some is none s h =
+    elim (said names keyword.Hex tokens s h) [ inl e ↦ some_token tokens some e | inr part ↦ (rw is at none) part.0 part.1 ]
 
-pub no_typed_default : (names : List (List ℕ)) (tokens : List Token) (t : SymbolType) (o : Option DefaultValue) → o ≡ None → IsReading (IsDefault names tokens) o → (s : Statement) → HasFormAfter names (default_word t) tokens s → ⊥
+pub no_typed_default : (names : List (List ℕ)) (tokens : List Token) (t : SymbolType) (k : Keyword) (o : Option DefaultValue) → default_word t ≡ Some k → o ≡ None → IsReading (IsDefault names tokens) o → (s : Statement) → HasFormAfter names k tokens s → ⊥
 unfolding SaidBehind
-no_typed_default names tokens kind.Bool o is none s h =
-    let part = said names keyword.DefBool tokens s h in
+no_typed_default names tokens kind.Bool k o word is none s h =
+    let part = at_keyword names tokens k keyword.DefBool (the_word k keyword.DefBool word) s h in
     (rw is at none) part.0 part.1
-no_typed_default names tokens kind.Tristate o is none s h =
-    let part = said names keyword.DefTristate tokens s h in
+no_typed_default names tokens kind.Tristate k o word is none s h =
+    let part = at_keyword names tokens k keyword.DefTristate (the_word k keyword.DefTristate word) s h in
     (rw is at none) part.0 part.1
+no_typed_default names tokens kind.String k o word is none s h = no_word k word
+no_typed_default names tokens kind.Int k o word is none s h = no_word k word
+no_typed_default names tokens kind.Hex k o word is none s h = no_word k word

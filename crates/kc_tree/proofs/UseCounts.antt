@@ -1,12 +1,10 @@
 -- Uses are counted, one after another.
-use Rattle.std.proofs.Common.{◌≡◌, Bool, ℕ, ◌+◌, ◌<◌, List, [], ◌∷◌, ◌++◌, length, get_or, set, take, drop, map, cond, eqb, All, replicate, inl, inr, refl, sym, ap, subst, ◌∙◌, arith, length-set, zero-add}
+use Rattle.std.proofs.Common.{◌≡◌, Bool, ℕ, ◌+◌, ◌<◌, ◌≤◌, zero, suc, Option, Some, List, [], ◌∷◌, ◌++◌, length, get_or, set, take, drop, cond, eqb, replicate, inl, inr, refl, sym, ap, subst, ◌∙◌, arith, length-set, zero-add}
+use Rattle.std.specs.List.{slice_get}
 use Rattle.std.proofs.lemmas.Bool.{eq-eqb, ne_eqb}
-use Rattle.std.proofs.lemmas.List.{drop_more, flat_map_more, get_or-map, get_or-replicate, length-map, length-replicate, take_more}
+use Rattle.std.proofs.lemmas.List.{drop_more, flat_map_more, get_or-replicate, length-replicate, take_more}
 use Rattle.std.proofs.lemmas.List.Sums.{sum_by-append, sum_by-cons}
 use Rattle.kc_tree.specs.Graph.{row}
-use Rattle.kc_tree.specs.declared.node.Node.{Node}
-use Rattle.kc_tree.specs.declared.node.Node.TheVariants.{Vis}
-use Rattle.kc_tree.specs.Nodes.{number_of}
 use Rattle.kc_tree.specs.Users.{times, uses_in, AddsCounts}
 use Rattle.kc_tree.proofs.ListLaws.{set_cases}
 
@@ -64,6 +62,12 @@ uses_in-more g k h = ap uses_in (take_more g k [] h) ∙ sym (flat_map_more (λ 
 pub uses_in-rest : (g : List (List ℕ)) (k : ℕ) → k < length g → uses_in (drop k g) ≡ row g k ++ uses_in (drop (k + 1) g)
 uses_in-rest g k h = ap uses_in (drop_more g k [] h)
 
+-- a place at which no use is read is past the end
+pub ended : (uses : List ℕ) (i : ℕ) (read : Option ℕ) → read ≡ slice_get uses i → ((used : ℕ) → read ≡ Some used → ⊥) → length uses ≤ i
+ended [] i read e none = omega arith
+ended (u ∷ us) zero read e none = absurd (none u e)
+ended (u ∷ us) (suc i) read e none = let h = ended us i read e none in omega arith
+
 -- the counts that began at 0 are how often each node is used
 pub count_is : (n : ℕ) (counts uses : List ℕ) (q : ℕ) → AddsCounts (replicate n 0) counts uses → q < n → get_or counts q 0 ≡ times uses q
 count_is n counts uses q s h =
@@ -71,13 +75,3 @@ count_is n counts uses q s h =
     let none : get_or {A = ℕ} (replicate {A = ℕ} n 0) q 0 ≡ 0 = get_or-replicate {A = ℕ} n q 0 0 h in
     let grown : get_or counts q 0 ≡ get_or (replicate n 0) q 0 + times uses q = s.each q (omega (arith, size)) in
     grown ∙ ap (λ m. m + times uses q) none ∙ zero-add (times uses q)
-
--- a use of a row, as it is read
-pub use_is : (uses : List Node) (k x : ℕ) → k < length uses → x ≡ number_of (get_or uses k (Vis (record { 0 = 0 }))) → get_or (map number_of uses) k 0 ≡ x
-use_is uses k x inside read = get_or-map number_of uses k (Vis (record { 0 = 0 })) 0 inside ∙ sym read
-
-pub use_below : (uses : List Node) (k x n : ℕ) → All (λ used. number_of used < n) uses → k < length uses → x ≡ number_of (get_or uses k (Vis (record { 0 = 0 }))) → x < n
-use_below uses k x n below inside read = subst (λ m. m < n) (sym read) (below k (Vis (record { 0 = 0 })) inside)
-
-pub use_inside : (uses : List Node) (k : ℕ) → k < length uses → k < length (map number_of uses)
-use_inside uses k inside = omega (arith, length-map uses number_of)

@@ -1,21 +1,23 @@
 -- The rows of all nodes are the graph of the nodes.
-use Rattle.std.proofs.Common.{◌≡◌, ℕ, zero, suc, ◌+◌, ◌*◌, ◌<◌, ◌≤◌, true, List, [], ◌∷◌, ◌++◌, length, get_or, map, Option, refl, sym, ap, subst, ◌∙◌, inl, inr, arith}
-use Rattle.std.specs.List.{Contains}
+use Rattle.std.proofs.Common.{◌≡◌, ℕ, zero, suc, ◌+◌, ◌*◌, ◌<◌, true, List, [], ◌∷◌, ◌++◌, length, get_or, map, Option, refl, sym, ap, subst, ◌∙◌, inl, inr, arith}
+use Rattle.std.specs.List.{All, Contains}
 use Rattle.std.specs.Option.{option_map_or}
+use Rattle.std.proofs.lemmas.List.Elements.{All-contains}
 use Rattle.std.proofs.lemmas.Bool.{cases_lt}
 use Rattle.std.proofs.lemmas.List.{get_or_push, get_or_past, get_or_append_left, length_push, length-map}
 use Rattle.std.proofs.lemmas.Option.{slice_get_past}
 use Rattle.kc_tree.specs.declared.node.Node.{Node}
-use Rattle.kc_tree.specs.declared.node.Node.TheVariants.{Vis, Val}
-use Rattle.kc_tree.specs.TreeValue.{TreeValue, SymbolValue}
-use Rattle.kc_tree.specs.Nodes.{number_of, node_at, node_symbol}
+use Rattle.kc_tree.specs.declared.node.Node.TheVariants.{Vis, Val, Mode, Sel}
+use Rattle.kc_tree.specs.TreeValue.{TreeValue, SymbolValue, ChoiceValue}
+use Rattle.kc_tree.specs.Nodes.{number_in, node_in, node_count, IsNodeOf}
 use Rattle.kc_tree.specs.NodeRows.{numbers_of}
-use Rattle.kc_tree.specs.Uses.{visibility_nodes, symbol_value_nodes, used_nodes, Uses}
+use Rattle.kc_tree.specs.Uses.{visibility_nodes, symbol_value_nodes, choice_prompt_nodes, choice_value_nodes, used_nodes, Uses}
 use Rattle.kc_tree.specs.NodeGraph.{IsGraphOf}
-use Rattle.kc_tree.specs.Collected.{has_node, Holds, used_lists}
-use Rattle.kc_tree.proofs.NodeNumbers.{number_of-node_at, node_at-number_of, Contains-map, Contains-from_map}
-use Rattle.kc_tree.proofs.NodeGraphLaws.{row_numbers}
+use Rattle.kc_tree.specs.Graph as graph
+use Rattle.kc_tree.specs.Collected.{has_node, Holds, used_lists, used_lists_with}
+use Rattle.kc_tree.proofs.NodeNumbers.{number_in-node_in, node_in-number_in, at_below, below_at, Contains-map, Contains-from_map}
 use Rattle.kc_tree.proofs.CollectedLaws.{node_found, node_has}
+use Rattle.kc_tree.proofs.WithinLaws.{used_nodes_within}
 
 lists_count : (t : TreeValue) (n : ℕ) → length (used_lists t n) ≡ 2 * n
 lists_count t zero = refl
@@ -42,61 +44,138 @@ module _ (t : TreeValue) (n : ℕ) where
   second : (p : ℕ) → p ≡ 2 * n + 1 → get_or (used_lists t (suc n)) p [] ≡ b
   second p h = get_or_push (used_lists t n ++ a ∷ []) b [] p (omega (arith, lists_count t n, length_push (used_lists t n) a))
 
--- the list of a node of the first symbols
-list_of : (t : TreeValue) (n : ℕ) (m : Node) → node_symbol m < n → get_or (used_lists t n) (number_of m) [] ≡ used_nodes t m
-list_of t zero m h = absurd (omega arith)
-list_of t (suc n) (Vis s) h = elim (cases_lt s.0 n) [
-  | inl l ↦ before t n (2 * s.0) (omega arith) ∙ list_of t n (Vis s) l
-  | inr l ↦ let e : n ≡ s.0 = omega arith in first t n (2 * s.0) (omega arith) ∙ ap (λ (k : ℕ). used_nodes t (Vis (record { 0 = k }))) e
-]
-list_of t (suc n) (Val s) h = elim (cases_lt s.0 n) [
-  | inl l ↦ before t n (2 * s.0 + 1) (omega arith) ∙ list_of t n (Val s) l
-  | inr l ↦ let e : n ≡ s.0 = omega arith in second t n (2 * s.0 + 1) (omega arith) ∙ ap (λ (k : ℕ). used_nodes t (Val (record { 0 = k }))) e
+-- the lists of the nodes of the first symbols
+vis_list : (t : TreeValue) (n k : ℕ) → k < n → get_or (used_lists t n) (2 * k) [] ≡ used_nodes t (Vis (record { 0 = k }))
+vis_list t zero k h = absurd (omega arith)
+vis_list t (suc n) k h = elim (cases_lt k n) [
+  | inl l ↦ before t n (2 * k) (omega arith) ∙ vis_list t n k l
+  | inr l ↦ let e : n ≡ k = omega arith in first t n (2 * k) (omega arith) ∙ ap (λ (i : ℕ). used_nodes t (Vis (record { 0 = i }))) e
 ]
 
--- a node past the last symbol uses none
-past : (t : TreeValue) (m : Node) → length t.symbols ≤ node_symbol m → used_nodes t m ≡ []
-past t (Vis s) h = ap (λ (o : Option SymbolValue). option_map_or (visibility_nodes t) o []) (slice_get_past t.symbols s.0 h)
-past t (Val s) h = ap (λ (o : Option SymbolValue). option_map_or (symbol_value_nodes t s) o []) (slice_get_past t.symbols s.0 h)
-
-number_past : (m : Node) (n : ℕ) → n ≤ node_symbol m → 2 * n ≤ number_of m
-number_past (Vis s) n h = omega arith
-number_past (Val s) n h = omega arith
-
-list_at : (t : TreeValue) (m : Node) → get_or (used_lists t (length t.symbols)) (number_of m) [] ≡ used_nodes t m
-list_at t m = elim (cases_lt (node_symbol m) (length t.symbols)) [
-  | inl h ↦ list_of t (length t.symbols) m h
-  | inr h ↦ get_or_past (used_lists t (length t.symbols)) (number_of m) [] (omega (arith, lists_count t (length t.symbols), number_past m (length t.symbols) h)) ∙ sym (past t m h)
+val_list : (t : TreeValue) (n k : ℕ) → k < n → get_or (used_lists t n) (2 * k + 1) [] ≡ used_nodes t (Val (record { 0 = k }))
+val_list t zero k h = absurd (omega arith)
+val_list t (suc n) k h = elim (cases_lt k n) [
+  | inl l ↦ before t n (2 * k + 1) (omega arith) ∙ val_list t n k l
+  | inr l ↦ let e : n ≡ k = omega arith in second t n (2 * k + 1) (omega arith) ∙ ap (λ (i : ℕ). used_nodes t (Val (record { 0 = i }))) e
 ]
 
--- the node of a number among those of a list
-there : (t : TreeValue) (rows : List (List Node)) (p q : ℕ) → Holds (used_lists t (length t.symbols)) rows → has_node (get_or rows p []) q ≡ has_node (used_nodes t (node_at p)) q
-there t rows p q h = h.each p q ∙ ap (λ ns. has_node ns q) (ap (λ i. get_or (used_lists t (length t.symbols)) i []) (sym (number_of-node_at p)) ∙ list_at t (node_at p))
+-- ---- and those of choices
+all_count : (t : TreeValue) (n : ℕ) → length (used_lists_with t n) ≡ 2 * (length t.symbols + n)
+all_count t zero = omega (arith, lists_count t (length t.symbols))
+all_count t (suc n) =
+    omega (arith, all_count t n, length_push (used_lists_with t n) (used_nodes t (Mode (record { 0 = n }))), length_push (used_lists_with t n ++ used_nodes t (Mode (record { 0 = n })) ∷ []) (used_nodes t (Sel (record { 0 = n }))))
 
-contains_at : (ns : List Node) (q : ℕ) → has_node ns q ≡ true → Contains ns (node_at q)
-contains_at ns q e =
-    let r = node_found ns q e in
-    subst (λ (m : Node). Contains ns m) (sym (node_at-number_of r.0) ∙ ap node_at r.2) r.1
+module _ (t : TreeValue) (n : ℕ) where
+  abbrev moded : List Node
+  moded = used_nodes t (Mode (record { 0 = n }))
 
-has_at : (ns : List Node) (q : ℕ) → Contains ns (node_at q) → has_node ns q ≡ true
-has_at ns q c = ap (has_node ns) (sym (number_of-node_at q)) ∙ node_has ns (node_at q) c
+  abbrev selected : List Node
+  selected = used_nodes t (Sel (record { 0 = n }))
 
-has_numbered : (ns : List Node) (q : ℕ) → Contains (map number_of ns) q → has_node ns q ≡ true
-has_numbered ns q c =
-    let r = Contains-from_map number_of ns q c in
-    ap (has_node ns) (sym r.2) ∙ node_has ns r.0 r.1
+  before_choice : (p : ℕ) → p < 2 * (length t.symbols + n) → get_or (used_lists_with t (suc n)) p [] ≡ get_or (used_lists_with t n) p []
+  before_choice p h =
+      get_or_append_left (used_lists_with t n ++ moded ∷ []) (selected ∷ []) [] p (omega (arith, h, all_count t n, length_push (used_lists_with t n) moded))
+      ∙ get_or_append_left (used_lists_with t n) (moded ∷ []) [] p (omega (arith, h, all_count t n))
 
-numbered : (ns : List Node) (q : ℕ) → has_node ns q ≡ true → Contains (map number_of ns) q
-numbered ns q e =
-    let r = node_found ns q e in
-    subst (λ (k : ℕ). Contains (map number_of ns) k) r.2 (Contains-map number_of ns r.0 r.1)
+  first_choice : (p : ℕ) → p ≡ 2 * (length t.symbols + n) → get_or (used_lists_with t (suc n)) p [] ≡ moded
+  first_choice p h =
+      get_or_append_left (used_lists_with t n ++ moded ∷ []) (selected ∷ []) [] p (omega (arith, h, all_count t n, length_push (used_lists_with t n) moded))
+      ∙ get_or_push (used_lists_with t n) moded [] p (omega (arith, h, all_count t n))
 
-pub graph_of_rows : (t : TreeValue) (rows : List (List Node)) → Holds (used_lists t (length t.symbols)) rows → IsGraphOf t (numbers_of rows)
-unfolding Uses
-graph_of_rows t rows h = record {
-  whole = length-map rows (map number_of) ∙ h.whole ∙ lists_count t (length t.symbols);
-  exact = λ p q. (
-    λ u. contains_at (used_nodes t (node_at p)) q (sym (there t rows p q h) ∙ has_numbered (get_or rows p []) q (subst (λ (ks : List ℕ). Contains ks q) (row_numbers rows p) u)),
-    λ u. subst (λ (ks : List ℕ). Contains ks q) (sym (row_numbers rows p)) (numbered (get_or rows p []) q (there t rows p q h ∙ has_at (used_nodes t (node_at p)) q u)),
-  );
-}
+  second_choice : (p : ℕ) → p ≡ 2 * (length t.symbols + n) + 1 → get_or (used_lists_with t (suc n)) p [] ≡ selected
+  second_choice p h = get_or_push (used_lists_with t n ++ moded ∷ []) selected [] p (omega (arith, h, all_count t n, length_push (used_lists_with t n) moded))
+
+symbol_list : (t : TreeValue) (n p : ℕ) → p < 2 * length t.symbols → get_or (used_lists_with t n) p [] ≡ get_or (used_lists t (length t.symbols)) p []
+symbol_list t zero p h = refl
+symbol_list t (suc n) p h = before_choice t n p (omega (arith, h)) ∙ symbol_list t n p h
+
+mode_list : (t : TreeValue) (n k : ℕ) → k < n → get_or (used_lists_with t n) (2 * (length t.symbols + k)) [] ≡ used_nodes t (Mode (record { 0 = k }))
+mode_list t zero k h = absurd (omega arith)
+mode_list t (suc n) k h = elim (cases_lt k n) [
+  | inl l ↦ before_choice t n (2 * (length t.symbols + k)) (omega (arith, l)) ∙ mode_list t n k l
+  | inr l ↦ let e : n ≡ k = omega arith in first_choice t n (2 * (length t.symbols + k)) (omega (arith, e)) ∙ ap (λ (i : ℕ). used_nodes t (Mode (record { 0 = i }))) e
+]
+
+sel_list : (t : TreeValue) (n k : ℕ) → k < n → get_or (used_lists_with t n) (2 * (length t.symbols + k) + 1) [] ≡ used_nodes t (Sel (record { 0 = k }))
+sel_list t zero k h = absurd (omega arith)
+sel_list t (suc n) k h = elim (cases_lt k n) [
+  | inl l ↦ before_choice t n (2 * (length t.symbols + k) + 1) (omega (arith, l)) ∙ sel_list t n k l
+  | inr l ↦ let e : n ≡ k = omega arith in second_choice t n (2 * (length t.symbols + k) + 1) (omega (arith, e)) ∙ ap (λ (i : ℕ). used_nodes t (Sel (record { 0 = i }))) e
+]
+
+module _ (t : TreeValue) where
+  abbrev all : List (List Node)
+  all = used_lists_with t (length t.choices)
+
+  count : length all ≡ 2 * (length t.symbols + length t.choices)
+  count = all_count t (length t.choices)
+
+  -- the list of a node by its number
+  list_at : (m : Node) → IsNodeOf t m → get_or all (number_in (length t.symbols) m) [] ≡ used_nodes t m
+  list_at (Vis s) h = symbol_list t (length t.choices) (2 * s.0) (omega (arith, h)) ∙ vis_list t (length t.symbols) s.0 h
+  list_at (Val s) h = symbol_list t (length t.choices) (2 * s.0 + 1) (omega (arith, h)) ∙ val_list t (length t.symbols) s.0 h
+  list_at (Mode c) h = mode_list t (length t.choices) c.0 h
+  list_at (Sel c) h = sel_list t (length t.choices) c.0 h
+
+  -- what is no node of the tree uses none
+  none_used : (m : Node) → (IsNodeOf t m → ⊥) → used_nodes t m ≡ []
+  none_used (Vis s) h = elim (cases_lt s.0 (length t.symbols)) [
+    | inl l ↦ absurd (h l)
+    | inr l ↦ ap (λ (o : Option SymbolValue). option_map_or (visibility_nodes t) o []) (slice_get_past t.symbols s.0 l)
+  ]
+  none_used (Val s) h = elim (cases_lt s.0 (length t.symbols)) [
+    | inl l ↦ absurd (h l)
+    | inr l ↦ ap (λ (o : Option SymbolValue). option_map_or (symbol_value_nodes t s) o []) (slice_get_past t.symbols s.0 l)
+  ]
+  none_used (Mode c) h = elim (cases_lt c.0 (length t.choices)) [
+    | inl l ↦ absurd (h l)
+    | inr l ↦ ap (λ (o : Option ChoiceValue). option_map_or (choice_prompt_nodes t) o []) (slice_get_past t.choices c.0 l)
+  ]
+  none_used (Sel c) h = elim (cases_lt c.0 (length t.choices)) [
+    | inl l ↦ absurd (h l)
+    | inr l ↦ ap (λ (o : Option ChoiceValue). option_map_or (choice_value_nodes t c) o []) (slice_get_past t.choices c.0 l)
+  ]
+
+  list_of : (p : ℕ) → get_or all p [] ≡ used_nodes t (node_in (length t.symbols) p)
+  list_of p = elim (cases_lt p (node_count t)) [
+    | inl l ↦ ap (λ i. get_or all i []) (sym (number_in-node_in (length t.symbols) p)) ∙ list_at (node_in (length t.symbols) p) (at_below t p l)
+    | inr l ↦ get_or_past all p [] (omega (arith, l, count)) ∙ sym (none_used (node_in (length t.symbols) p) (λ i. absurd (omega (arith, l, below_at t p i))))
+  ]
+
+  -- the node of a number among those of a list
+  there : (rows : List (List Node)) (p q : ℕ) → Holds (length t.symbols) all rows → has_node (length t.symbols) (get_or rows p []) q ≡ has_node (length t.symbols) (used_nodes t (node_in (length t.symbols) p)) q
+  there rows p q h = h.each p q ∙ ap (λ ns. has_node (length t.symbols) ns q) (list_of p)
+
+  contains_at : (ns : List Node) (q : ℕ) → All (λ m. IsNodeOf t m) ns → has_node (length t.symbols) ns q ≡ true → Contains ns (node_in (length t.symbols) q)
+  contains_at ns q w e =
+      let r = node_found (length t.symbols) ns q e in
+      let i = All-contains (λ m. IsNodeOf t m) ns r.0 w r.1 in
+      subst (λ (m : Node). Contains ns m) (sym (node_in-number_in t r.0 i) ∙ ap (node_in (length t.symbols)) r.2) r.1
+
+  has_at : (ns : List Node) (q : ℕ) → Contains ns (node_in (length t.symbols) q) → has_node (length t.symbols) ns q ≡ true
+  has_at ns q c = ap (has_node (length t.symbols) ns) (sym (number_in-node_in (length t.symbols) q)) ∙ node_has (length t.symbols) ns (node_in (length t.symbols) q) c
+
+  has_numbered : (ns : List Node) (q : ℕ) → Contains (map (number_in (length t.symbols)) ns) q → has_node (length t.symbols) ns q ≡ true
+  has_numbered ns q c =
+      let r = Contains-from_map (number_in (length t.symbols)) ns q c in
+      ap (has_node (length t.symbols) ns) (sym r.2) ∙ node_has (length t.symbols) ns r.0 r.1
+
+  numbered : (ns : List Node) (q : ℕ) → has_node (length t.symbols) ns q ≡ true → Contains (map (number_in (length t.symbols)) ns) q
+  numbered ns q e =
+      let r = node_found (length t.symbols) ns q e in
+      subst (λ (k : ℕ). Contains (map (number_in (length t.symbols)) ns) k) r.2 (Contains-map (number_in (length t.symbols)) ns r.0 r.1)
+
+  row_of : (rows : List (List Node)) (p : ℕ) → graph.row (numbers_of (length t.symbols) rows) p ≡ map (number_in (length t.symbols)) (get_or rows p [])
+  row_of [] p = refl
+  row_of (r ∷ rows) zero = refl
+  row_of (r ∷ rows) (suc p) = row_of rows p
+
+  pub graph_of_rows : (rows : List (List Node)) → Holds (length t.symbols) all rows → IsGraphOf t (numbers_of (length t.symbols) rows)
+  unfolding Uses
+  graph_of_rows rows h = record {
+    whole = length-map rows (map (number_in (length t.symbols))) ∙ h.whole ∙ count;
+    exact = λ p q. (
+      λ u. contains_at (used_nodes t (node_in (length t.symbols) p)) q (used_nodes_within t (node_in (length t.symbols) p)) (sym (there rows p q h) ∙ has_numbered (get_or rows p []) q (subst (λ (ks : List ℕ). Contains ks q) (row_of rows p) u)),
+      λ u. subst (λ (ks : List ℕ). Contains ks q) (sym (row_of rows p)) (numbered (get_or rows p []) q (there rows p q h ∙ has_at (used_nodes t (node_in (length t.symbols) p)) q u)),
+    );
+  }

@@ -1,8 +1,8 @@
 -- What is known of every tree that was read: this project's own.
-use Rattle.std.specs.Prelude.{◌≡◌, ◌≤◌, ◌<◌, List, length, All, Contains, slice_index_or, [], ◌↔◌}
+use Rattle.std.specs.Prelude.{◌≡◌, ◌≤◌, ◌<◌, ◌^◌, List, length, All, Contains, slice_index_or, [], ◌↔◌}
 use Rattle.kc_tree.specs.declared.node.Node.{Node}
 use Rattle.kc_tree.specs.declared.tree.Entry.{Entry}
-use Rattle.kc_tree.specs.declared.tree.Entry.TheVariants.{Symbol, Again, Menu, EndMenu, Comment}
+use Rattle.kc_tree.specs.declared.tree.Entry.TheVariants.{Symbol, Again, Menu, EndMenu, Choice, Comment}
 use Rattle.kc_tree.specs.TreeValue.{TreeValue}
 use Rattle.kc_tree.specs.Nodes.{IsNodeOf, node_count, number_of}
 use Rattle.kc_tree.specs.Uses.{Uses}
@@ -14,12 +14,14 @@ IsEntryOf t (Symbol s) = s.0 < length t.symbols
 IsEntryOf t (Again s) = s.0 < length t.symbols
 IsEntryOf t (Menu b) = Unit {0}
 IsEntryOf t (EndMenu b) = Unit {0}
+IsEntryOf t (Choice c) = Unit {0}
 IsEntryOf t (Comment c) = Unit {0}
 
--- symbols by number, each with a name; the uses of a node are nodes; the nodes have an order; each entry of a
+-- symbols and choices, no more than their nodes have numbers for, each symbol with a name; the uses of a node are nodes; the nodes have an order; each entry of a
 -- symbol names one
 pub record IsAccepted (t : TreeValue) : Type 0 where
   pub few : length t.symbols ≤ 65535
+  pub few_choices : length t.choices ≤ 2 ^ 30
   pub named : length t.names ≡ length t.symbols
   pub within : (n m : Node) → IsNodeOf t n → Uses t n m → IsNodeOf t m
   pub ordered : (order : List Node) × IsOrder t order
@@ -28,4 +30,4 @@ pub record IsAccepted (t : TreeValue) : Type 0 where
 -- row k of a table has exactly what the relation gives for the node of number k
 pub record IsTableOf (t : TreeValue) (R : Node → Node → Type 0) (rows : List (List Node)) : Type 0 where
   pub whole : length rows ≡ node_count t
-  pub exact : (n m : Node) → IsNodeOf t n → Contains (slice_index_or rows (number_of n) []) m ↔ R n m
+  pub exact : (n m : Node) → IsNodeOf t n → Contains (slice_index_or rows (number_of t n) []) m ↔ R n m

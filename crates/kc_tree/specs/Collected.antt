@@ -5,35 +5,37 @@ use Rattle.std.specs.List.{list_any}
 use Rattle.kc_tree.specs.declared.id.BlockId.{BlockId}
 use Rattle.kc_tree.specs.declared.symbol.Reverse.{Reverse}
 use Rattle.kc_tree.specs.declared.node.Node.{Node}
-use Rattle.kc_tree.specs.declared.node.Node.TheVariants.{Vis, Val}
+use Rattle.kc_tree.specs.declared.node.Node.TheVariants.{Vis, Val, Mode, Sel}
 use Rattle.kc_tree.specs.TreeValue.{TreeValue, BlockValue, blocks_around}
-use Rattle.kc_tree.specs.Nodes.{number_of}
-use Rattle.kc_tree.specs.Uses.{symbol_nodes, conditions_nodes, own_condition_nodes, dependency_nodes, depends_nodes, visible_nodes, default_nodes, used_nodes}
+use Rattle.kc_tree.specs.Nodes.{number_in}
+use Rattle.kc_tree.specs.NodeRows.{AreNumbered}
+use Rattle.kc_tree.specs.Uses.{symbol_nodes, conditions_nodes, own_condition_nodes, dependency_nodes, depends_nodes, visible_nodes, default_nodes, range_nodes, used_nodes}
 
 -- a number is in the row
 abbrev pub has_number : List ℕ → ℕ → Bool
 has_number row k = list_any (λ j. j == k) row
 
--- the number is that of one of the nodes
-abbrev pub has_node : List Node → ℕ → Bool
-has_node nodes k = list_any (λ n. number_of n == k) nodes
+-- the number is that of one of the nodes, in a tree of so many symbols
+abbrev pub has_node : ℕ → List Node → ℕ → Bool
+has_node symbols nodes k = list_any (λ n. number_in symbols n == k) nodes
 
--- the row has just the numbers that it had, and those of the nodes
-pub record Adds (old new : List ℕ) (nodes : List Node) : Type 0 where
-  pub has : (k : ℕ) → has_number new k ≡ (has_number old k || has_node nodes k)
+-- the row has just the numbers that it had, and those of the nodes, in a tree of so many symbols
+pub record Adds (symbols : ℕ) (old new : List ℕ) (nodes : List Node) : Type 0 where
+  pub has : (k : ℕ) → has_number new k ≡ (has_number old k || has_node symbols nodes k)
 
 -- two rows have the same numbers
 pub record HaveSame (xs ys : List ℕ) : Type 0 where
   pub has : (k : ℕ) → has_number xs k ≡ has_number ys k
 
 -- the row has just the numbers of the nodes
-pub record HasNodes (nodes : List Node) (row : List ℕ) : Type 0 where
-  pub has : (k : ℕ) → has_number row k ≡ has_node nodes k
+pub record HasNodes (symbols : ℕ) (nodes : List Node) (row : List ℕ) : Type 0 where
+  pub has : (k : ℕ) → has_number row k ≡ has_node symbols nodes k
 
--- each row of a table has just the nodes of its list
-pub record Holds (lists rows : List (List Node)) : Type 0 where
+-- each row of a table has just the nodes of its list, as they are numbered
+pub record Holds (symbols : ℕ) (lists rows : List (List Node)) : Type 0 where
   pub whole : length rows ≡ length lists
-  pub each : (j k : ℕ) → has_node (slice_index_or rows j []) k ≡ has_node (slice_index_or lists j []) k
+  pub each : (j k : ℕ) → has_node symbols (slice_index_or rows j []) k ≡ has_node symbols (slice_index_or lists j []) k
+  pub numbered : AreNumbered symbols rows
 
 -- ---- what is collected once
 -- what the own `depends on` lines of each definition read
@@ -75,6 +77,9 @@ source_nodes t r = symbol_nodes t r.by ++ own_condition_nodes t r.condition
 abbrev pub defaults_at : TreeValue → ℕ → List Node
 defaults_at t j = option_map_or (λ d. flat_map (default_nodes t) d.defaults) (slice_get t.definitions j) []
 
+abbrev pub ranges_at : TreeValue → ℕ → List Node
+ranges_at t j = option_map_or (λ d. flat_map (range_nodes t) d.ranges) (slice_get t.definitions j) []
+
 -- the condition of the prompt itself
 abbrev pub prompt_own_at : TreeValue → ℕ → List Node
 prompt_own_at t j = option_map_or (λ d. option_map_or (λ p. own_condition_nodes t p.condition) d.prompt []) (slice_get t.definitions j) []
@@ -96,3 +101,9 @@ abbrev pub used_lists : TreeValue → ℕ → List (List Node)
 used_lists t zero = []
 used_lists t (suc n) =
     (used_lists t n ++ used_nodes t (Vis (record { 0 = n })) ∷ []) ++ used_nodes t (Val (record { 0 = n })) ∷ []
+
+-- and, after those of all symbols, what the nodes of the first choices use
+abbrev pub used_lists_with : TreeValue → ℕ → List (List Node)
+used_lists_with t zero = used_lists t (length t.symbols)
+used_lists_with t (suc n) =
+    (used_lists_with t n ++ used_nodes t (Mode (record { 0 = n })) ∷ []) ++ used_nodes t (Sel (record { 0 = n })) ∷ []

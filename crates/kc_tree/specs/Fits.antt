@@ -1,21 +1,30 @@
 -- Which user values a symbol takes: kconfig-language.rst, "Menu attributes".
-use Rattle.std.specs.Prelude.{Bool, true, false, slice_get}
+use Rattle.std.specs.Prelude.{Bool, true, false, not, ◌&&◌, is_some, slice_get}
 use Rattle.std.specs.Option.{option_map_or}
 use Rattle.kc_tree.specs.declared.id.SymId.{SymId}
 use Rattle.kc_tree.specs.declared.tri.Tri.TheVariants.{No, Module, Yes}
 use Rattle.kc_tree.specs.declared.symbol.SymbolType.{SymbolType}
-use Rattle.kc_tree.specs.declared.symbol.SymbolType.TheVariants.{Bool as BoolType, Tristate}
+use Rattle.kc_tree.specs.declared.symbol.SymbolType.TheVariants as kind
 use Rattle.kc_tree.specs.declared.user_value.UserVal.{UserVal}
 use Rattle.kc_tree.specs.declared.user_value.UserVal.TheVariants.{Tri, Text}
+use Rattle.kc_tree.specs.Numerals.{numeral_in}
 use Rattle.kc_tree.specs.TreeValue.{TreeValue, kind_of}
 
--- a bool takes n and y, a tristate m too
+-- a bool takes n and y, a tristate m too, a string all texts, an int and a hex the numerals of their types
 abbrev pub fits_type : SymbolType → UserVal → Bool
-fits_type kind (Tri No) = true
-fits_type BoolType (Tri Module) = false
-fits_type Tristate (Tri Module) = true
-fits_type kind (Tri Yes) = true
-fits_type kind (Text w) = false
+fits_type kind.Bool (Tri No) = true
+fits_type kind.Bool (Tri Module) = false
+fits_type kind.Bool (Tri Yes) = true
+fits_type kind.Bool (Text w) = false
+fits_type kind.Tristate (Tri v) = true
+fits_type kind.Tristate (Text w) = false
+fits_type kind.String (Tri v) = false
+fits_type kind.String (Text w) = true
+fits_type kind.Int (Tri v) = false
+fits_type kind.Int (Text w) = is_some (numeral_in kind.Int w)
+fits_type kind.Hex (Tri v) = false
+fits_type kind.Hex (Text w) = is_some (numeral_in kind.Hex w)
 
+-- a member of a choice takes none: its choice has a chosen member in place of them
 abbrev pub fits : TreeValue → SymId → UserVal → Bool
-fits t s v = option_map_or (λ x. fits_type (kind_of x) v) (slice_get t.symbols s.0) false
+fits t s v = option_map_or (λ x. not (is_some x.choice) && fits_type (kind_of x) v) (slice_get t.symbols s.0) false

@@ -1,12 +1,12 @@
 -- The grammar of expressions: kconfig-language.rst, "Menu dependencies". A list of tokens is an expression where it
 -- is one written out.
-use Rattle.std.specs.Prelude.{◌≡◌, ℕ, List, [], ◌∷◌, ◌++◌, map, if◌then◌else◌, codes}
+use Rattle.std.specs.Prelude.{◌≡◌, ℕ, List, [], ◌∷◌, ◌++◌, Option, Some, None, map, if◌then◌else◌, codes}
 use Rattle.std.specs.Str.{bytes_eq}
 use Rattle.kc_text.specs.declared.line.Operator.{Operator as Sign}
 use Rattle.kc_text.specs.declared.line.Operator.TheVariants as sign
 use Rattle.kc_text.specs.declared.line.Token.{Token}
 use Rattle.kc_text.specs.declared.line.Token.TheVariants.{Word, Expanded, Quoted, Operator}
-use Rattle.kc_tree.specs.declared.tri.Tri.TheVariants.{No}
+use Rattle.kc_tree.specs.declared.tri.Tri.TheVariants.{Yes}
 use Rattle.kc_tree.specs.declared.expr.Term.{Term}
 use Rattle.kc_tree.specs.declared.expr.Term.TheVariants.{Tri}
 use Rattle.kc_tree.specs.declared.expr.Comparison.{Comparison}
@@ -94,9 +94,9 @@ pub record Derives (names : List (List ℕ)) (tokens : List Token) (f : Formula)
   pub is : symbols_of names tokens ≡ spelled f
 
 -- ---- expressions as they are kept
--- the formulas of a list, each joined with those after it; no expression has an empty list, which stands for n
+-- the formulas of a list, each joined with those after it; no expression has an empty list, which stands for `!y`
 abbrev pub joined : (Formula → Formula → Formula) → List Formula → Formula
-joined join [] = atom (Tri No)
+joined join [] = negation (atom (Tri Yes))
 joined join (f ∷ []) = f
 joined join (f ∷ g ∷ fs) = join f (joined join (g ∷ fs))
 
@@ -119,3 +119,21 @@ IsExpression names tokens e = Derives names tokens (formula e)
 -- the tokens are no expression
 abbrev pub IsNoExpression : List (List ℕ) → List Token → Type 0
 IsNoExpression names tokens = (f : Formula) → Derives names tokens f → ⊥
+
+-- ---- an expression that is one term
+abbrev pub term_alone : Formula → Option Term
+term_alone (atom x) = Some x
+term_alone (compare c x y) = None
+term_alone (negation f) = None
+term_alone (group f) = None
+term_alone (both f g) = None
+term_alone (either f g) = None
+
+-- also in parentheses
+abbrev pub lone_term : Formula → Option Term
+lone_term (atom x) = Some x
+lone_term (compare c x y) = None
+lone_term (negation f) = None
+lone_term (group f) = lone_term f
+lone_term (both f g) = None
+lone_term (either f g) = None

@@ -6,7 +6,7 @@ use Rattle.kc_tree.specs.Order.{IsOrder}
 use Rattle.kc_tree.specs.Accepted.{IsAccepted, IsTableOf}
 
 abbrev pub tree_view : Inside → TreeValue
-tree_view a = record { names = a.names; symbols = a.symbols.items; definitions = a.definitions.items; blocks = a.blocks.items; comments = a.comments.items; entries = a.entries.items }
+tree_view a = record { names = a.names; symbols = a.symbols.items; definitions = a.definitions.items; blocks = a.blocks.items; choices = a.choices.items; comments = a.comments.items; entries = a.entries.items }
 
 -- the order and the two tables are those of the tree
 pub record IsWellMade (a : Inside) : Type 0 where

@@ -14,10 +14,9 @@ abbrev pub is_one_of : List ℕ → List (List ℕ) → Bool
 is_one_of w [] = false
 is_one_of w (x ∷ xs) = bytes_eq w x || is_one_of w xs
 
--- the words of Kconfig that are left out; string, int, hex, range, choice and endchoice are not read yet
+-- the words of Kconfig that are left out
 abbrev pub is_left_out : List ℕ → Bool
-is_left_out w = is_one_of w (codes "string" ∷ codes "int" ∷ codes "hex" ∷ codes "range" ∷ codes "choice" ∷ codes "endchoice" ∷ codes "optional"
-    ∷ codes "rsource" ∷ codes "osource" ∷ codes "orsource" ∷ codes "def_int" ∷ codes "def_hex" ∷ codes "def_string" ∷ [])
+is_left_out w = is_one_of w (codes "rsource" ∷ codes "osource" ∷ codes "orsource" ∷ codes "def_int" ∷ codes "def_hex" ∷ codes "def_string" ∷ [])
 
 abbrev pub keyword_named : List ℕ → Option Keyword
 keyword_named w =
@@ -42,8 +41,15 @@ keyword_named w =
     else (if bytes_eq w (codes "modules") then Some keyword.Modules
     else (if bytes_eq w (codes "mainmenu") then Some keyword.MainMenu
     else (if bytes_eq w (codes "source") then Some keyword.Source
+    else (if bytes_eq w (codes "string") then Some keyword.String
+    else (if bytes_eq w (codes "int") then Some keyword.Int
+    else (if bytes_eq w (codes "hex") then Some keyword.Hex
+    else (if bytes_eq w (codes "range") then Some keyword.Range
+    else (if bytes_eq w (codes "choice") then Some keyword.Choice
+    else (if bytes_eq w (codes "endchoice") then Some keyword.EndChoice
+    else (if bytes_eq w (codes "optional") then Some keyword.Optional
     else (if is_left_out w then Some keyword.LeftOut
-    else None)))))))))))))))))))))
+    else None))))))))))))))))))))))))))))
 
 -- an unquoted word without reference
 abbrev pub first_keyword : List Token → Option Keyword
@@ -62,33 +68,41 @@ keyword_of l = keyword_at l.kind l.tokens
 abbrev pub is_attribute_word : Keyword → Bool
 is_attribute_word keyword.Bool = true
 is_attribute_word keyword.Tristate = true
+is_attribute_word keyword.String = true
+is_attribute_word keyword.Int = true
+is_attribute_word keyword.Hex = true
 is_attribute_word keyword.DefBool = true
 is_attribute_word keyword.DefTristate = true
 is_attribute_word keyword.Prompt = true
 is_attribute_word keyword.Default = true
+is_attribute_word keyword.Range = true
 is_attribute_word keyword.Depends = true
 is_attribute_word keyword.Visible = true
 is_attribute_word keyword.Select = true
 is_attribute_word keyword.Imply = true
 is_attribute_word keyword.Modules = true
 is_attribute_word keyword.Option = true
+is_attribute_word keyword.Optional = true
 is_attribute_word keyword.Help = true
 is_attribute_word _ = false
 
 abbrev pub is_opener_word : Keyword → Bool
 is_opener_word keyword.Menu = true
 is_opener_word keyword.If = true
+is_opener_word keyword.Choice = true
 is_opener_word _ = false
 
 abbrev pub is_closer_word : Keyword → Bool
 is_closer_word keyword.EndMenu = true
 is_closer_word keyword.EndIf = true
+is_closer_word keyword.EndChoice = true
 is_closer_word _ = false
 
 -- whether a closer is that of an opener
 abbrev pub is_end_of : Keyword → Keyword → Bool
 is_end_of keyword.EndMenu keyword.Menu = true
 is_end_of keyword.EndIf keyword.If = true
+is_end_of keyword.EndChoice keyword.Choice = true
 is_end_of _ _ = false
 
 abbrev pub is_visible_word : Keyword → Bool
@@ -99,9 +113,25 @@ abbrev pub is_depends_word : Keyword → Bool
 is_depends_word keyword.Depends = true
 is_depends_word _ = false
 
--- a definition takes all attributes but `visible if`, a menu `depends on` and `visible if`, a comment `depends on`
+abbrev pub is_optional_word : Keyword → Bool
+is_optional_word keyword.Optional = true
+is_optional_word _ = false
+
+-- of a choice; `tristate` is one too, which is left out
+abbrev pub is_choice_attribute : Keyword → Bool
+is_choice_attribute keyword.Bool = true
+is_choice_attribute keyword.Prompt = true
+is_choice_attribute keyword.Default = true
+is_choice_attribute keyword.Depends = true
+is_choice_attribute keyword.Optional = true
+is_choice_attribute keyword.Help = true
+is_choice_attribute _ = false
+
+-- a definition takes all attributes but `visible if` and `optional`, a menu `depends on` and `visible if`, a comment
+-- `depends on`
 abbrev pub takes : Keyword → Keyword → Bool
-takes keyword.Config k = is_attribute_word k && not (is_visible_word k)
+takes keyword.Config k = is_attribute_word k && not (is_visible_word k) && not (is_optional_word k)
+takes keyword.Choice k = is_choice_attribute k
 takes keyword.Menu k = is_depends_word k || is_visible_word k
 takes keyword.Comment k = is_depends_word k
 takes _ k = false
@@ -110,6 +140,9 @@ takes _ k = false
 abbrev pub wants_quotes : Keyword → Bool
 wants_quotes keyword.Bool = true
 wants_quotes keyword.Tristate = true
+wants_quotes keyword.String = true
+wants_quotes keyword.Int = true
+wants_quotes keyword.Hex = true
 wants_quotes keyword.Prompt = true
 wants_quotes keyword.Menu = true
 wants_quotes keyword.Comment = true
@@ -135,8 +168,15 @@ abbrev pub is_comment_word : Keyword → Bool
 is_comment_word keyword.Comment = true
 is_comment_word _ = false
 
+abbrev pub is_choice_word : Keyword → Bool
+is_choice_word keyword.Choice = true
+is_choice_word _ = false
+
 abbrev pub is_config : LineValue → Bool
 is_config l = option_map_or is_config_word (keyword_of l) false
 
 abbrev pub is_comment : LineValue → Bool
 is_comment l = option_map_or is_comment_word (keyword_of l) false
+
+abbrev pub is_choice : LineValue → Bool
+is_choice l = option_map_or is_choice_word (keyword_of l) false

@@ -1,5 +1,6 @@
 pub mod Accepted
 pub mod Adding
+pub mod ChoiceFaults
 pub mod Collected
 pub mod Faults
 pub mod Fits
@@ -16,9 +17,11 @@ pub mod Nesting
 pub mod NodeGraph
 pub mod NodeRows
 pub mod Nodes
+pub mod Numerals
 pub mod Order
 pub mod OrderFault
 pub mod Outline
+pub mod OutlineFaults
 pub mod Parsed
 pub mod PlaceValue
 pub mod Places

@@ -1,5 +1,5 @@
 -- What is wrong with a line: this project's own list, in its order, after kconfig-language.rst.
-use Rattle.std.specs.Prelude.{◌≡◌, ◌⊎◌, ℕ, ◌+◌, ◌==◌, Bool, true, false, not, ◌&&◌, ◌||◌, List, [], ◌∷◌, Option, Some, None, if◌then◌else◌, nat_le, length, take, drop, count_by, codes}
+use Rattle.std.specs.Prelude.{◌≡◌, ◌⊎◌, ℕ, ◌+◌, ◌==◌, Bool, true, false, not, ◌&&◌, ◌||◌, List, [], ◌∷◌, Option, Some, None, is_some, if◌then◌else◌, nat_le, length, take, drop, count_by, codes}
 use Rattle.std.specs.Option.{option_map_or}
 use Rattle.std.specs.List.{list_all, list_any, range_with_len}
 use Rattle.std.specs.Str.{bytes_eq}
@@ -13,11 +13,15 @@ use Rattle.kc_tree.specs.declared.keyword.Keyword.{Keyword}
 use Rattle.kc_tree.specs.declared.keyword.Keyword.TheVariants as keyword
 use Rattle.kc_tree.specs.declared.place.OpenBlock.{OpenBlock}
 use Rattle.kc_tree.specs.declared.statement.Statement.{Statement}
-use Rattle.kc_tree.specs.declared.statement.Statement.TheVariants.{Config}
+use Rattle.kc_tree.specs.declared.statement.Statement.TheVariants.{Config, Default}
 use Rattle.kc_tree.specs.declared.fault.TreeProblem.{TreeProblem}
 use Rattle.kc_tree.specs.declared.fault.TreeProblem.TheVariants.{Limit, UnknownStatement, Malformed, StrayAttribute, UnbalancedBlock, LeftOut}
-use Rattle.kc_tree.specs.Keywords.{keyword_of, is_opener, is_attribute_word, is_closer_word, is_end_of, takes, wants_quotes}
-use Rattle.kc_tree.specs.Places.{open_blocks, nearest_statement}
+use Rattle.kc_tree.specs.Keywords.{keyword_of, is_opener, is_attribute_word, is_closer_word, is_end_of, takes, wants_quotes, is_choice_word}
+use Rattle.kc_tree.specs.Places.{open_blocks, choice_among, nearest_statement}
+use Rattle.kc_tree.specs.declared.expr.Term.{Term}
+use Rattle.kc_tree.specs.declared.expr.Term.TheVariants.{Symbol, Undefined}
+use Rattle.kc_tree.specs.Grammar.{formula, term_alone}
+use Rattle.kc_tree.specs.Names.{is_name}
 use Rattle.kc_tree.specs.Statements.{HasForm, HasNoForm}
 
 -- ---- words that are left out
@@ -42,12 +46,29 @@ starts_with p (t ∷ rest) = p t
 abbrev pub has_condition : List Token → Bool
 has_condition tokens = starts_with (is_fixed (codes "on")) tokens && list_any (is_fixed (codes "if")) (drop 1 tokens)
 
--- by the keyword and the tokens after it: `option env`, `depends on E if F`, a prompt without quotes
-abbrev pub is_left_out : Keyword → List Token → Bool
-is_left_out keyword.LeftOut rest = true
-is_left_out keyword.Option rest = starts_with (is_fixed (codes "env")) rest || starts_with (is_fixed (codes "defconfig_list")) rest
-is_left_out keyword.Depends rest = has_condition rest
-is_left_out k rest = wants_quotes k && starts_with is_unquoted rest
+-- a choice is open
+abbrev pub is_in_choice : List LineValue → Bool
+is_in_choice earlier = is_some (choice_among (open_blocks earlier))
+
+-- the nearest statement is a `choice`
+abbrev pub is_of_choice : List LineValue → Bool
+is_of_choice earlier = option_map_or is_choice_word (nearest_statement earlier) false
+
+abbrev pub has_tokens : List Token → Bool
+has_tokens [] = false
+has_tokens (t ∷ rest) = true
+
+-- by the lines before, the last first, the keyword and the tokens after it: words that are left out, `option env` and
+-- `option defconfig_list`, `depends on E if F`, a prompt without quotes, a choice with anything behind its word, a menu
+-- or a choice in a choice, a tristate choice
+abbrev pub is_left_out : List LineValue → Keyword → List Token → Bool
+is_left_out earlier keyword.LeftOut rest = true
+is_left_out earlier keyword.Option rest = starts_with (is_fixed (codes "env")) rest || starts_with (is_fixed (codes "defconfig_list")) rest
+is_left_out earlier keyword.Depends rest = has_condition rest
+is_left_out earlier keyword.Choice rest = has_tokens rest || is_in_choice earlier
+is_left_out earlier keyword.Menu rest = starts_with is_unquoted rest || is_in_choice earlier
+is_left_out earlier keyword.Tristate rest = starts_with is_unquoted rest || is_of_choice earlier
+is_left_out earlier k rest = wants_quotes k && starts_with is_unquoted rest
 
 -- ---- attributes and blocks
 -- an attribute whose nearest statement doesn't take it
@@ -103,7 +124,7 @@ block_problem earlier is_last k l =
 
 abbrev pub word_problem : List LineValue → Bool → Keyword → LineValue → Option TreeProblem
 word_problem earlier is_last k l =
-    if is_left_out k (drop 1 l.tokens) then Some LeftOut
+    if is_left_out earlier k (drop 1 l.tokens) then Some LeftOut
     else (if is_stray earlier k then Some StrayAttribute
     else (if block_problem earlier is_last k l then Some UnbalancedBlock
     else (if nests_too_deep l.tokens then Some Limit else None)))
@@ -117,7 +138,18 @@ kind_problem earlier is_last StatementLine l =
 abbrev pub early_problem : List LineValue → Bool → LineValue → Option TreeProblem
 early_problem earlier is_last l = kind_problem earlier is_last l.kind l
 
--- ---- the problem of a line that has a form: a block too deep, a symbol too many
+-- ---- the problem of a line that has a form: a default of a choice that is no name, a block too deep, a symbol too many
+-- the name that a term is, defined or not
+abbrev pub is_name_term : Option Term → Bool
+is_name_term (Some (Symbol s)) = true
+is_name_term (Some (Undefined w)) = is_name w
+is_name_term _ = false
+
+-- the value of a default in a choice is a name alone
+abbrev pub is_no_choice_default : List LineValue → Statement → Bool
+is_no_choice_default earlier (Default d) = is_of_choice earlier && not (is_name_term (term_alone (formula d.value)))
+is_no_choice_default earlier _ = false
+
 abbrev pub opens_too_deep : List LineValue → LineValue → Bool
 opens_too_deep earlier l = is_opener l && nat_le 64 (length (open_blocks earlier))
 
@@ -126,7 +158,9 @@ is_past_limit (Config None) = true
 is_past_limit _ = false
 
 abbrev pub late_problem : List LineValue → LineValue → Statement → Option TreeProblem
-late_problem earlier l s = if opens_too_deep earlier l || is_past_limit s then Some Limit else None
+late_problem earlier l s =
+    if is_no_choice_default earlier s then Some Malformed
+    else (if opens_too_deep earlier l || is_past_limit s then Some Limit else None)
 
 -- ---- the fault of a line
 -- the line says this, and has no problem

@@ -65,7 +65,7 @@ names_of lines = names_before (reverse lines)
 abbrev pub named_term : List (List ℕ) → List ℕ → Term
 named_term names w = option_map_or Symbol (symbol_among names w) (Undefined w)
 
--- the texts n, m and y are constants, in quotes too
+-- the words n, m and y are constants
 abbrev pub constant_or : List ℕ → Term → Term
 constant_or w other =
     if bytes_eq w (codes "n") then Tri No
@@ -75,5 +75,6 @@ constant_or w other =
 abbrev pub word_term : List (List ℕ) → List ℕ → Term
 word_term names w = constant_or w (named_term names w)
 
+-- a text in quotes; where it is valued, n, m and y in quotes are constants too
 abbrev pub quoted_term : List ℕ → Term
-quoted_term w = constant_or w (Text w)
+quoted_term w = Text w

@@ -8,4 +8,4 @@ use Rattle.kc_tree.specs.Graph as graph
 -- each node has a row, and a row has the numbers of just the nodes that its node is computed from
 pub record IsGraphOf (t : TreeValue) (g : List (List ℕ)) : Type 0 where
   pub whole : length g ≡ node_count t
-  pub exact : (p q : ℕ) → graph.Uses g p q ↔ Uses t (node_at p) (node_at q)
+  pub exact : (p q : ℕ) → graph.Uses g p q ↔ Uses t (node_at t p) (node_at t q)

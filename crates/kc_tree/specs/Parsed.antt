@@ -3,28 +3,29 @@
 use Rattle.std.specs.Prelude.{◌≡◌, List, None}
 use Rattle.kc_text.specs.LineValue.{LineValue}
 use Rattle.kc_tree.specs.declared.fault.TreeFault.{TreeFault}
-use Rattle.kc_tree.specs.declared.fault.TreeFault.TheVariants.{Line, Symbol, Loop, NoMemory}
+use Rattle.kc_tree.specs.declared.fault.TreeFault.TheVariants.{Line, Symbol, Choice, Loop, NoMemory}
 use Rattle.kc_tree.specs.TreeValue.{TreeValue}
 use Rattle.kc_tree.specs.TreeOf.{IsOutlineOf}
-use Rattle.kc_tree.specs.SymbolFaults.{symbol_fault}
+use Rattle.kc_tree.specs.OutlineFaults.{outline_fault}
 use Rattle.kc_tree.specs.Faults.{IsReadFault, IsTreeProblem, IsLoopless}
 
--- no line, no symbol and no node has a fault, and this is the tree of the lines
+-- no line, no symbol, no choice and no node has a fault, and this is the tree of the lines
 pub record IsTreeOf (lines : List LineValue) (t : TreeValue) : Type 0 where
   pub outline : IsOutlineOf lines t
-  pub symbols : symbol_fault t ≡ None
+  pub faultless : outline_fault t ≡ None
   pub loopless : IsLoopless t
 
 -- a fault of what the lines say, none of which has a fault itself
 pub record IsFaultOfOutline (lines : List LineValue) (fault : TreeFault) : Type 0 where
   pub tree : TreeValue
   pub outline : IsOutlineOf lines tree
-  pub is : IsTreeProblem tree fault
+  pub is : IsTreeProblem lines tree fault
 
--- The first fault of lines: that of the first line with one, else that of the first symbol, else a loop. Want of
+-- The first fault of lines: that of the first line with one, else that of a symbol or a choice, else a loop. Want of
 -- memory says nothing of the lines.
 abbrev pub IsFaultOf : List LineValue → TreeFault → Type 0
 IsFaultOf lines (Line problem path number) = IsReadFault lines (Line problem path number)
 IsFaultOf lines (Symbol problem name) = IsFaultOfOutline lines (Symbol problem name)
+IsFaultOf lines (Choice path number) = IsFaultOfOutline lines (Choice path number)
 IsFaultOf lines (Loop nodes) = IsFaultOfOutline lines (Loop nodes)
 IsFaultOf lines NoMemory = Unit {0}

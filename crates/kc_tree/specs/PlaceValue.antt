@@ -6,9 +6,9 @@ use Rattle.kc_tree.specs.declared.keyword.Keyword.{Keyword}
 use Rattle.kc_tree.specs.declared.keyword.Keyword.TheVariants as keyword
 use Rattle.kc_tree.specs.declared.place.OpenBlock.{OpenBlock}
 use Rattle.kc_tree.specs.declared.place.Owner.{Owner}
-use Rattle.kc_tree.specs.declared.place.Owner.TheVariants.{Definition, Menu, Comment}
+use Rattle.kc_tree.specs.declared.place.Owner.TheVariants.{Definition, Menu, Choice, Comment}
 use Rattle.kc_tree.specs.declared.place.Place.{Place}
-use Rattle.kc_tree.specs.Keywords.{is_config, is_opener, is_comment, is_opener_word, is_closer_word}
+use Rattle.kc_tree.specs.Keywords.{is_config, is_opener, is_choice, is_comment, is_opener_word, is_closer_word}
 use Rattle.kc_tree.specs.Places.{open_blocks, owner_at, nearest_statement}
 
 -- the lines before stand in reverse, the last first
@@ -18,15 +18,17 @@ pub record IsPlaceAfter (names : List (List ℕ)) (earlier : List LineValue) (p 
   pub owner : p.owner ≡ owner_at names earlier
   pub definitions : p.definitions ≡ count_by is_config earlier
   pub blocks : p.blocks ≡ count_by is_opener earlier
+  pub choices : p.choices ≡ count_by is_choice earlier
   pub comments : p.comments ≡ count_by is_comment earlier
 
 -- the open blocks, the innermost first, after a line of this keyword, which may open this block
 abbrev pub blocks_after : Keyword → OpenBlock → List OpenBlock → List OpenBlock
 blocks_after k b bs = if is_opener_word k then b ∷ bs else (if is_closer_word k then drop 1 bs else bs)
 
--- what a statement of this keyword makes after so many definitions, blocks and comments; it may define a symbol
-abbrev pub owner_made : Keyword → Option SymId → ℕ → ℕ → ℕ → Option Owner
-owner_made keyword.Config symbol definitions blocks comments = option_map (λ s. Definition s definitions) symbol
-owner_made keyword.Menu symbol definitions blocks comments = Some (Menu (record { 0 = blocks }))
-owner_made keyword.Comment symbol definitions blocks comments = Some (Comment (record { 0 = comments }))
-owner_made _ symbol definitions blocks comments = None
+-- what a statement of this keyword makes after so many definitions, blocks, choices and comments; it may define a symbol
+abbrev pub owner_made : Keyword → Option SymId → ℕ → ℕ → ℕ → ℕ → Option Owner
+owner_made keyword.Config symbol definitions blocks choices comments = option_map (λ s. Definition s definitions) symbol
+owner_made keyword.Menu symbol definitions blocks choices comments = Some (Menu (record { 0 = blocks }))
+owner_made keyword.Choice symbol definitions blocks choices comments = Some (Choice (record { 0 = choices }) (record { 0 = blocks }))
+owner_made keyword.Comment symbol definitions blocks choices comments = Some (Comment (record { 0 = comments }))
+owner_made _ symbol definitions blocks choices comments = None

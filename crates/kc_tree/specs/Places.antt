@@ -3,23 +3,30 @@
 -- that each of these looks back from the line.
 use Rattle.std.specs.Prelude.{ℕ, zero, suc, not, List, [], ◌∷◌, Option, Some, None, option_map, option_and_then, unwrap_or, if◌then◌else◌, count_by, find}
 use Rattle.kc_text.specs.LineValue.{LineValue}
+use Rattle.std.specs.Option.{option_or}
 use Rattle.kc_tree.specs.declared.id.BlockId.{BlockId}
+use Rattle.kc_tree.specs.declared.id.ChoiceId.{ChoiceId}
 use Rattle.kc_tree.specs.declared.keyword.Keyword.{Keyword}
 use Rattle.kc_tree.specs.declared.keyword.Keyword.TheVariants as keyword
 use Rattle.kc_tree.specs.declared.place.Owner.{Owner}
-use Rattle.kc_tree.specs.declared.place.Owner.TheVariants.{Definition, Menu, Comment}
+use Rattle.kc_tree.specs.declared.place.Owner.TheVariants.{Definition, Menu, Choice, Comment}
 use Rattle.kc_tree.specs.declared.place.OpenBlock.{OpenBlock}
-use Rattle.kc_tree.specs.Keywords.{keyword_of, is_attribute, is_opener, is_closer, is_config, is_comment}
+use Rattle.kc_tree.specs.Keywords.{keyword_of, is_attribute, is_opener, is_closer, is_config, is_choice, is_comment}
 use Rattle.kc_tree.specs.Names.{defined_name}
 use Rattle.kc_tree.specs.TreeValue.{symbol_among}
 
 -- ---- blocks
+-- the choice that a line opens, whose number is how many were opened before
+abbrev pub choice_opened : LineValue → List LineValue → Option ChoiceId
+choice_opened l earlier = if is_choice l then Some (record { 0 = count_by is_choice earlier }) else None
+
 -- the block that an opener opens, whose number is how many were opened before
 abbrev pub block_opened : LineValue → List LineValue → OpenBlock
 block_opened l earlier = record {
   id = record { 0 = count_by is_opener earlier };
   keyword = unwrap_or (keyword_of l) keyword.If;
   run = l.run;
+  choice = choice_opened l earlier;
 }
 
 -- The blocks that are still open, the innermost first: going back, each closer closes one opener before it. So many
@@ -41,12 +48,19 @@ abbrev pub innermost : List OpenBlock → Option BlockId
 innermost [] = None
 innermost (b ∷ bs) = Some b.id
 
+-- the choice among them, if there is one: no choice is in another
+abbrev pub choice_among : List OpenBlock → Option ChoiceId
+choice_among [] = None
+choice_among (b ∷ bs) = option_or b.choice (choice_among bs)
+
 -- ---- owners
 -- what a statement makes that takes attributes
 abbrev pub made_by : List (List ℕ) → Option Keyword → LineValue → List LineValue → Option Owner
 made_by names (Some keyword.Config) l earlier =
     option_map (λ s. Definition s (count_by is_config earlier)) (option_and_then (symbol_among names) (defined_name l))
 made_by names (Some keyword.Menu) l earlier = Some (Menu (record { 0 = count_by is_opener earlier }))
+made_by names (Some keyword.Choice) l earlier =
+    Some (Choice (record { 0 = count_by is_choice earlier }) (record { 0 = count_by is_opener earlier }))
 made_by names (Some keyword.Comment) l earlier = Some (Comment (record { 0 = count_by is_comment earlier }))
 made_by names _ l earlier = None
 

@@ -5,6 +5,7 @@ use Rattle.kc_tree.specs.declared.fault.TreeFault.{TreeFault}
 use Rattle.kc_tree.specs.declared.fault.TreeFault.TheVariants as fault
 use Rattle.kc_tree.specs.declared.fault.TreeProblem.{TreeProblem}
 use Rattle.kc_tree.specs.declared.id.BlockId.{BlockId}
+use Rattle.kc_tree.specs.declared.id.ChoiceId.{ChoiceId}
 use Rattle.kc_tree.specs.declared.place.Owner.{Owner}
 use Rattle.kc_tree.specs.declared.statement.Statement.{Statement}
 use Rattle.kc_tree.specs.declared.reading.Stop.{Stop}
@@ -14,8 +15,8 @@ use Rattle.kc_tree.specs.TreeOf.{Reading, AreReadingsBefore, tree_of}
 use Rattle.kc_tree.specs.Outline.{AreMade}
 use Rattle.kc_tree.specs.TreeValue.{TreeValue}
 
-abbrev pub reading_of : Statement × Option BlockId × Option Owner → Reading
-reading_of r = record { statement = r.0; block = r.1; owner = r.2 }
+abbrev pub reading_of : Statement × Option BlockId × Option ChoiceId × Option Owner → Reading
+reading_of r = record { statement = r.0; block = r.1; choice = r.2; owner = r.3 }
 
 -- the lines before, the last first, are read, and the outline is their tree
 pub record IsOutlineAfter (names : List (List ℕ)) (following : ℕ) (earlier : List LineValue) (t : TreeValue) : Type 0 where
@@ -33,6 +34,7 @@ IsStop names earlier is_last l NoMemory = Unit {0}
 abbrev pub IsProblemTold : TreeProblem → LineValue → TreeFault → Type 0
 IsProblemTold problem l (fault.Line told path number) = (told ≡ problem) × (path ≡ l.path) × (number ≡ l.number)
 IsProblemTold problem l (fault.Symbol told name) = ⊥
+IsProblemTold problem l (fault.Choice path number) = ⊥
 IsProblemTold problem l (fault.Loop nodes) = ⊥
 IsProblemTold problem l fault.NoMemory = Unit {0}
 

@@ -8,8 +8,10 @@ use Rattle.kc_text.specs.declared.line.Token.{Token}
 use Rattle.kc_text.specs.declared.line.Token.TheVariants.{Word, Quoted}
 use Rattle.kc_tree.specs.declared.id.SymId.{SymId}
 use Rattle.kc_tree.specs.declared.expr.Expr.{Expr}
+use Rattle.kc_tree.specs.declared.expr.Term.{Term}
 use Rattle.kc_tree.specs.declared.definition.Prompt.{Prompt}
 use Rattle.kc_tree.specs.declared.definition.DefaultValue.{DefaultValue}
+use Rattle.kc_tree.specs.declared.definition.Range.{Range}
 use Rattle.kc_tree.specs.declared.symbol.SymbolType.{SymbolType}
 use Rattle.kc_tree.specs.declared.symbol.SymbolType.TheVariants as kind
 use Rattle.kc_tree.specs.declared.keyword.Keyword.{Keyword}
@@ -18,7 +20,7 @@ use Rattle.kc_tree.specs.declared.statement.Statement.{Statement}
 use Rattle.kc_tree.specs.declared.statement.Statement.TheVariants as statement
 use Rattle.kc_tree.specs.Keywords.{first_keyword}
 use Rattle.kc_tree.specs.Names.{name_word}
-use Rattle.kc_tree.specs.Grammar.{IsExpression}
+use Rattle.kc_tree.specs.Grammar.{IsExpression, symbol_of, term}
 use Rattle.kc_tree.specs.TreeValue.{symbol_among}
 
 -- ---- parts of forms
@@ -54,14 +56,30 @@ IsWordAndExpression names w tokens e = (rest : List Token) × (tokens ≡ fixed 
 abbrev pub IsQuoted : List Token → List ℕ → Type 0
 IsQuoted tokens title = tokens ≡ Quoted title ∷ []
 
+-- a token that is a term
+abbrev pub IsTerm : List (List ℕ) → Token → Term → Type 0
+IsTerm names t x = symbol_of names t ≡ term x
+
+-- two terms, and perhaps a condition
+abbrev pub IsRange : List (List ℕ) → List Token → Range → Type 0
+IsRange names tokens r =
+    (low high : Token) × (rest : List Token) × (tokens ≡ low ∷ high ∷ rest) × IsTerm names low r.low × IsTerm names high r.high
+    × IsCondition names rest r.condition
+
 -- the words that name a type alone, or with a default
 abbrev pub type_word : SymbolType → Keyword
 type_word kind.Bool = keyword.Bool
 type_word kind.Tristate = keyword.Tristate
+type_word kind.String = keyword.String
+type_word kind.Int = keyword.Int
+type_word kind.Hex = keyword.Hex
 
-abbrev pub default_word : SymbolType → Keyword
-default_word kind.Bool = keyword.DefBool
-default_word kind.Tristate = keyword.DefTristate
+abbrev pub default_word : SymbolType → Option Keyword
+default_word kind.Bool = Some keyword.DefBool
+default_word kind.Tristate = Some keyword.DefTristate
+default_word kind.String = None
+default_word kind.Int = None
+default_word kind.Hex = None
 
 -- ---- the forms: the keyword, and the tokens after it
 abbrev pub HasFormAfter : List (List ℕ) → Keyword → List Token → Statement → Type 0
@@ -72,13 +90,16 @@ HasFormAfter names k tokens (statement.Menu title) = (k ≡ keyword.Menu) × IsQ
 HasFormAfter names k tokens statement.EndMenu = (k ≡ keyword.EndMenu) × (tokens ≡ [])
 HasFormAfter names k tokens (statement.If e) = (k ≡ keyword.If) × IsExpression names tokens e
 HasFormAfter names k tokens statement.EndIf = (k ≡ keyword.EndIf) × (tokens ≡ [])
+HasFormAfter names k tokens statement.Choice = (k ≡ keyword.Choice) × (tokens ≡ [])
+HasFormAfter names k tokens statement.EndChoice = (k ≡ keyword.EndChoice) × (tokens ≡ [])
 HasFormAfter names k tokens (statement.Comment title) = (k ≡ keyword.Comment) × IsQuoted tokens title
 HasFormAfter names k tokens statement.MainMenu = (k ≡ keyword.MainMenu) × (title : List ℕ) × IsQuoted tokens title
 HasFormAfter names k tokens (statement.Type kind) = (k ≡ type_word kind) × (tokens ≡ [])
 HasFormAfter names k tokens (statement.TypeAndPrompt kind p) = (k ≡ type_word kind) × IsPrompt names tokens p
-HasFormAfter names k tokens (statement.TypeAndDefault kind d) = (k ≡ default_word kind) × IsDefault names tokens d
+HasFormAfter names k tokens (statement.TypeAndDefault kind d) = (default_word kind ≡ Some k) × IsDefault names tokens d
 HasFormAfter names k tokens (statement.Prompt p) = (k ≡ keyword.Prompt) × IsPrompt names tokens p
 HasFormAfter names k tokens (statement.Default d) = (k ≡ keyword.Default) × IsDefault names tokens d
+HasFormAfter names k tokens (statement.Range r) = (k ≡ keyword.Range) × IsRange names tokens r
 HasFormAfter names k tokens (statement.DependsOn e) = (k ≡ keyword.Depends) × IsWordAndExpression names (codes "on") tokens e
 HasFormAfter names k tokens (statement.VisibleIf e) = (k ≡ keyword.Visible) × IsWordAndExpression names (codes "if") tokens e
 HasFormAfter names k tokens (statement.Select s c) = (k ≡ keyword.Select) × IsSelection names tokens s c
@@ -86,6 +107,7 @@ HasFormAfter names k tokens (statement.Imply s c) = (k ≡ keyword.Imply) × IsS
 HasFormAfter names k tokens statement.Modules =
     ((k ≡ keyword.Modules) × (tokens ≡ [])) ⊎ ((k ≡ keyword.Option) × (tokens ≡ fixed (codes "modules") ∷ []))
 HasFormAfter names k tokens statement.AllNoConfigYes = (k ≡ keyword.Option) × (tokens ≡ fixed (codes "allnoconfig_y") ∷ [])
+HasFormAfter names k tokens statement.Optional = (k ≡ keyword.Optional) × (tokens ≡ [])
 HasFormAfter names k tokens statement.Help = (k ≡ keyword.Help) × (tokens ≡ [])
 
 -- an end of file says that alone

@@ -1,19 +1,29 @@
 -- What is wrong with a symbol: this project's own list, in its order, after kconfig-language.rst. Each is looked for
 -- among all symbols by number before the next.
-use Rattle.std.specs.Prelude.{ℕ, Bool, false, not, Option, is_some, option_map, if◌then◌else◌, length, find, slice_get, codes}
+use Rattle.std.specs.Prelude.{ℕ, ◌==◌, Bool, true, false, not, ◌&&◌, ◌||◌, List, [], ◌∷◌, Option, is_some, option_map, if◌then◌else◌, length, find, slice_get, codes}
 use Rattle.std.specs.Option.{option_map_or, option_or}
 use Rattle.std.specs.List.{list_any, range_with_len}
 use Rattle.std.specs.Str.{bytes_eq}
 use Rattle.kc_tree.specs.declared.id.SymId.{SymId}
+use Rattle.kc_tree.specs.declared.symbol.SymbolType.{SymbolType}
+use Rattle.kc_tree.specs.declared.symbol.SymbolType.TheVariants as kind
 use Rattle.kc_tree.specs.declared.symbol.SymbolType.TheVariants.{Bool as BoolType}
+use Rattle.kc_tree.specs.declared.symbol.Reverse.{Reverse}
+use Rattle.kc_tree.specs.declared.definition.DefaultValue.{DefaultValue}
+use Rattle.kc_tree.specs.declared.definition.Range.{Range}
+use Rattle.kc_tree.specs.declared.expr.Term.{Term}
+use Rattle.kc_tree.specs.declared.expr.Term.TheVariants.{Tri, Text, Symbol, Undefined}
 use Rattle.kc_tree.specs.declared.fault.TreeProblem.{TreeProblem}
-use Rattle.kc_tree.specs.declared.fault.TreeProblem.TheVariants.{NoType, TypeConflict, SecondPrompt, BadModules}
+use Rattle.kc_tree.specs.declared.fault.TreeProblem.TheVariants.{NoType, TypeConflict, SecondPrompt, UnfitDefault, UnfitSelect, BadModules}
+use Rattle.std.specs.Char.{is_ascii_digit}
+use Rattle.kc_tree.specs.Grammar.{formula, lone_term}
+use Rattle.kc_tree.specs.Numerals.{numeral_in}
 use Rattle.kc_tree.specs.TreeOf.{same_type}
-use Rattle.kc_tree.specs.TreeValue.{TreeValue, SymbolValue, kind_of, name_of, definitions_of}
+use Rattle.kc_tree.specs.TreeValue.{TreeValue, SymbolValue, DefinitionValue, kind_of, name_of, definitions_of}
 
--- no definition gives it a type
+-- no definition gives it a type; a member of a choice is a bool then
 abbrev pub lacks_type : TreeValue → SymId → SymbolValue → Bool
-lacks_type t s x = not (is_some x.kind)
+lacks_type t s x = not (is_some x.kind) && not (is_some x.choice)
 
 -- its definitions give it different types
 abbrev pub has_types : TreeValue → SymId → SymbolValue → Bool
@@ -22,6 +32,59 @@ has_types t s x = x.has_other_type
 -- one of its definitions has two prompts
 abbrev pub has_two_prompts : TreeValue → SymId → SymbolValue → Bool
 has_two_prompts t s x = list_any (λ d. d.has_second_prompt) (definitions_of t x)
+
+-- whether n, m and y are values of the type
+abbrev pub is_tri_type : SymbolType → Bool
+is_tri_type kind.Bool = true
+is_tri_type kind.Tristate = true
+is_tri_type kind.String = false
+is_tri_type kind.Int = false
+is_tri_type kind.Hex = false
+
+-- the text is empty or begins as a number does
+abbrev pub begins_as_number : List ℕ → Bool
+begins_as_number [] = true
+begins_as_number (b ∷ bs) = is_ascii_digit b || b == 45
+
+-- a term that is no numeral of the type, int or hex, and should be one: it stands in quotes, or begins as a number does
+abbrev pub is_unfit_term : SymbolType → Term → Bool
+is_unfit_term k (Text w) = not (is_some (numeral_in k w))
+is_unfit_term k (Undefined w) = not (is_some (numeral_in k w)) && begins_as_number w
+is_unfit_term k (Tri v) = false
+is_unfit_term k (Symbol s) = false
+
+-- the value of a default, by the term that it is: a string, an int and a hex take one term
+abbrev pub is_unfit_value : SymbolType → Option Term → Bool
+is_unfit_value kind.Bool x = false
+is_unfit_value kind.Tristate x = false
+is_unfit_value kind.String x = not (is_some x)
+is_unfit_value kind.Int x = option_map_or (is_unfit_term kind.Int) x true
+is_unfit_value kind.Hex x = option_map_or (is_unfit_term kind.Hex) x true
+
+abbrev pub is_unfit_default : SymbolType → DefaultValue → Bool
+is_unfit_default k d = is_unfit_value k (lone_term (formula d.value))
+
+-- an int and a hex alone have ranges
+abbrev pub is_unfit_range : SymbolType → Range → Bool
+is_unfit_range kind.Int r = is_unfit_term kind.Int r.low || is_unfit_term kind.Int r.high
+is_unfit_range kind.Hex r = is_unfit_term kind.Hex r.low || is_unfit_term kind.Hex r.high
+is_unfit_range _ r = true
+
+-- a default or a range of a definition does not fit the type
+abbrev pub has_unfit : SymbolType → DefinitionValue → Bool
+has_unfit k d = list_any (is_unfit_default k) d.defaults || list_any (is_unfit_range k) d.ranges
+
+abbrev pub has_unfit_default : TreeValue → SymId → SymbolValue → Bool
+has_unfit_default t s x = list_any (has_unfit (kind_of x)) (definitions_of t x)
+
+abbrev pub is_empty : List Reverse → Bool
+is_empty [] = true
+is_empty (r ∷ rs) = false
+
+-- a string, an int or a hex that selects or implies, or that is selected or implied
+abbrev pub has_unfit_select : TreeValue → SymId → SymbolValue → Bool
+has_unfit_select t s x =
+    not (is_tri_type (kind_of x)) && (x.has_selections || not (is_empty x.selected) || not (is_empty x.implied))
 
 -- MODULES is no bool, or another symbol has `modules`
 abbrev pub is_bad_modules : TreeValue → SymId → SymbolValue → Bool
@@ -36,10 +99,15 @@ first_symbol t test =
 abbrev pub fault_by : TreeValue → TreeProblem → (TreeValue → SymId → SymbolValue → Bool) → Option (TreeProblem × SymId)
 fault_by t problem test = option_map (λ k. (problem, record { 0 = k })) (first_symbol t test)
 
--- the first fault of a symbol, if there is one
+-- the first of these faults of a symbol, if there is one
 abbrev pub symbol_fault : TreeValue → Option (TreeProblem × SymId)
 symbol_fault t =
     option_or (fault_by t NoType lacks_type)
     (option_or (fault_by t TypeConflict has_types)
     (option_or (fault_by t SecondPrompt has_two_prompts)
-    (fault_by t BadModules is_bad_modules)))
+    (option_or (fault_by t UnfitDefault has_unfit_default)
+    (fault_by t UnfitSelect has_unfit_select))))
+
+-- and the last, which comes after those of choices
+abbrev pub modules_fault : TreeValue → Option (TreeProblem × SymId)
+modules_fault t = fault_by t BadModules is_bad_modules

@@ -1,12 +1,15 @@
 -- A tree as contracts see it: this project's own record of what its lines say.
-use Rattle.std.specs.Prelude.{ℕ, zero, suc, Bool, List, [], ◌∷◌, Option, Some, None, option_map, position, unwrap_or, filter_map, slice_get, slice_index_or, codes}
+use Rattle.std.specs.Prelude.{ℕ, zero, suc, Bool, List, [], ◌∷◌, Option, Some, None, option_map, option_and_then, position, unwrap_or, filter_map, slice_get, slice_index_or, codes}
 use Rattle.std.specs.Option.{option_map_or}
 use Rattle.std.specs.Str.{bytes_eq}
 use Rattle.kc_tree.specs.declared.id.SymId.{SymId}
 use Rattle.kc_tree.specs.declared.id.BlockId.{BlockId}
+use Rattle.kc_tree.specs.declared.id.ChoiceId.{ChoiceId}
 use Rattle.kc_tree.specs.declared.expr.Expr.{Expr}
 use Rattle.kc_tree.specs.declared.definition.Prompt.{Prompt}
 use Rattle.kc_tree.specs.declared.definition.DefaultValue.{DefaultValue}
+use Rattle.kc_tree.specs.declared.definition.Range.{Range}
+use Rattle.kc_tree.specs.declared.choice.ChoiceDefault.{ChoiceDefault}
 use Rattle.kc_tree.specs.declared.symbol.SymbolType.{SymbolType}
 use Rattle.kc_tree.specs.declared.symbol.SymbolType.TheVariants.{Bool as BoolType}
 use Rattle.kc_tree.specs.declared.symbol.Reverse.{Reverse}
@@ -14,7 +17,7 @@ use Rattle.kc_tree.specs.declared.block.BlockKind.{BlockKind}
 use Rattle.kc_tree.specs.declared.tree.Entry.{Entry}
 
 -- one definition of a symbol: the innermost block around it, its own `depends on` lines, its first prompt and
--- whether it has another, and its defaults, in the order of the lines
+-- whether it has another, and its defaults and ranges, in the order of the lines
 pub record DefinitionValue : Type 0 where
   pub symbol : SymId
   pub block : Option BlockId
@@ -22,37 +25,54 @@ pub record DefinitionValue : Type 0 where
   pub prompt : Option Prompt
   pub has_second_prompt : Bool
   pub defaults : List DefaultValue
+  pub ranges : List Range
 
--- a symbol: its first type and whether a line gives it another, the numbers of its definitions, the `select` and
--- `imply` lines that name it, and whether it has a `modules` and an `option allnoconfig_y` line
+-- a symbol: its first type and whether a line gives it another, the choice that it is a member of, the numbers of its
+-- definitions, the `select` and `imply` lines that name it, whether it has such lines of its own, and whether it has a
+-- `modules` and an `option allnoconfig_y` line
 pub record SymbolValue : Type 0 where
   pub kind : Option SymbolType
   pub has_other_type : Bool
+  pub choice : Option ChoiceId
   pub definitions : List ℕ
   pub selected : List Reverse
   pub implied : List Reverse
+  pub has_selections : Bool
   pub has_modules : Bool
   pub is_yes_in_allnoconfig : Bool
 
--- a menu or an `if`: the innermost block around it, what all inside depends on, and the `visible if` lines
+-- a menu, an `if` or a choice: the innermost block around it, what all inside depends on, and the `visible if` lines
 pub record BlockValue : Type 0 where
   pub kind : BlockKind
   pub parent : Option BlockId
   pub depends : List Expr
   pub visible : List Expr
 
+-- a choice: its block, whose `depends on` lines are its own, its first prompt and whether it has another, its defaults
+-- and its members, in the order of the lines, and whether it has an `optional` line
+pub record ChoiceValue : Type 0 where
+  pub block : BlockId
+  pub prompt : Option Prompt
+  pub has_second_prompt : Bool
+  pub defaults : List ChoiceDefault
+  pub members : List SymId
+  pub is_optional : Bool
+
+-- a comment: its text, the innermost block around it and the choice that it stands in, and its `depends on` lines
 pub record CommentValue : Type 0 where
   pub title : List ℕ
   pub block : Option BlockId
+  pub choice : Option ChoiceId
   pub depends : List Expr
 
--- the names and the symbols by number; definitions, blocks and comments by number, which is the order of their
+-- the names and the symbols by number; definitions, blocks, choices and comments by number, which is the order of their
 -- lines; and the entries in the order of their lines
 pub record TreeValue : Type 0 where
   pub names : List (List ℕ)
   pub symbols : List SymbolValue
   pub definitions : List DefinitionValue
   pub blocks : List BlockValue
+  pub choices : List ChoiceValue
   pub comments : List CommentValue
   pub entries : List Entry
 
@@ -88,3 +108,11 @@ blocks_from blocks (suc n) (Some id) =
 
 abbrev pub blocks_around : TreeValue → Option BlockId → List BlockValue
 blocks_around t id = blocks_from t.blocks 64 id
+
+-- the choice that a symbol is a member of
+abbrev pub choice_of : TreeValue → SymId → Option ChoiceId
+choice_of t s = option_and_then (λ x. x.choice) (slice_get t.symbols s.0)
+
+-- the text of a choice's prompt, empty for one that has none
+abbrev pub choice_title : TreeValue → ChoiceId → List ℕ
+choice_title t c = option_map_or (λ x. x.text) (option_and_then (λ x. x.prompt) (slice_get t.choices c.0)) []

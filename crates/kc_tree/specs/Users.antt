@@ -38,9 +38,9 @@ pub record HasPlace (spans : List Span) (n q : ℕ) : Type 0 where
   pub within : end_at spans q < n
   pub apart : (i : ℕ) → i < length spans → i ≢ q → (end_at spans i ≤ end_at spans q) ⊎ (end_at spans q < start_at spans i)
 
--- the numbers of the users so far
-abbrev pub users_in : UserRows → List (List ℕ)
-users_in u = numbers_of (rows_in u.nodes.items u.spans.items)
+-- the numbers of the users so far, in a tree of so many symbols
+abbrev pub users_in : ℕ → UserRows → List (List ℕ)
+users_in symbols u = numbers_of symbols (rows_in u.nodes.items u.spans.items)
 
 -- the rows of users have room for so many more
 abbrev pub HasRoomFor : UserRows → (ℕ → ℕ) → Type 0

@@ -1,19 +1,23 @@
 -- Which nodes a node is computed from: kconfig-language.rst, "Menu dependencies" and "Menu attributes".
-use Rattle.std.specs.Prelude.{Bool, true, false, ◌||◌, List, [], ◌∷◌, ◌++◌, Option, Some, None, Contains, flat_map, slice_get}
+use Rattle.std.specs.Prelude.{Bool, true, false, ◌||◌, List, [], ◌∷◌, ◌++◌, Option, Some, None, Contains, flat_map, slice_get, codes}
 use Rattle.std.specs.Option.{option_map_or}
+use Rattle.std.specs.Str.{bytes_eq}
 use Rattle.kc_tree.specs.declared.id.SymId.{SymId}
+use Rattle.kc_tree.specs.declared.id.ChoiceId.{ChoiceId}
 use Rattle.kc_tree.specs.declared.tri.Tri.TheVariants.{No, Module, Yes}
 use Rattle.kc_tree.specs.declared.expr.Term.{Term}
 use Rattle.kc_tree.specs.declared.expr.Term.TheVariants.{Tri, Text, Symbol, Undefined}
 use Rattle.kc_tree.specs.declared.expr.Expr.{Expr}
 use Rattle.kc_tree.specs.declared.definition.DefaultValue.{DefaultValue}
+use Rattle.kc_tree.specs.declared.definition.Range.{Range}
+use Rattle.kc_tree.specs.declared.choice.ChoiceDefault.{ChoiceDefault}
 use Rattle.kc_tree.specs.declared.symbol.Reverse.{Reverse}
 use Rattle.kc_tree.specs.declared.symbol.SymbolType.TheVariants.{Tristate}
 use Rattle.kc_tree.specs.declared.node.Node.{Node}
-use Rattle.kc_tree.specs.declared.node.Node.TheVariants.{Vis, Val}
+use Rattle.kc_tree.specs.declared.node.Node.TheVariants.{Vis, Val, Mode, Sel}
 use Rattle.kc_tree.specs.Grammar.{Formula, atom, compare, negation, group, both, either, formula}
 use Rattle.kc_tree.specs.TreeOf.{same_type}
-use Rattle.kc_tree.specs.TreeValue.{TreeValue, SymbolValue, DefinitionValue, BlockValue, modules_symbol, kind_of, definitions_of, blocks_around}
+use Rattle.kc_tree.specs.TreeValue.{TreeValue, SymbolValue, DefinitionValue, BlockValue, ChoiceValue, modules_symbol, kind_of, definitions_of, blocks_around}
 
 -- ---- what an expression reads
 -- the value of a symbol of the tree
@@ -46,7 +50,7 @@ abbrev pub is_module_term : Term → Bool
 is_module_term (Tri Module) = true
 is_module_term (Tri No) = false
 is_module_term (Tri Yes) = false
-is_module_term (Text w) = false
+is_module_term (Text w) = bytes_eq w (codes "m")
 is_module_term (Symbol s) = false
 is_module_term (Undefined w) = false
 
@@ -95,8 +99,12 @@ prompt_nodes t d = option_map_or
 abbrev pub default_nodes : TreeValue → DefaultValue → List Node
 default_nodes t d = value_nodes t d.value ++ own_condition_nodes t d.condition
 
+abbrev pub range_nodes : TreeValue → Range → List Node
+range_nodes t r = term_nodes t r.low ++ (term_nodes t r.high ++ own_condition_nodes t r.condition)
+
 abbrev pub definition_nodes : TreeValue → DefinitionValue → List Node
-definition_nodes t d = flat_map (default_nodes t) d.defaults ++ dependency_nodes t d
+definition_nodes t d =
+    flat_map (default_nodes t) d.defaults ++ (flat_map (range_nodes t) d.ranges ++ dependency_nodes t d)
 
 -- a `select` or `imply` reads the value of its symbol and its condition
 abbrev pub reverse_nodes : TreeValue → Reverse → List Node
@@ -104,22 +112,59 @@ reverse_nodes t r =
     symbol_nodes t r.by ++ (own_condition_nodes t r.condition
     ++ option_map_or (dependency_nodes t) (slice_get t.definitions r.definition) [])
 
+-- ---- what a choice reads
+-- the mode of a choice of the tree, its selection, and the visibility of a symbol of the tree
+abbrev pub mode_nodes : TreeValue → ChoiceId → List Node
+mode_nodes t c = option_map_or (λ x. Mode c ∷ []) (slice_get t.choices c.0) []
+
+abbrev pub selection_nodes : TreeValue → ChoiceId → List Node
+selection_nodes t c = option_map_or (λ x. Sel c ∷ []) (slice_get t.choices c.0) []
+
+abbrev pub visibility_node : TreeValue → SymId → List Node
+visibility_node t s = option_map_or (λ x. Vis s ∷ []) (slice_get t.symbols s.0) []
+
+-- the condition of its prompt, with its own `depends on` lines and what the blocks around it ask for
+abbrev pub choice_prompt_nodes : TreeValue → ChoiceValue → List Node
+choice_prompt_nodes t x = option_map_or
+    (λ p. own_condition_nodes t p.condition
+    ++ (depends_nodes t (blocks_around t (Some x.block)) ++ visible_nodes t (blocks_around t (Some x.block))))
+    x.prompt []
+
+-- the visibility of the member that a default names, and its condition
+abbrev pub choice_default_nodes : TreeValue → ChoiceDefault → List Node
+choice_default_nodes t d = option_map_or (visibility_node t) d.symbol [] ++ own_condition_nodes t d.condition
+
+-- its mode, the visibilities of its members, and what its defaults read
+abbrev pub choice_value_nodes : TreeValue → ChoiceId → ChoiceValue → List Node
+choice_value_nodes t c x =
+    mode_nodes t c ++ (flat_map (visibility_node t) x.members ++ flat_map (choice_default_nodes t) x.defaults)
+
 -- ---- what a node is computed from
 -- a tristate acts as bool where there are no modules
 abbrev pub type_nodes : TreeValue → SymbolValue → List Node
 type_nodes t x = nodes_if (same_type (kind_of x) Tristate) (modules_nodes t)
 
+-- a member of a choice is visible within its mode
 abbrev pub visibility_nodes : TreeValue → SymbolValue → List Node
-visibility_nodes t x = flat_map (prompt_nodes t) (definitions_of t x) ++ type_nodes t x
+visibility_nodes t x =
+    flat_map (prompt_nodes t) (definitions_of t x) ++ (type_nodes t x ++ option_map_or (mode_nodes t) x.choice [])
 
-abbrev pub symbol_value_nodes : TreeValue → SymId → SymbolValue → List Node
-symbol_value_nodes t s x =
+-- of a symbol that is no member
+abbrev pub free_value_nodes : TreeValue → SymId → SymbolValue → List Node
+free_value_nodes t s x =
     Vis s ∷ (flat_map (definition_nodes t) (definitions_of t x)
     ++ (flat_map (reverse_nodes t) x.selected ++ (flat_map (reverse_nodes t) x.implied ++ type_nodes t x)))
+
+-- the value of a member is whether its choice selects it
+abbrev pub symbol_value_nodes : TreeValue → SymId → SymbolValue → List Node
+symbol_value_nodes t s x =
+    option_map_or (λ c. Vis s ∷ selection_nodes t c) x.choice (free_value_nodes t s x)
 
 abbrev pub used_nodes : TreeValue → Node → List Node
 used_nodes t (Vis s) = option_map_or (visibility_nodes t) (slice_get t.symbols s.0) []
 used_nodes t (Val s) = option_map_or (symbol_value_nodes t s) (slice_get t.symbols s.0) []
+used_nodes t (Mode c) = option_map_or (choice_prompt_nodes t) (slice_get t.choices c.0) []
+used_nodes t (Sel c) = option_map_or (choice_value_nodes t c) (slice_get t.choices c.0) []
 
 -- p is computed from q
 unfoldable pub Uses : TreeValue → Node → Node → Type 0

@@ -2,7 +2,7 @@ ghost use Rattle.std.specs.Prelude.{◌≡◌, None, Some, [], OnOk};
 ghost use Rattle.kc_tree.specs.Adding.{new_block, block_after, new_comment, comment_after};
 
 use crate::expr::Expr;
-use crate::id::BlockId;
+use crate::id::{BlockId, ChoiceId};
 use crate::room::push_one;
 use kc_text::Text;
 use std::alloc::{AllocError, Global};
@@ -15,6 +15,8 @@ pub enum BlockKind {
     Menu(Text),
     /// `if`.
     If,
+    /// `choice`.
+    Choice,
 }
 
 /// A block of lines. Contracts see the record of its parts.
@@ -56,7 +58,7 @@ impl Block {
         }
     }
 
-    /// Takes a `depends on` line of a menu.
+    /// Takes a `depends on` line of a menu or a choice.
     pub(crate) fn take_depends(&mut self, on: Expr) -> Result<(), AllocError>
         ensures { OnOk result (self.new ≡ block_after (Some on) None self.old) }
     {
@@ -84,7 +86,7 @@ impl Block {
         self.parent
     }
 
-    /// What all that stands inside depends on: the expression of an `if`, the `depends on` lines of a menu.
+    /// What all that stands inside depends on: the expression of an `if`, the `depends on` lines of a menu or a choice.
     pub fn depends(&self) -> &[Expr]
         ensures { result.now ≡ self.now.depends }
     {
@@ -104,6 +106,7 @@ impl Block {
 pub struct Comment {
     pub(crate) title: Text,
     pub(crate) block: Option<BlockId>,
+    pub(crate) choice: Option<ChoiceId>,
     pub(crate) depends: Vec<Expr>,
 }
 
@@ -116,17 +119,23 @@ impl Model for Comment {
 
     ghost coded = { Prim.hlevel (codes, expr.the_row.coded) };
 
-    ghost view = { λ c. record { title = c.title; block = c.block; depends = c.depends.items } };
+    ghost view = { λ c. record { title = c.title; block = c.block; choice = c.choice; depends = c.depends.items } };
 }
 
 impl Comment {
     /// With no attributes yet.
-    pub(crate) fn new(alloc: Global, title: Text, block: Option<BlockId>) -> Comment
-        ensures { result ≡ new_comment title block }
+    pub(crate) fn new(
+        alloc: Global,
+        title: Text,
+        block: Option<BlockId>,
+        choice: Option<ChoiceId>,
+    ) -> Comment
+        ensures { result ≡ new_comment title block choice }
     {
         Comment {
             title,
             block,
+            choice,
             depends: Vec::new(alloc),
         }
     }
@@ -150,6 +159,13 @@ impl Comment {
         ensures { result ≡ self.now.block }
     {
         self.block
+    }
+
+    /// The choice that it stands in.
+    pub fn choice(&self) -> Option<ChoiceId>
+        ensures { result ≡ self.now.choice }
+    {
+        self.choice
     }
 
     /// Its own `depends on` lines, which `&&` joins.

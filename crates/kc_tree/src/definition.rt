@@ -2,7 +2,7 @@ ghost use Rattle.std.specs.Prelude.{◌≡◌, None, Some, OnOk};
 ghost use Rattle.std.specs.Option.{option_copied};
 ghost use Rattle.kc_tree.specs.Adding.{new_definition, definition_after};
 
-use crate::expr::Expr;
+use crate::expr::{Expr, Term};
 use crate::id::{BlockId, SymId};
 use crate::room::push_one;
 use kc_text::Text;
@@ -25,6 +25,15 @@ pub struct DefaultValue {
     pub condition: Option<Expr>,
 }
 
+/// A range: `range LOW HIGH if E`.
+#[derive(Debug, Drop)]
+pub struct Range {
+    pub low: Term,
+    pub high: Term,
+    /// The condition after `if`.
+    pub condition: Option<Expr>,
+}
+
 /// One definition of a symbol: a `config` or `menuconfig` line with its attributes. Contracts see the record of its
 /// parts.
 #[derive(Debug, Drop)]
@@ -35,6 +44,7 @@ pub struct Definition {
     pub(crate) prompt: Option<Prompt>,
     pub(crate) has_second_prompt: bool,
     pub(crate) defaults: Vec<DefaultValue>,
+    pub(crate) ranges: Vec<Range>,
 }
 
 impl Model for Definition {
@@ -46,7 +56,7 @@ impl Model for Definition {
 
     ghost coded = { Prim.hlevel (codes, expr.the_row.coded) };
 
-    ghost view = { λ d. record { symbol = d.symbol; block = d.block; depends = d.depends.items; prompt = d.prompt; has_second_prompt = d.has_second_prompt; defaults = d.defaults.items } };
+    ghost view = { λ d. record { symbol = d.symbol; block = d.block; depends = d.depends.items; prompt = d.prompt; has_second_prompt = d.has_second_prompt; defaults = d.defaults.items; ranges = d.ranges.items } };
 }
 
 impl Definition {
@@ -61,19 +71,20 @@ impl Definition {
             prompt: None,
             has_second_prompt: false,
             defaults: Vec::new(alloc),
+            ranges: Vec::new(alloc),
         }
     }
 
     /// Takes a `depends on` line.
     pub(crate) fn take_depends(&mut self, on: Expr) -> Result<(), AllocError>
-        ensures { OnOk result (self.new ≡ definition_after (Some on) None None self.old) }
+        ensures { OnOk result (self.new ≡ definition_after (Some on) None None None self.old) }
     {
         push_one(&mut self.depends, on)
     }
 
     /// Takes a prompt: the first one stays.
     pub(crate) fn take_prompt(&mut self, prompt: Prompt)
-        ensures { self.new ≡ definition_after None (Some prompt) None self.old }
+        ensures { self.new ≡ definition_after None (Some prompt) None None self.old }
     {
         if self.prompt.is_some() {
             self.has_second_prompt = true;
@@ -84,9 +95,16 @@ impl Definition {
 
     /// Takes a default.
     pub(crate) fn take_default(&mut self, value: DefaultValue) -> Result<(), AllocError>
-        ensures { OnOk result (self.new ≡ definition_after None None (Some value) self.old) }
+        ensures { OnOk result (self.new ≡ definition_after None None (Some value) None self.old) }
     {
         push_one(&mut self.defaults, value)
+    }
+
+    /// Takes a range.
+    pub(crate) fn take_range(&mut self, range: Range) -> Result<(), AllocError>
+        ensures { OnOk result (self.new ≡ definition_after None None None (Some range) self.old) }
+    {
+        push_one(&mut self.ranges, range)
     }
 
     /// The symbol that is defined.
@@ -122,5 +140,12 @@ impl Definition {
         ensures { result.now ≡ self.now.defaults }
     {
         self.defaults.as_slice()
+    }
+
+    /// The ranges, in the order of their lines.
+    pub fn ranges(&self) -> &[Range]
+        ensures { result.now ≡ self.now.ranges }
+    {
+        self.ranges.as_slice()
     }
 }

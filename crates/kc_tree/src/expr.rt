@@ -22,9 +22,9 @@ pub enum Comparison {
 /// A term of an expression.
 #[derive(Debug, Drop)]
 pub enum Term {
-    /// One of the texts n, m and y, in quotes or not.
+    /// One of the words n, m and y.
     Tri(Tri),
-    /// Another text in quotes.
+    /// A text in quotes. The texts n, m and y are the constants that the words are.
     Text(Text),
     /// A defined symbol.
     Symbol(SymId),

@@ -183,7 +183,11 @@ fn read_term(
 }
 
 /// The term that a token is. The word `if` is none, but where it comes from a reference.
-fn term_of(alloc: Global, names: &Names, token: &Token<'_>) -> Result<Option<Term>, AllocError>
+pub(crate) fn term_of(
+    alloc: Global,
+    names: &Names,
+    token: &Token<'_>,
+) -> Result<Option<Term>, AllocError>
     requires { length names.now ≤ 65535 }
     ensures { IfOk result (λ r. MatchOption r ((x : Term) → symbol_of names.now token.now ≡ term x → ⊥) (λ x. symbol_of names.now token.now ≡ term x)) }
 {

@@ -25,13 +25,17 @@ pub enum TreeProblem {
     TypeConflict,
     /// A definition with two prompts (K14).
     SecondPrompt,
+    /// A default or a range that does not fit the type of its symbol (K15).
+    UnfitDefault,
+    /// A `select` or an `imply` in, or of, a symbol that is no bool and no tristate (K16).
+    UnfitSelect,
     /// `MODULES` that is no bool, or `modules` in another symbol (K18).
     BadModules,
     /// A word or a form of Kconfig that is left out (K20).
     LeftOut,
 }
 
-/// A node with the name of its symbol.
+/// A node with the name of its symbol, or the prompt of its choice.
 #[derive(Debug, Drop)]
 pub struct NamedNode {
     pub node: Node,
@@ -53,6 +57,13 @@ pub enum TreeFault {
     Symbol {
         problem: TreeProblem,
         name: Text,
+    },
+    /// A choice without a prompt or with two, with a default that is not one of its members, or with a member that is
+    /// no bool, has no prompt or more than one definition (K17): the path of its file and the number of its line.
+    #[error("{path}:{line}: K17")]
+    Choice {
+        path: Text,
+        line: usize,
     },
     /// A dependency loop (K19): each node uses the next, and the last the first.
     #[error("K19")]
@@ -87,6 +98,8 @@ impl TreeProblem {
             TreeProblem::NoType => 12,
             TreeProblem::TypeConflict => 13,
             TreeProblem::SecondPrompt => 14,
+            TreeProblem::UnfitDefault => 15,
+            TreeProblem::UnfitSelect => 16,
             TreeProblem::BadModules => 18,
             TreeProblem::LeftOut => 20,
         }

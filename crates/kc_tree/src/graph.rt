@@ -4,17 +4,15 @@
 //! Both walks are loops over vectors, with no recursion: their cost grows with the number of nodes
 //! and uses.
 
-ghost use Rattle.std.specs.Prelude.{◌≡◌, ◌+◌, ◌<◌, ◌^◌, IfErr, IfOk, IfSome, OnOk, All, length, map, slice_get};
+ghost use Rattle.std.specs.Prelude.{◌≡◌, ◌+◌, ◌<◌, ◌≤◌, ◌^◌, IfErr, IfOk, IfSome, OnOk, length, slice_get};
 ghost use Rattle.kc_tree.specs.Graph.{IsClosed, IsConverse, IsOrder, HasNoLoop, row, use_count};
-ghost use Rattle.kc_tree.specs.NodeRows.{numbers_of};
-ghost use Rattle.kc_tree.specs.Nodes.{number_of};
+ghost use Rattle.kc_tree.specs.NodeRows.{numbers_of, AreNumbered};
 
 mod search;
 #[cfg(test)]
 mod tests;
 mod users;
 
-use crate::node::Node;
 use crate::node_rows::NodeRows;
 use search::Search;
 use std::alloc::{AllocError, Global};
@@ -25,19 +23,21 @@ use users::{UserRows, use_counts};
 /// that node `p` uses. Contracts see the numbers of each row.
 #[derive(Drop)]
 pub struct Graph<'a> {
+    /// The number of symbols of the tree, by which its nodes are numbered.
+    symbols: usize,
     rows: &'a NodeRows,
 }
 
 impl<'a> Model for Graph<'a> {
-    ghost use Rattle.std.specs.Prelude.{ℕ, List};
+    ghost use Rattle.std.specs.Prelude.{◌≤◌, ℕ, List};
     ghost use Rattle.kc_tree.specs.Graph.{IsClosed};
     ghost use Rattle.kc_tree.specs.NodeRows.{numbers_of};
 
     ghost Value = { List (List ℕ) };
 
-    ghost view = { λ a. numbers_of a.rows.now };
+    ghost view = { λ a. numbers_of a.symbols a.rows.now };
 
-    ghost invariant = { λ a. IsClosed (numbers_of a.rows.now) };
+    ghost invariant = { λ a. IsClosed (numbers_of a.symbols a.rows.now) × (a.symbols ≤ 65535) };
 }
 
 /// Why no order of a graph was made.
@@ -64,12 +64,13 @@ impl From<AllocError> for OrderFault {
 impl<'a> Graph<'a> {
     ghost use Rattle.kc_tree.specs.OrderFault.{IsTrueFault};
 
-    /// The graph of rows. Each node that a row names has a row of its own.
-    pub fn of(rows: &'a NodeRows) -> Graph<'a>
-        requires { IsClosed (numbers_of rows.now) }
-        ensures { result ≡ numbers_of rows.entry.now }
+    /// The graph of rows, in a tree of so many symbols. Each node that a row names has a row of its own.
+    pub fn of(symbols: usize, rows: &'a NodeRows) -> Graph<'a>
+        requires few { symbols ≤ 65535 }
+        requires closed { IsClosed (numbers_of symbols rows.now) }
+        ensures { result ≡ numbers_of symbols rows.entry.now }
     {
-        Graph { rows }
+        Graph { symbols, rows }
     }
 
     /// How many nodes there are.
@@ -79,15 +80,6 @@ impl<'a> Graph<'a> {
         self.rows.len()
     }
 
-    /// The nodes that a node uses.
-    pub fn row(&self, node: usize) -> &[Node]
-        requires { node < length self.now }
-        ensures nodes { map number_of result.now ≡ row self.now node }
-        ensures within { All (λ used. number_of used < length self.now) result.now }
-    {
-        self.rows.row(node)
-    }
-
     /// The number of the node at a place of a row.
     pub fn use_at(&self, node: usize, place: usize) -> Option<usize>
         requires { node < length self.now }
@@ -95,8 +87,8 @@ impl<'a> Graph<'a> {
         ensures within { IfSome result (λ used. used < length self.now) }
         ensures next { IfSome result (λ _. place + 1 < 2 ^ 64) }
     {
-        let used = self.row(node).get(place)?;
-        Some(used.number())
+        let used = self.rows.row(node).get(place)?;
+        Some(used.number_in(self.symbols))
     }
 
     /// The nodes in an order in which each comes after all that it uses, or a loop where there is one.
@@ -115,18 +107,21 @@ impl<'a> Graph<'a> {
         Ok(search.into_order())
     }
 
-    /// The users of each node: row `q` holds the nodes that use node `q`, each as often as it does.
+    /// The users of each node, as nodes of a tree of so many symbols: row `q` holds the nodes that use node `q`,
+    /// each as often as it does.
     ///
     /// It fails where memory runs out, and where 32 bits do not count the nodes or the uses.
-    pub fn users(&self, alloc: Global) -> Result<NodeRows, AllocError>
-        ensures converse { IfOk result (λ users. IsConverse self.now (numbers_of users)) }
-        ensures count { IfOk result (λ users. use_count (numbers_of users) ≡ use_count self.now) }
+    pub fn users(&self, alloc: Global, symbols: usize) -> Result<NodeRows, AllocError>
+        requires { symbols ≤ 65535 }
+        ensures converse { IfOk result (λ users. IsConverse self.now (numbers_of symbols users)) }
+        ensures count { IfOk result (λ users. use_count (numbers_of symbols users) ≡ use_count self.now) }
+        ensures numbered { IfOk result (λ users. AreNumbered symbols users) }
     {
         let nodes = u32::try_from(self.len()).map_err(|_| AllocError)?;
         let counts = use_counts(alloc, self)?;
-        let mut users = UserRows::with_room(alloc, counts.as_slice())?;
+        let mut users = UserRows::with_room(alloc, symbols, counts.as_slice())?;
         for user in 0..nodes {
-            users.add_uses(self, user);
+            users.add_uses(self, symbols, user);
         }
         Ok(users.into_rows())
     }

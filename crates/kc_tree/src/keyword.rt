@@ -1,7 +1,7 @@
 //! What a line is by its first word.
 
 ghost use Rattle.std.specs.Prelude.{◌≡◌};
-ghost use Rattle.kc_tree.specs.Keywords.{first_keyword, keyword_named, keyword_of, is_attribute_word, is_opener_word, is_closer_word, is_end_of, takes, wants_quotes};
+ghost use Rattle.kc_tree.specs.Keywords.{first_keyword, keyword_named, keyword_of, is_attribute_word, is_choice_attribute, is_opener_word, is_closer_word, is_end_of, takes, wants_quotes};
 
 use kc_text::{Line, LineKind, Token};
 
@@ -14,22 +14,29 @@ pub(crate) enum Keyword {
     EndMenu,
     If,
     EndIf,
+    Choice,
+    EndChoice,
     Comment,
     MainMenu,
     /// `source`, where it was not followed.
     Source,
     Bool,
     Tristate,
+    String,
+    Int,
+    Hex,
     DefBool,
     DefTristate,
     Prompt,
     Default,
+    Range,
     Depends,
     Visible,
     Select,
     Imply,
     Modules,
     Option,
+    Optional,
     /// `help` and `---help---`
     Help,
     /// A word of Kconfig that is left out.
@@ -62,9 +69,13 @@ fn keyword_named(word: &str) -> Option<Keyword>
         "modules" => Some(Keyword::Modules),
         "mainmenu" => Some(Keyword::MainMenu),
         "source" => Some(Keyword::Source),
-        "string" | "int" | "hex" | "range" | "choice" | "endchoice" | "optional" => {
-            Some(Keyword::LeftOut)
-        }
+        "string" => Some(Keyword::String),
+        "int" => Some(Keyword::Int),
+        "hex" => Some(Keyword::Hex),
+        "range" => Some(Keyword::Range),
+        "choice" => Some(Keyword::Choice),
+        "endchoice" => Some(Keyword::EndChoice),
+        "optional" => Some(Keyword::Optional),
         "rsource" | "osource" | "orsource" | "def_int" | "def_hex" | "def_string" => {
             Some(Keyword::LeftOut)
         }
@@ -101,22 +112,29 @@ impl Keyword {
         match self {
             Keyword::Bool
             | Keyword::Tristate
+            | Keyword::String
+            | Keyword::Int
+            | Keyword::Hex
             | Keyword::DefBool
             | Keyword::DefTristate
             | Keyword::Prompt
             | Keyword::Default
+            | Keyword::Range
             | Keyword::Depends
             | Keyword::Visible
             | Keyword::Select
             | Keyword::Imply
             | Keyword::Modules
             | Keyword::Option
+            | Keyword::Optional
             | Keyword::Help => true,
             Keyword::Config
             | Keyword::Menu
             | Keyword::EndMenu
             | Keyword::If
             | Keyword::EndIf
+            | Keyword::Choice
+            | Keyword::EndChoice
             | Keyword::Comment
             | Keyword::MainMenu
             | Keyword::Source
@@ -128,14 +146,14 @@ impl Keyword {
     pub(crate) fn opens(self) -> bool
         ensures { result ≡ is_opener_word self }
     {
-        matches!(self, Keyword::Menu | Keyword::If)
+        matches!(self, Keyword::Menu | Keyword::If | Keyword::Choice)
     }
 
     /// Whether its line closes a block.
     pub(crate) fn closes(self) -> bool
         ensures { result ≡ is_closer_word self }
     {
-        matches!(self, Keyword::EndMenu | Keyword::EndIf)
+        matches!(self, Keyword::EndMenu | Keyword::EndIf | Keyword::EndChoice)
     }
 
     /// Whether it closes what an opener opens.
@@ -145,8 +163,24 @@ impl Keyword {
         match self {
             Keyword::EndMenu => opener == Keyword::Menu,
             Keyword::EndIf => opener == Keyword::If,
+            Keyword::EndChoice => opener == Keyword::Choice,
             _ => false,
         }
+    }
+
+    /// Whether a choice takes it.
+    fn is_of_choice(self) -> bool
+        ensures { result ≡ is_choice_attribute self }
+    {
+        matches!(
+            self,
+            Keyword::Bool
+                | Keyword::Prompt
+                | Keyword::Default
+                | Keyword::Depends
+                | Keyword::Optional
+                | Keyword::Help
+        )
     }
 
     /// Whether the statement of this word takes an attribute (kconfig-language.rst, "Menu attributes").
@@ -154,7 +188,12 @@ impl Keyword {
         ensures { result ≡ takes self attribute }
     {
         match self {
-            Keyword::Config => attribute.is_attribute() && attribute != Keyword::Visible,
+            Keyword::Config => {
+                attribute.is_attribute()
+                    && attribute != Keyword::Visible
+                    && attribute != Keyword::Optional
+            }
+            Keyword::Choice => attribute.is_of_choice(),
             Keyword::Menu => matches!(attribute, Keyword::Depends | Keyword::Visible),
             Keyword::Comment => matches!(attribute, Keyword::Depends),
             _ => false,
@@ -169,6 +208,9 @@ impl Keyword {
             self,
             Keyword::Bool
                 | Keyword::Tristate
+                | Keyword::String
+                | Keyword::Int
+                | Keyword::Hex
                 | Keyword::Prompt
                 | Keyword::Menu
                 | Keyword::Comment

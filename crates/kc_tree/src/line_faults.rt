@@ -2,15 +2,19 @@
 
 ghost use Rattle.std.specs.Prelude.{◌≡◌, Some, reverse, drop};
 ghost use Rattle.std.specs.List.{list_any};
+ghost use Rattle.std.specs.Option.{option_copied};
 ghost use Rattle.kc_tree.specs.Keywords.{keyword_of};
-ghost use Rattle.kc_tree.specs.LineFaults.{block_problem, closes_wrongly, early_problem, has_condition, is_fixed, is_left_out, is_past_limit, is_stray, is_unquoted, late_problem, opens_too_deep, starts_with, word_problem};
+ghost use Rattle.kc_tree.specs.LineFaults.{block_problem, closes_wrongly, early_problem, has_condition, is_fixed, is_in_choice, is_left_out, is_name_term, is_no_choice_default, is_of_choice, is_past_limit, is_stray, is_unquoted, late_problem, opens_too_deep, starts_with, word_problem};
 ghost use Rattle.kc_tree.specs.Places.{open_blocks, nearest_statement};
 
 mod nesting;
 
+use crate::expr::Term;
 use crate::fault::TreeProblem;
 use crate::keyword::Keyword;
 use crate::line_faults::nesting::nests_too_deep;
+use crate::lone_terms::term_alone;
+use crate::name::is_name;
 use crate::place::{OpenBlocks, Place};
 use crate::statement::Statement;
 use kc_text::{Line, LineKind, Token};
@@ -74,12 +78,35 @@ fn has_condition(tokens: &[Token<'_>]) -> bool
     starts_with_word(tokens, "on") && has_word(after_first(tokens), "if")
 }
 
-/// Whether a form is left out, by its keyword and the tokens after that.
-fn is_left_out(keyword: Keyword, tokens: &[Token<'_>]) -> bool
-    ensures { result ≡ is_left_out keyword tokens.now }
+/// Whether the nearest statement is a `choice`.
+fn is_of_choice(place: &Place, seen: &[Line<'_>]) -> bool
+    requires { place.now.statement ≡ nearest_statement (reverse seen.now) }
+    ensures { result ≡ is_of_choice (reverse seen.now) }
+{
+    place
+        .statement()
+        .is_some_and(|statement| statement == Keyword::Choice)
+}
+
+/// Whether a choice is open.
+fn is_in_choice(place: &Place, seen: &[Line<'_>]) -> bool
+    requires { place.now.stack ≡ open_blocks (reverse seen.now) }
+    ensures { result ≡ is_in_choice (reverse seen.now) }
+{
+    place.choice().is_some()
+}
+
+/// Whether a form is left out, by where it stands, its keyword and the tokens after that.
+fn is_left_out(place: &Place, seen: &[Line<'_>], keyword: Keyword, tokens: &[Token<'_>]) -> bool
+    requires stack { place.now.stack ≡ open_blocks (reverse seen.now) }
+    requires statement { place.now.statement ≡ nearest_statement (reverse seen.now) }
+    ensures { result ≡ is_left_out (reverse seen.now) keyword tokens.now }
 {
     match keyword {
         Keyword::LeftOut => true,
+        Keyword::Choice => !tokens.is_empty() || is_in_choice(place, seen),
+        Keyword::Menu => starts_unquoted(tokens) || is_in_choice(place, seen),
+        Keyword::Tristate => starts_unquoted(tokens) || is_of_choice(place, seen),
         Keyword::Option => {
             starts_with_word(tokens, "env") || starts_with_word(tokens, "defconfig_list")
         }
@@ -137,7 +164,7 @@ fn word_problem(
     requires keyword { keyword_of line.now ≡ Some keyword }
     ensures { result ≡ word_problem (reverse seen.now) is_last keyword line.now }
 {
-    if is_left_out(keyword, after_first(line.tokens())) {
+    if is_left_out(place, seen, keyword, after_first(line.tokens())) {
         Some(TreeProblem::LeftOut)
     } else if is_stray(place, seen, keyword) {
         Some(TreeProblem::StrayAttribute)
@@ -204,7 +231,32 @@ fn is_past_limit(statement: &Statement) -> bool
     matches!(statement, Statement::Config(None))
 }
 
-/// The problem of a line that has a form: a block too deep, or a symbol too many.
+/// Whether a term is a name, of a symbol or of none.
+fn is_name_term(term: Option<&Term>) -> bool
+    ensures { result ≡ is_name_term (option_copied term.entry) }
+{
+    match term {
+        Some(Term::Symbol(_)) => true,
+        Some(Term::Undefined(word)) => is_name(word.as_str()),
+        Some(Term::Tri(_) | Term::Text(_)) | None => false,
+    }
+}
+
+/// Whether a statement is a default of a choice, and its value no name alone.
+fn is_no_choice_default(place: &Place, seen: &[Line<'_>], statement: &Statement) -> bool
+    requires { place.now.statement ≡ nearest_statement (reverse seen.now) }
+    ensures { result ≡ is_no_choice_default (reverse seen.now) statement.now }
+{
+    match statement {
+        Statement::Default(default) => {
+            is_of_choice(place, seen) && !is_name_term(term_alone(&default.value))
+        }
+        _ => false,
+    }
+}
+
+/// The problem of a line that has a form: a default of a choice that is no name, a block too deep, or a symbol too
+/// many.
 pub(crate) fn late_problem(
     place: &Place,
     seen: &[Line<'_>],
@@ -213,10 +265,13 @@ pub(crate) fn late_problem(
     statement: &Statement,
 ) -> Option<TreeProblem>
     requires stack { place.now.stack ≡ open_blocks (reverse seen.now) }
+    requires statement { place.now.statement ≡ nearest_statement (reverse seen.now) }
     requires keyword { keyword ≡ keyword_of line.now }
     ensures { result ≡ late_problem (reverse seen.now) line.now statement.now }
 {
-    if opens_too_deep(place, seen, line, keyword) || is_past_limit(statement) {
+    if is_no_choice_default(place, seen, statement) {
+        Some(TreeProblem::Malformed)
+    } else if opens_too_deep(place, seen, line, keyword) || is_past_limit(statement) {
         Some(TreeProblem::Limit)
     } else {
         None

@@ -1,51 +1,79 @@
 //! From what lines define to a tree: the faults of symbols, the order of the nodes or a loop, and what each node uses
 //! and is used by.
 
-ghost use Rattle.std.specs.Prelude.{◌≡◌, ◌≤◌, ◌<◌, ◌^◌, IfErr, IfOk, OnOk, None, All, length, map};
-ghost use Rattle.kc_tree.specs.TreeValue.{TreeValue};
-ghost use Rattle.kc_tree.specs.Nodes.{node_at};
+ghost use Rattle.std.specs.Prelude.{◌≡◌, ◌≤◌, ◌<◌, ◌^◌, IfErr, IfOk, OnOk, None, All, filter, length, map, slice_get};
+ghost use Rattle.std.specs.Option.{option_copied};
+ghost use Rattle.kc_tree.specs.Keywords.{is_choice};
+ghost use Rattle.kc_tree.specs.TreeValue.{choice_title};
+ghost use Rattle.kc_tree.specs.Nodes.{node_in, node_name};
 ghost use Rattle.kc_tree.specs.NodeGraph.{IsGraphOf};
 ghost use Rattle.kc_tree.specs.Order.{IsOrder};
 ghost use Rattle.kc_tree.specs.Accepted.{IsEntryOf};
-ghost use Rattle.kc_tree.specs.SymbolFaults.{symbol_fault};
+ghost use Rattle.kc_tree.specs.OutlineFaults.{outline_fault};
 ghost use Rattle.kc_tree.specs.Faults.{IsLoopless, IsTreeProblem};
-ghost use Rattle.kc_tree.specs.Linked.{named_node, IsLinkFault};
+ghost use Rattle.kc_tree.specs.Linked.{named_node, IsLinkFault, IsToldChoice};
 
 use crate::fault::{NamedNode, TreeFault};
 use crate::graph::{Graph, OrderFault};
-use crate::names::Names;
+use crate::id::ChoiceId;
+use crate::keyword::{Keyword, read_keyword};
 use crate::node::Node;
 use crate::outline::Outline;
-use crate::symbol_faults::symbol_fault;
+use crate::outline_faults::{OutlineFault, outline_fault};
 use crate::tree::Tree;
 use crate::uses::used_rows;
-use kc_text::Text;
+use kc_text::{Line, Text};
 use std::alloc::{AllocError, Global};
 
-/// The nodes of numbers.
-fn nodes(alloc: Global, numbers: &[usize]) -> Result<Vec<Node>, AllocError>
-    requires { All (λ k. k < 2 ^ 32) numbers.now }
-    ensures { IfOk result (λ nodes. nodes.items ≡ map node_at numbers.now) }
+/// The nodes of numbers, in a tree of so many symbols.
+fn nodes(alloc: Global, symbols: usize, numbers: &[usize]) -> Result<Vec<Node>, AllocError>
+    requires few { symbols ≤ 65535 }
+    requires small { All (λ k. k < 2 ^ 32) numbers.now }
+    ensures { IfOk result (λ nodes. nodes.items ≡ map (node_in symbols) numbers.now) }
 {
     numbers
         .iter()
-        .map(|number| Node::at(*number))
+        .map(|number| Node::in_tree(symbols, *number))
         .collect(alloc)
 }
 
-/// The nodes of numbers, each with the name of its symbol.
+/// The text of a choice's prompt, empty where it has none.
+fn choice_title(outline: &Outline, choice: ChoiceId) -> &str
+    ensures { result.now ≡ choice_title outline.now choice }
+{
+    match outline.choices.get(choice.0 as usize) {
+        Some(choice) => match choice.prompt() {
+            Some(prompt) => prompt.text.as_str(),
+            None => "",
+        },
+        None => "",
+    }
+}
+
+/// The name of a node: that of its symbol, or the prompt of its choice.
+fn node_name(outline: &Outline, node: Node) -> &str
+    ensures { result.now ≡ node_name outline.now node }
+{
+    match node {
+        Node::Vis(symbol) | Node::Val(symbol) => outline.names.get(symbol.0 as usize),
+        Node::Mode(choice) | Node::Sel(choice) => choice_title(outline, choice),
+    }
+}
+
+/// The nodes of numbers, each with its name.
 fn named_nodes(
     alloc: Global,
-    names: &Names,
+    outline: &Outline,
     numbers: &[usize],
 ) -> Result<Vec<NamedNode>, AllocError>
-    requires { All (λ k. k < 2 ^ 32) numbers.now }
-    ensures { IfOk result (λ nodes. nodes.items ≡ map (named_node names.now) numbers.now) }
+    requires few { length outline.now.symbols ≤ 65535 }
+    requires small { All (λ k. k < 2 ^ 32) numbers.now }
+    ensures { IfOk result (λ nodes. nodes.items ≡ map (named_node outline.now) numbers.now) }
 {
     let mut nodes = Vec::with_capacity(alloc, numbers.len())?;
     for number in numbers {
-        let node = Node::at(*number);
-        let name = Text::copy_of(alloc, names.get(node.symbol().0 as usize))?;
+        let node = Node::in_tree(outline.symbols.len(), *number);
+        let name = Text::copy_of(alloc, node_name(outline, node))?;
         nodes.push(NamedNode { node, name })?;
     }
     Ok(nodes)
@@ -54,59 +82,107 @@ fn named_nodes(
 /// The nodes in an order in which each comes after all that it uses.
 ///
 /// It fails where nodes form a loop, with the nodes of one, and where memory is refused.
-fn node_order(alloc: Global, names: &Names, graph: &Graph<'_>) -> Result<Vec<Node>, TreeFault>
-    requires { length graph.now < 2 ^ 32 }
-    ensures order { IfOk result (λ order. (t : TreeValue) → IsGraphOf t graph.now → IsOrder t order.items) }
-    ensures loopless { OnOk result ((t : TreeValue) → IsGraphOf t graph.now → IsLoopless t) }
-    ensures fault { IfErr result (λ fault. (t : TreeValue) → t.names ≡ names.now → IsGraphOf t graph.now → IsLinkFault t fault) }
+fn node_order(alloc: Global, outline: &Outline, graph: &Graph<'_>) -> Result<Vec<Node>, TreeFault>
+    requires few { length outline.now.symbols ≤ 65535 }
+    requires small { length graph.now < 2 ^ 32 }
+    requires graph { IsGraphOf outline.now graph.now }
+    ensures order { IfOk result (λ order. IsOrder outline.now order.items) }
+    ensures loopless { OnOk result (IsLoopless outline.now) }
+    ensures fault { IfErr result (IsLinkFault outline.now) }
 {
     let numbers = match graph.order(alloc) {
         Ok(numbers) => numbers,
         Err(OrderFault::Loop(numbers)) => {
-            let nodes = named_nodes(alloc, names, numbers.as_slice())?;
+            let nodes = named_nodes(alloc, outline, numbers.as_slice())?;
             return Err(TreeFault::Loop(nodes));
         }
         Err(OrderFault::NoMemory) => return Err(TreeFault::NoMemory),
     };
-    Ok(nodes(alloc, numbers.as_slice())?)
+    Ok(nodes(alloc, outline.symbols.len(), numbers.as_slice())?)
 }
 
-/// The fault of the first symbol that has one, with its name.
-fn check_symbols(alloc: Global, outline: &Outline) -> Result<(), TreeFault>
-    requires { length outline.now.symbols ≤ 65535 }
-    ensures faultless { OnOk result (symbol_fault outline.now ≡ None) }
-    ensures fault { IfErr result (IsTreeProblem outline.now) }
+/// Whether a line begins a choice.
+fn is_choice(line: &Line<'_>) -> bool
+    ensures { result ≡ is_choice line.now }
 {
-    let Some((problem, symbol)) = symbol_fault(outline) else {
-        return Ok(());
+    matches!(read_keyword(line), Some(Keyword::Choice))
+}
+
+/// The line of a choice by number: that of the first of so many `choice` lines.
+fn choice_line<'a, 'b>(lines: &'a [Line<'b>], choice: usize) -> Option<&'a Line<'b>>
+    ensures { option_copied result ≡ slice_get (filter is_choice lines.now) choice }
+{
+    let mut left = choice;
+    for line in lines {
+        if !is_choice(line) {
+            continue;
+        }
+        if left == 0 {
+            return Some(line);
+        }
+        left -= 1;
+    }
+    None
+}
+
+/// The fault of a choice, with the path and the number of its line.
+fn choice_fault(alloc: Global, lines: &[Line<'_>], choice: ChoiceId) -> TreeFault
+    ensures { IsToldChoice lines.now choice result }
+{
+    let Some(line) = choice_line(lines, choice.0 as usize) else {
+        return TreeFault::NoMemory;
     };
-    let name = Text::copy_of(alloc, outline.names.get(symbol.0 as usize))?;
-    Err(TreeFault::Symbol { problem, name })
+    match Text::copy_of(alloc, line.path()) {
+        Ok(path) => TreeFault::Choice {
+            path,
+            line: line.number(),
+        },
+        Err(_) => TreeFault::NoMemory,
+    }
+}
+
+/// The first fault of a symbol or a choice, told with its name or its line.
+fn check_outline(alloc: Global, lines: &[Line<'_>], outline: &Outline) -> Result<(), TreeFault>
+    requires few { length outline.now.symbols ≤ 65535 }
+    requires few_choices { length outline.now.choices ≤ 2 ^ 30 }
+    ensures faultless { OnOk result (outline_fault outline.now ≡ None) }
+    ensures fault { IfErr result (IsTreeProblem lines.now outline.now) }
+{
+    match outline_fault(outline) {
+        None => Ok(()),
+        Some(OutlineFault::Symbol(problem, symbol)) => {
+            let name = Text::copy_of(alloc, outline.names.get(symbol.0 as usize))?;
+            Err(TreeFault::Symbol { problem, name })
+        }
+        Some(OutlineFault::Choice(choice)) => Err(choice_fault(alloc, lines, choice)),
+    }
 }
 
 /// The tree of what lines define.
 ///
-/// It fails with the first fault of a symbol; else where nodes form a loop, with the nodes of one and their names; and
-/// where memory is refused.
-pub(crate) fn link(alloc: Global, outline: Outline) -> Result<Tree, TreeFault>
+/// It fails with the first fault of a symbol or a choice; else where nodes form a loop, with the nodes of one and their
+/// names; and where memory is refused.
+pub(crate) fn link(alloc: Global, lines: &[Line<'_>], outline: Outline) -> Result<Tree, TreeFault>
     requires few { length outline.symbols ≤ 65535 }
+    requires few_choices { length outline.choices ≤ 2 ^ 30 }
     requires named { length outline.names ≡ length outline.symbols }
     requires entries { All (IsEntryOf outline) outline.entries }
     ensures tree { IfOk result (λ tree. tree ≡ outline) }
-    ensures symbols { OnOk result (symbol_fault outline ≡ None) }
+    ensures faultless { OnOk result (outline_fault outline ≡ None) }
     ensures loopless { OnOk result (IsLoopless outline) }
-    ensures fault { IfErr result (IsTreeProblem outline) }
+    ensures fault { IfErr result (IsTreeProblem lines.now outline) }
 {
-    check_symbols(alloc, &outline)?;
+    check_outline(alloc, lines, &outline)?;
     let uses = used_rows(alloc, &outline)?;
-    let graph = Graph::of(&uses);
-    let order = node_order(alloc, &outline.names, &graph)?;
-    let used_by = graph.users(alloc)?;
+    let graph = Graph::of(outline.symbols.len(), &uses);
+    let order = node_order(alloc, &outline, &graph)?;
+    let used_by = graph.users(alloc, outline.symbols.len())?;
     Ok(Tree {
         names: outline.names,
         symbols: outline.symbols,
         definitions: outline.definitions,
         blocks: outline.blocks,
+        choices: outline.choices,
         comments: outline.comments,
         entries: outline.entries,
         order,

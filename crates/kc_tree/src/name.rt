@@ -21,7 +21,7 @@ const MOST_SYMBOLS: usize = 65_535;
 const USUAL_LINES: usize = 4;
 
 /// Whether a word names a symbol: one or more ASCII letters, digits and `_`, and not n, m, y or if.
-fn is_name(word: &str) -> bool
+pub(crate) fn is_name(word: &str) -> bool
     ensures { result ≡ is_name word.now }
 {
     word != "" && are_name_bytes(word.as_bytes()) && !is_reserved(word)
@@ -92,16 +92,11 @@ pub(crate) fn word_term(alloc: Global, names: &Names, word: &str) -> Result<Term
     }
 }
 
-/// The term of a text in quotes: a constant, or a text.
+/// The term of a text in quotes.
 pub(crate) fn quoted_term(alloc: Global, text: &str) -> Result<Term, AllocError>
     ensures { IfOk result (λ t. t ≡ quoted_term text.now) }
 {
-    match text {
-        "n" => Ok(Term::Tri(Tri::No)),
-        "m" => Ok(Term::Tri(Tri::Module)),
-        "y" => Ok(Term::Tri(Tri::Yes)),
-        _ => Ok(Term::Text(Text::copy_of(alloc, text)?)),
-    }
+    Ok(Term::Text(Text::copy_of(alloc, text)?))
 }
 
 /// The name that a line defines: the line is its keyword and the name alone.

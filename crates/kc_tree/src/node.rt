@@ -1,47 +1,72 @@
-ghost use Rattle.std.specs.Prelude.{◌≡◌, ◌<◌, ◌^◌};
-ghost use Rattle.kc_tree.specs.Nodes.{number_of, node_symbol, node_at};
+ghost use Rattle.std.specs.Prelude.{◌≡◌, ◌<◌, ◌≤◌, ◌*◌, ◌+◌, ◌^◌};
+ghost use Rattle.kc_tree.specs.Nodes.{number_in, node_in, symbol_node, choice_node};
 
-use crate::id::SymId;
+use crate::id::{ChoiceId, SymId};
 
-/// What is computed of a tree: two nodes for each symbol.
+/// What is computed of a tree: two nodes for each symbol, and two for each choice.
 #[derive(Clone, Copy, Debug, PartialEq, Eq)]
 pub enum Node {
     /// The visibility of a symbol.
     Vis(SymId),
     /// The value of a symbol.
     Val(SymId),
+    /// The mode of a choice: y where its members can be visible.
+    Mode(ChoiceId),
+    /// The selection of a choice: which member is y.
+    Sel(ChoiceId),
 }
 
 impl Node {
-    /// The symbol of the node.
-    pub fn symbol(self) -> SymId
-        ensures { result.0 ≡ node_symbol self }
-    {
-        match self {
-            Node::Vis(symbol) | Node::Val(symbol) => symbol,
-        }
-    }
-
-    /// The number of the node: twice that of its symbol for the visibility, and one more for the value.
-    pub fn number(self) -> usize
-        ensures { result ≡ number_of self }
+    /// The number of the node in a tree of so many symbols: twice that of its symbol for the visibility, and one more
+    /// for the value. Those of the choices follow, in the same way.
+    pub(crate) fn number_in(self, symbols: usize) -> usize
+        requires { symbols ≤ 65535 }
+        ensures { result ≡ number_in symbols self }
     {
         match self {
             Node::Vis(symbol) => 2 * symbol.0 as usize,
             Node::Val(symbol) => 2 * symbol.0 as usize + 1,
+            Node::Mode(choice) => 2 * (symbols + choice.0 as usize),
+            Node::Sel(choice) => 2 * (symbols + choice.0 as usize) + 1,
         }
     }
 
-    /// The node of a number.
-    pub fn at(number: usize) -> Node
+    /// The node of a symbol by a number that no symbols stand before.
+    fn of_symbol(number: usize) -> Node
         requires { number < 2 ^ 32 }
-        ensures { result ≡ node_at number }
+        ensures { result ≡ symbol_node number }
     {
         let symbol = SymId((number / 2) as u32);
         if number % 2 == 0 {
             Node::Vis(symbol)
         } else {
             Node::Val(symbol)
+        }
+    }
+
+    /// The node of a choice by a number that no symbols stand before.
+    fn of_choice(number: usize) -> Node
+        requires { number < 2 ^ 32 }
+        ensures { result ≡ choice_node number }
+    {
+        let choice = ChoiceId((number / 2) as u32);
+        if number % 2 == 0 {
+            Node::Mode(choice)
+        } else {
+            Node::Sel(choice)
+        }
+    }
+
+    /// The node of a number in a tree of so many symbols.
+    pub(crate) fn in_tree(symbols: usize, number: usize) -> Node
+        requires few { symbols ≤ 65535 }
+        requires number { number < 2 ^ 32 }
+        ensures { result ≡ node_in symbols number }
+    {
+        if number < 2 * symbols {
+            Node::of_symbol(number)
+        } else {
+            Node::of_choice(number - 2 * symbols)
         }
     }
 }

@@ -1,7 +1,7 @@
 //! Rows of nodes in one vector, of which a row takes no memory of its own.
 
 ghost use Rattle.std.specs.Prelude.{◌≡◌, ◌≤◌, ◌<◌, ◌^◌, [], ◌∷◌, ◌++◌, All, IfOk, OnOk, length, map, slice_index_or};
-ghost use Rattle.kc_tree.specs.Nodes.{node_at};
+ghost use Rattle.kc_tree.specs.Nodes.{node_in};
 ghost use Rattle.kc_tree.specs.NodeRows.{rows_in, FitsIn};
 
 use crate::node::Node;
@@ -41,14 +41,15 @@ fn end_of(nodes: &[Node]) -> Result<u32, AllocError>
     u32::try_from(nodes.len()).map_err(|_| AllocError)
 }
 
-/// Adds the nodes of numbers.
-fn add_nodes(nodes: &mut Vec<Node>, numbers: &[usize]) -> Result<(), AllocError>
-    requires { All (λ k. k < 2 ^ 32) numbers.now }
-    ensures added { OnOk result (nodes.new.items ≡ nodes.old.items ++ map node_at numbers.now) }
+/// Adds the nodes of numbers, in a tree of so many symbols.
+fn add_nodes(nodes: &mut Vec<Node>, symbols: usize, numbers: &[usize]) -> Result<(), AllocError>
+    requires few { symbols ≤ 65535 }
+    requires small { All (λ k. k < 2 ^ 32) numbers.now }
+    ensures added { OnOk result (nodes.new.items ≡ nodes.old.items ++ map (node_in symbols) numbers.now) }
     ensures longer { length nodes.old.items ≤ length nodes.new.items }
 {
     for number in numbers {
-        nodes.push(Node::at(*number))?;
+        nodes.push(Node::in_tree(symbols, *number))?;
     }
     Ok(())
 }
@@ -72,15 +73,16 @@ impl NodeRows {
         NodeRows { spans, nodes }
     }
 
-    /// Adds a row with the nodes of numbers.
+    /// Adds a row with the nodes of numbers, in a tree of so many symbols.
     ///
     /// It fails where memory runs out, and where 32 bits do not count the nodes of all rows.
-    pub(crate) fn add_row(&mut self, numbers: &[usize]) -> Result<(), AllocError>
-        requires { All (λ k. k < 2 ^ 32) numbers.now }
-        ensures { OnOk result (self.new ≡ self.old ++ map node_at numbers.now ∷ []) }
+    pub(crate) fn add_row(&mut self, symbols: usize, numbers: &[usize]) -> Result<(), AllocError>
+        requires few { symbols ≤ 65535 }
+        requires small { All (λ k. k < 2 ^ 32) numbers.now }
+        ensures { OnOk result (self.new ≡ self.old ++ map (node_in symbols) numbers.now ∷ []) }
     {
         let start = end_of(self.nodes.as_slice())?;
-        add_nodes(&mut self.nodes, numbers)?;
+        add_nodes(&mut self.nodes, symbols, numbers)?;
         let end = end_of(self.nodes.as_slice())?;
         self.spans.push(Span { start, end })?;
         Ok(())

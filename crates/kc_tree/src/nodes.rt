@@ -11,6 +11,7 @@ use std::marker::Model;
 /// The nodes of a tree in the order of their numbers. Contracts see the list of those that are left.
 #[derive(Drop)]
 pub struct Nodes {
+    symbols: usize,
     next: usize,
     end: usize,
 }
@@ -19,13 +20,13 @@ impl Model for Nodes {
     ghost use Rattle.std.specs.Prelude.{◌-◌, ◌≤◌, ◌^◌, List, map};
     ghost use Rattle.std.specs.List.{range_with_len};
     ghost use Rattle.kc_tree.specs.declared.node.Node.{Node};
-    ghost use Rattle.kc_tree.specs.Nodes.{node_at};
+    ghost use Rattle.kc_tree.specs.Nodes.{node_in};
 
     ghost Value = { List Node };
 
-    ghost view = { λ a. map node_at (range_with_len a.next (a.end - a.next)) };
+    ghost view = { λ a. map (node_in a.symbols) (range_with_len a.next (a.end - a.next)) };
 
-    ghost invariant = { λ a. a.end ≤ 2 ^ 32 };
+    ghost invariant = { λ a. (a.end ≤ 2 ^ 32) × (a.symbols ≤ 65535) };
 }
 
 impl Nodes {
@@ -34,6 +35,7 @@ impl Nodes {
         ensures { result ≡ all_nodes tree.now }
     {
         Nodes {
+            symbols: tree.symbols().len(),
             next: 0,
             end: tree.node_count(),
         }
@@ -51,7 +53,7 @@ impl Iterator for Nodes {
         if self.next >= self.end {
             return None;
         }
-        let node = Node::at(self.next);
+        let node = Node::in_tree(self.symbols, self.next);
         self.next += 1;
         Some(node)
     }

@@ -7,8 +7,9 @@ ghost use Rattle.kc_tree.specs.Outline.{AreMade, IsNamedIn};
 mod adding;
 
 use crate::block::{Block, Comment};
+use crate::choice::Choice;
 use crate::definition::Definition;
-use crate::id::BlockId;
+use crate::id::{BlockId, ChoiceId};
 use crate::names::Names;
 use crate::place::Owner;
 use crate::statement::Statement;
@@ -24,6 +25,7 @@ pub(crate) struct Outline {
     pub(crate) symbols: Vec<Symbol>,
     pub(crate) definitions: Vec<Definition>,
     pub(crate) blocks: Vec<Block>,
+    pub(crate) choices: Vec<Choice>,
     pub(crate) comments: Vec<Comment>,
     pub(crate) entries: Vec<Entry>,
 }
@@ -37,7 +39,7 @@ impl Model for Outline {
 
     ghost coded = { Prim.hlevel (codes, expr.the_row.coded) };
 
-    ghost view = { λ a. record { names = a.names; symbols = a.symbols.items; definitions = a.definitions.items; blocks = a.blocks.items; comments = a.comments.items; entries = a.entries.items } };
+    ghost view = { λ a. record { names = a.names; symbols = a.symbols.items; definitions = a.definitions.items; blocks = a.blocks.items; choices = a.choices.items; comments = a.comments.items; entries = a.entries.items } };
 }
 
 /// A symbol for each of so many names, of which no line says anything yet.
@@ -64,24 +66,26 @@ impl Outline {
             symbols,
             definitions: Vec::new(alloc),
             blocks: Vec::new(alloc),
+            choices: Vec::new(alloc),
             comments: Vec::new(alloc),
             entries: Vec::new(alloc),
         })
     }
 
-    /// Takes what a line says that stands in a block and belongs to an owner. A `config` line names a symbol that the
-    /// outline has.
+    /// Takes what a line says that stands in a block and a choice, and belongs to an owner. A `config` line names a
+    /// symbol that the outline has.
     pub(crate) fn take(
         &mut self,
         alloc: Global,
         statement: Statement,
         block: Option<BlockId>,
+        choice: Option<ChoiceId>,
         owner: Option<Owner>,
     ) -> Result<(), AllocError>
         ensures { OnOk result ((rs : List Reading)
             → AreMade rs → IsNamedIn self.old.names statement → self.old ≡ tree_of self.old.names rs
-            → self.new ≡ tree_of self.old.names (rs ++ record { statement = statement; block = block; owner = owner } ∷ [])) }
+            → self.new ≡ tree_of self.old.names (rs ++ record { statement = statement; block = block; choice = choice; owner = owner } ∷ [])) }
     {
-        self.add(alloc, statement, block, owner)
+        self.add(alloc, statement, block, choice, owner)
     }
 }

@@ -1,14 +1,14 @@
 //! Where a line stands: the open blocks around it, and the statement that its attributes belong to.
 
-ghost use Rattle.std.specs.Prelude.{◌≡◌, ◌+◌, ◌<◌, ◌^◌, ℕ, List, [], ◌∷◌, drop, if◌then◌else◌, length, reverse, slice_get, OnOk};
-ghost use Rattle.kc_tree.specs.Keywords.{is_comment_word, is_config_word, is_opener_word, keyword_of};
+ghost use Rattle.std.specs.Prelude.{◌≡◌, ◌+◌, ◌<◌, ◌^◌, ℕ, List, [], ◌∷◌, Some, None, drop, if◌then◌else◌, length, reverse, slice_get, OnOk};
+ghost use Rattle.kc_tree.specs.Keywords.{is_choice_word, is_comment_word, is_config_word, is_opener_word, keyword_of};
 ghost use Rattle.kc_tree.specs.LineFaults.{leaves_open, stays_open};
-ghost use Rattle.kc_tree.specs.Places.{innermost};
+ghost use Rattle.kc_tree.specs.Places.{choice_among, innermost};
 ghost use Rattle.kc_tree.specs.PlaceValue.{blocks_after, owner_made, IsPlaceAfter};
 ghost use Rattle.kc_tree.specs.Statements.{HasForm};
 ghost use Rattle.kc_tree.specs.TreeOf.{defined_in};
 
-use crate::id::{BlockId, CommentId, SymId};
+use crate::id::{BlockId, ChoiceId, CommentId, SymId};
 use crate::keyword::Keyword;
 use crate::names::Names;
 use crate::statement::Statement;
@@ -23,6 +23,8 @@ pub(crate) enum Owner {
     Definition(SymId, usize),
     /// A menu.
     Menu(BlockId),
+    /// A choice, with its block.
+    Choice(ChoiceId, BlockId),
     /// A comment.
     Comment(CommentId),
 }
@@ -35,6 +37,25 @@ pub(crate) struct OpenBlock {
     pub(crate) keyword: Keyword,
     /// The run of the file that it was opened in.
     pub(crate) run: usize,
+    /// The choice that it is the block of.
+    pub(crate) choice: Option<ChoiceId>,
+}
+
+/// The number of choices past which no room is left for their nodes: more than lines in memory can open.
+pub(crate) const MOST_CHOICES: usize = 1 << 30;
+
+/// The choice among blocks, the innermost of which stands last.
+fn choice_among(blocks: &[OpenBlock]) -> Option<ChoiceId>
+    ensures { result ≡ choice_among (reverse blocks.now) }
+{
+    let mut left = blocks.len();
+    while left > 0 {
+        left -= 1;
+        if let Some(choice) = blocks[left].choice {
+            return Some(choice);
+        }
+    }
+    None
 }
 
 /// Whether one of the blocks was opened in a run.
@@ -88,6 +109,13 @@ impl OpenBlocks {
         ensures { result ≡ leaves_open self.now run }
     {
         is_run_among(self.blocks.as_slice(), run)
+    }
+
+    /// The choice that is open, if one is.
+    pub(crate) fn choice(&self) -> Option<ChoiceId>
+        ensures { result ≡ choice_among self.now }
+    {
+        choice_among(self.blocks.as_slice())
     }
 
     /// Whether one is open after a line of this keyword.
@@ -152,6 +180,7 @@ pub(crate) struct Place {
     owner: Option<Owner>,
     definitions: usize,
     blocks: usize,
+    choices: usize,
     comments: usize,
 }
 
@@ -166,6 +195,7 @@ impl Place {
             owner: None,
             definitions: 0,
             blocks: 0,
+            choices: 0,
             comments: 0,
         }
     }
@@ -185,6 +215,13 @@ impl Place {
         Some(block.id)
     }
 
+    /// The choice that is open.
+    pub(crate) fn choice(&self) -> Option<ChoiceId>
+        ensures { result ≡ choice_among self.now.stack }
+    {
+        self.stack.choice()
+    }
+
     /// The keyword of the nearest statement.
     pub(crate) fn statement(&self) -> Option<Keyword>
         ensures { result ≡ self.now.statement }
@@ -201,7 +238,8 @@ impl Place {
 
     /// What a statement of this keyword makes that takes attributes, which may define a symbol.
     fn made_by(&self, keyword: Keyword, symbol: Option<SymId>) -> Option<Owner>
-        ensures { result ≡ owner_made keyword symbol self.now.definitions self.now.blocks self.now.comments }
+        requires { self.now.choices < 2 ^ 30 }
+        ensures { result ≡ owner_made keyword symbol self.now.definitions self.now.blocks self.now.choices self.now.comments }
     {
         match keyword {
             Keyword::Config => {
@@ -209,6 +247,10 @@ impl Place {
                 Some(Owner::Definition(symbol, self.definitions))
             }
             Keyword::Menu => Some(Owner::Menu(BlockId(self.blocks))),
+            Keyword::Choice => {
+                let choice = ChoiceId(self.choices as u32);
+                Some(Owner::Choice(choice, BlockId(self.blocks)))
+            }
             Keyword::Comment => Some(Owner::Comment(CommentId(self.comments))),
             _ => None,
         }
@@ -218,19 +260,47 @@ impl Place {
     fn count(&mut self, keyword: Keyword)
         requires definitions { self.old.definitions + 1 < 2 ^ 64 }
         requires blocks { self.old.blocks + 1 < 2 ^ 64 }
+        requires choices { self.old.choices + 1 < 2 ^ 64 }
         requires comments { self.old.comments + 1 < 2 ^ 64 }
         ensures stack { self.new.stack ≡ self.old.stack }
         ensures statement { self.new.statement ≡ self.old.statement }
         ensures owner { self.new.owner ≡ self.old.owner }
         ensures definitions { self.new.definitions ≡ (if is_config_word keyword then self.old.definitions + 1 else self.old.definitions) }
         ensures blocks { self.new.blocks ≡ (if is_opener_word keyword then self.old.blocks + 1 else self.old.blocks) }
+        ensures choices { self.new.choices ≡ (if is_choice_word keyword then self.old.choices + 1 else self.old.choices) }
         ensures comments { self.new.comments ≡ (if is_comment_word keyword then self.old.comments + 1 else self.old.comments) }
     {
         match keyword {
             Keyword::Config => self.definitions += 1,
             Keyword::Menu | Keyword::If => self.blocks += 1,
+            Keyword::Choice => {
+                self.blocks += 1;
+                self.choices += 1;
+            }
             Keyword::Comment => self.comments += 1,
             _ => {}
+        }
+    }
+
+    /// The block that a statement of this keyword opens in a run, if it opens one.
+    fn block_opened(&self, keyword: Keyword, run: usize) -> OpenBlock
+        requires { self.now.choices < 2 ^ 30 }
+        ensures { result ≡ record {
+          id = record { 0 = self.now.blocks };
+          keyword = keyword;
+          run = run;
+          choice = if is_choice_word keyword then Some (record { 0 = self.now.choices }) else None;
+        } }
+    {
+        let choice = match keyword {
+            Keyword::Choice => Some(ChoiceId(self.choices as u32)),
+            _ => None,
+        };
+        OpenBlock {
+            id: BlockId(self.blocks),
+            keyword,
+            run,
+            choice,
         }
     }
 
@@ -256,11 +326,10 @@ impl Place {
         if word.is_attribute() {
             return Ok(());
         }
-        let block = OpenBlock {
-            id: BlockId(self.blocks),
-            keyword: word,
-            run: line.run(),
-        };
+        if self.choices >= MOST_CHOICES {
+            return Err(AllocError);
+        }
+        let block = self.block_opened(word, line.run());
         self.stack.take(word, block)?;
         self.statement = keyword;
         self.owner = self.made_by(word, defined_symbol(statement));

@@ -1,6 +1,6 @@
 //! From logical lines to what they define, or the first fault.
 
-ghost use Rattle.std.specs.Prelude.{◌≡◌, ◌≤◌, ◌<◌, ◌+◌, ◌==◌, [], ◌∷◌, ℕ, All, length, reverse, take, IfOk, IfErr, OnOk};
+ghost use Rattle.std.specs.Prelude.{◌≡◌, ◌≤◌, ◌<◌, ◌+◌, ◌^◌, ◌==◌, [], ◌∷◌, ℕ, All, length, reverse, take, IfOk, IfErr, OnOk};
 ghost use Rattle.kc_tree.specs.Accepted.{IsEntryOf};
 ghost use Rattle.kc_tree.specs.Names.{names_of};
 ghost use Rattle.kc_tree.specs.TreeOf.{IsReading, IsOutlineOf};
@@ -9,13 +9,13 @@ ghost use Rattle.kc_tree.specs.Faults.{IsReadFault};
 ghost use Rattle.kc_tree.specs.Reader.{reading_of, IsOutlineAfter, IsStop, IsToldFor};
 
 use crate::fault::{TreeFault, TreeProblem};
-use crate::id::BlockId;
+use crate::id::{BlockId, ChoiceId};
 use crate::keyword::read_keyword;
 use crate::line_faults::{early_problem, late_problem};
 use crate::name::read_names;
 use crate::names::Names;
 use crate::outline::Outline;
-use crate::place::{Owner, Place};
+use crate::place::{MOST_CHOICES, Owner, Place};
 use crate::statement::Statement;
 use crate::statement_forms::read_statement;
 use kc_text::{Line, Text};
@@ -39,7 +39,8 @@ impl From<AllocError> for Stop {
     }
 }
 
-/// What a line says, where it stands and what owns it. It comes after those that were seen, and so many follow it.
+/// What a line says, the block and the choice that it stands in, and what owns it. It comes after those that were
+/// seen, and so many follow it.
 fn read_line(
     alloc: Global,
     names: &Names,
@@ -47,7 +48,7 @@ fn read_line(
     seen: &[Line<'_>],
     line: &Line<'_>,
     following: usize,
-) -> Result<(Statement, Option<BlockId>, Option<Owner>), Stop>
+) -> Result<(Statement, Option<BlockId>, Option<ChoiceId>, Option<Owner>), Stop>
     requires few { length names.now ≤ 65535 }
     requires place { IsPlaceAfter names.now (reverse seen.now) place.old }
     ensures reading { IfOk result (λ r. IsReading names.now (reverse seen.now) (following == 0) line.now (reading_of r)) }
@@ -64,9 +65,9 @@ fn read_line(
     if let Some(problem) = late_problem(place, seen, line, keyword, &statement) {
         return Err(Stop::Problem(problem));
     }
-    let block = place.innermost();
+    let (block, choice) = (place.innermost(), place.choice());
     place.take(names, seen, line, keyword, &statement)?;
-    Ok((statement, block, place.owner()))
+    Ok((statement, block, choice, place.owner()))
 }
 
 /// Takes a line after those that were seen. So many lines follow it.
@@ -85,8 +86,15 @@ fn take_line(
     ensures place { OnOk result (IsPlaceAfter outline.old.names (line.now ∷ reverse seen.now) place.new) }
     ensures stop { IfErr result (IsStop outline.old.names (reverse seen.now) (following == 0) line.now) }
 {
-    let (statement, block, owner) = read_line(alloc, &outline.names, place, seen, line, following)?;
-    outline.take(alloc, statement, block, owner)?;
+    let (statement, block, choice, owner) = read_line(
+        alloc,
+        &outline.names,
+        place,
+        seen,
+        line,
+        following,
+    )?;
+    outline.take(alloc, statement, block, choice, owner)?;
     Ok(())
 }
 
@@ -119,6 +127,7 @@ fn line_fault(alloc: Global, stop: Stop, line: &Line<'_>) -> TreeFault
 pub(crate) fn read_outline(alloc: Global, lines: &[Line<'_>]) -> Result<Outline, TreeFault>
     ensures outline { IfOk result (IsOutlineOf lines.now) }
     ensures few { IfOk result (λ o. length o.symbols ≤ 65535) }
+    ensures few_choices { IfOk result (λ o. length o.choices ≤ 2 ^ 30) }
     ensures named { IfOk result (λ o. length o.names ≡ length o.symbols) }
     ensures entries { IfOk result (λ o. All (IsEntryOf o) o.entries) }
     ensures fault { IfErr result (IsReadFault lines.now) }
@@ -132,6 +141,9 @@ pub(crate) fn read_outline(alloc: Global, lines: &[Line<'_>]) -> Result<Outline,
         if let Err(stop) = take_line(alloc, &mut outline, &mut at, seen, line, following) {
             return Err(line_fault(alloc, stop, line));
         }
+    }
+    if outline.choices.len() > MOST_CHOICES {
+        return Err(TreeFault::NoMemory);
     }
     Ok(outline)
 }

@@ -1,6 +1,6 @@
 //! What a line says.
 
-use crate::definition::{DefaultValue, Prompt};
+use crate::definition::{DefaultValue, Prompt, Range};
 use crate::expr::Expr;
 use crate::id::SymId;
 use crate::symbol::SymbolType;
@@ -19,6 +19,8 @@ pub(crate) enum Statement {
     /// `if`, with its expression.
     If(Expr),
     EndIf,
+    Choice,
+    EndChoice,
     /// `comment`, with its title.
     Comment(Text),
     MainMenu,
@@ -32,6 +34,8 @@ pub(crate) enum Statement {
     Prompt(Prompt),
     /// `default`
     Default(DefaultValue),
+    /// `range`
+    Range(Range),
     /// `depends on`
     DependsOn(Expr),
     /// `visible if`
@@ -44,6 +48,8 @@ pub(crate) enum Statement {
     Modules,
     /// `option allnoconfig_y`
     AllNoConfigYes,
+    /// `optional`, of a choice.
+    Optional,
     /// `help`, whose text stands beside the line.
     Help,
 }

@@ -1,6 +1,6 @@
 //! The forms of statements and attributes.
 
-ghost use Rattle.std.specs.Prelude.{◌≡◌, ◌≤◌, ℕ, List, [], length, IfOk, MatchOption};
+ghost use Rattle.std.specs.Prelude.{◌≡◌, ◌≤◌, ℕ, List, [], Some, length, IfOk, MatchOption};
 ghost use Rattle.kc_tree.specs.Forms.{IsReading};
 ghost use Rattle.kc_tree.specs.Keywords.{first_keyword, keyword_of};
 ghost use Rattle.kc_tree.specs.Statements.{HasForm, HasFormAfter, HasFormOf, HasNoForm, type_word, default_word};
@@ -8,6 +8,7 @@ ghost use Rattle.kc_tree.specs.Statements.{HasForm, HasFormAfter, HasFormOf, Has
 mod condition;
 mod default;
 mod prompt;
+mod range;
 mod selection;
 
 use crate::expression::read_expression;
@@ -20,6 +21,7 @@ use condition::{is_word, read_after_word};
 use default::read_default;
 use kc_text::{Line, LineKind, Token};
 use prompt::{read_prompt, read_title};
+use range::read_range;
 use selection::{Selection, read_selection};
 use std::alloc::{AllocError, Global};
 
@@ -77,15 +79,22 @@ fn read_form(
         Keyword::MainMenu => Ok(read_title(alloc, tokens)?.map(|_| Statement::MainMenu)),
         Keyword::EndMenu => Ok(read_alone(tokens, Statement::EndMenu)),
         Keyword::EndIf => Ok(read_alone(tokens, Statement::EndIf)),
+        Keyword::Choice => Ok(read_alone(tokens, Statement::Choice)),
+        Keyword::EndChoice => Ok(read_alone(tokens, Statement::EndChoice)),
+        Keyword::Optional => Ok(read_alone(tokens, Statement::Optional)),
         Keyword::Modules => Ok(read_alone(tokens, Statement::Modules)),
         Keyword::Help => Ok(read_alone(tokens, Statement::Help)),
         Keyword::If => Ok(read_expression(alloc, names, tokens)?.map(Statement::If)),
         Keyword::Bool => read_type(alloc, names, SymbolType::Bool, tokens),
         Keyword::Tristate => read_type(alloc, names, SymbolType::Tristate, tokens),
+        Keyword::String => read_type(alloc, names, SymbolType::String, tokens),
+        Keyword::Int => read_type(alloc, names, SymbolType::Int, tokens),
+        Keyword::Hex => read_type(alloc, names, SymbolType::Hex, tokens),
         Keyword::DefBool => read_typed_default(alloc, names, SymbolType::Bool, tokens),
         Keyword::DefTristate => read_typed_default(alloc, names, SymbolType::Tristate, tokens),
         Keyword::Prompt => Ok(read_prompt(alloc, names, tokens)?.map(Statement::Prompt)),
         Keyword::Default => Ok(read_default(alloc, names, tokens)?.map(Statement::Default)),
+        Keyword::Range => Ok(read_range(alloc, names, tokens)?.map(Statement::Range)),
         Keyword::Depends => Ok(read_after_word(alloc, names, "on", tokens)?.map(
             Statement::DependsOn,
         )),
@@ -149,7 +158,7 @@ fn read_typed_default(
     tokens: &[Token<'_>],
 ) -> Result<Option<Statement>, AllocError>
     requires { length names.now ≤ 65535 }
-    ensures { IfOk result (IsReading (HasFormAfter names.now (default_word kind) tokens.now)) }
+    ensures { (k : Keyword) → default_word kind ≡ Some k → IfOk result (IsReading (HasFormAfter names.now k tokens.now)) }
 {
     let Some(default) = read_default(alloc, names, tokens)? else {
         return Ok(None);

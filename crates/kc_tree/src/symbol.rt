@@ -1,9 +1,9 @@
 ghost use Rattle.std.specs.Prelude.{◌≡◌, None, Some, true, false, OnOk};
 ghost use Rattle.kc_tree.specs.TreeValue.{kind_of};
-ghost use Rattle.kc_tree.specs.Adding.{new_symbol, symbol_after, with_definition, with_selection, with_implication};
+ghost use Rattle.kc_tree.specs.Adding.{new_symbol, symbol_after, standing_in, with_definition, with_selection, with_implication};
 
 use crate::expr::Expr;
-use crate::id::SymId;
+use crate::id::{ChoiceId, SymId};
 use crate::room::push_one;
 use std::alloc::{AllocError, Global};
 use std::marker::Model;
@@ -15,6 +15,12 @@ pub enum SymbolType {
     Bool,
     /// `tristate`: n, m or y.
     Tristate,
+    /// `string`: a text.
+    String,
+    /// `int`: a decimal number of 64 bits with a sign, as it is spelt.
+    Int,
+    /// `hex`: a hexadecimal number of 64 bits, as it is spelt.
+    Hex,
 }
 
 /// A `select` or `imply` of a symbol. It stands at the symbol that it names.
@@ -28,15 +34,17 @@ pub struct Reverse {
     pub condition: Option<Expr>,
 }
 
-/// A symbol without its name: its type, its definitions, and the `select` and `imply` lines that name it. Contracts
-/// see the record of its parts.
+/// A symbol without its name: its type, the choice that it is a member of, its definitions, and the `select` and
+/// `imply` lines that name it. Contracts see the record of its parts.
 #[derive(Debug, Drop)]
 pub struct Symbol {
     pub(crate) kind: Option<SymbolType>,
     pub(crate) has_other_type: bool,
+    pub(crate) choice: Option<ChoiceId>,
     pub(crate) definitions: Vec<usize>,
     pub(crate) selected: Vec<Reverse>,
     pub(crate) implied: Vec<Reverse>,
+    pub(crate) has_selections: bool,
     pub(crate) has_modules: bool,
     pub(crate) is_yes_in_allnoconfig: bool,
 }
@@ -50,7 +58,7 @@ impl Model for Symbol {
 
     ghost coded = { Prim.hlevel (codes, expr.the_row.coded) };
 
-    ghost view = { λ s. record { kind = s.kind; has_other_type = s.has_other_type; definitions = s.definitions.items; selected = s.selected.items; implied = s.implied.items; has_modules = s.has_modules; is_yes_in_allnoconfig = s.is_yes_in_allnoconfig } };
+    ghost view = { λ s. record { kind = s.kind; has_other_type = s.has_other_type; choice = s.choice; definitions = s.definitions.items; selected = s.selected.items; implied = s.implied.items; has_selections = s.has_selections; has_modules = s.has_modules; is_yes_in_allnoconfig = s.is_yes_in_allnoconfig } };
 }
 
 impl Symbol {
@@ -61,9 +69,11 @@ impl Symbol {
         Symbol {
             kind: None,
             has_other_type: false,
+            choice: None,
             definitions: Vec::new(alloc),
             selected: Vec::new(alloc),
             implied: Vec::new(alloc),
+            has_selections: false,
             has_modules: false,
             is_yes_in_allnoconfig: false,
         }
@@ -71,7 +81,7 @@ impl Symbol {
 
     /// Takes a type: the first one stays.
     pub(crate) fn take_type(&mut self, kind: SymbolType)
-        ensures { self.new ≡ symbol_after (Some kind) false false self.old }
+        ensures { self.new ≡ symbol_after (Some kind) false false false self.old }
     {
         match self.kind {
             None => self.kind = Some(kind),
@@ -79,11 +89,19 @@ impl Symbol {
         }
     }
 
+    /// Takes the choice that a definition stands in: the first one stays.
+    pub(crate) fn take_choice(&mut self, choice: Option<ChoiceId>)
+        ensures { self.new ≡ standing_in choice self.old }
+    {
+        self.choice = self.choice.or(choice);
+    }
+
     /// Takes the number of a definition.
     pub(crate) fn take_definition(&mut self, number: usize) -> Result<(), AllocError>
         ensures { OnOk result (self.new ≡ with_definition number self.old) }
     {
-        push_one(&mut self.definitions, number)
+        self.definitions.push(number)?;
+        Ok(())
     }
 
     /// Takes a `select` line that names it.
@@ -100,16 +118,23 @@ impl Symbol {
         push_one(&mut self.implied, line)
     }
 
+    /// Takes a `select` or an `imply` line of its own.
+    pub(crate) fn take_own_selection(&mut self)
+        ensures { self.new ≡ symbol_after None true false false self.old }
+    {
+        self.has_selections = true;
+    }
+
     /// Takes a `modules` line.
     pub(crate) fn take_modules(&mut self)
-        ensures { self.new ≡ symbol_after None true false self.old }
+        ensures { self.new ≡ symbol_after None false true false self.old }
     {
         self.has_modules = true;
     }
 
     /// Takes an `option allnoconfig_y` line.
     pub(crate) fn take_yes_in_allnoconfig(&mut self)
-        ensures { self.new ≡ symbol_after None false true self.old }
+        ensures { self.new ≡ symbol_after None false false true self.old }
     {
         self.is_yes_in_allnoconfig = true;
     }
@@ -119,6 +144,13 @@ impl Symbol {
         ensures { result ≡ kind_of self.now }
     {
         self.kind.unwrap_or(SymbolType::Bool)
+    }
+
+    /// The choice that it is a member of: the first in which a definition of it stands.
+    pub fn choice(&self) -> Option<ChoiceId>
+        ensures { result ≡ self.now.choice }
+    {
+        self.choice
     }
 
     /// The numbers of its definitions, in the order of their lines.

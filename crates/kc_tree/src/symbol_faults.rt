@@ -3,12 +3,16 @@
 ghost use Rattle.std.specs.Prelude.{◌≡◌, ◌≤◌, false, length, slice_get};
 ghost use Rattle.std.specs.List.{list_any};
 ghost use Rattle.std.specs.Option.{option_map_or};
-ghost use Rattle.kc_tree.specs.TreeValue.{definitions_of};
-ghost use Rattle.kc_tree.specs.SymbolFaults.{symbol_fault, fault_by, is_bad_modules};
+ghost use Rattle.kc_tree.specs.TreeValue.{definitions_of, kind_of};
+ghost use Rattle.kc_tree.specs.SymbolFaults.{symbol_fault, modules_fault, fault_by, is_bad_modules, is_tri_type, begins_as_number, is_unfit_term, is_unfit_default, is_unfit_range, has_unfit, has_unfit_select};
 ghost use Rattle.kc_tree.specs.SymbolTests.{test_of};
 
+use crate::definition::{DefaultValue, Range};
+use crate::expr::Term;
 use crate::fault::TreeProblem;
 use crate::id::SymId;
+use crate::lone_terms::lone_term;
+use crate::numerals::numeral;
 use crate::outline::Outline;
 use crate::symbol::{Symbol, SymbolType};
 
@@ -34,12 +38,117 @@ fn has_two_prompts(outline: &Outline, symbol: &Symbol) -> bool
     false
 }
 
+/// Whether n, m and y are values of a type.
+fn is_tri_type(kind: SymbolType) -> bool
+    ensures { result ≡ is_tri_type kind }
+{
+    matches!(kind, SymbolType::Bool | SymbolType::Tristate)
+}
+
+/// Whether a text is empty or begins as a number does.
+fn begins_as_number(text: &str) -> bool
+    ensures { result ≡ begins_as_number text.now }
+{
+    match text.as_bytes().first() {
+        Some(first) => first.is_ascii_digit() || *first == b'-',
+        None => true,
+    }
+}
+
+/// Whether a term is no numeral of a type, int or hex, and should be one.
+fn is_unfit_term(kind: SymbolType, term: &Term) -> bool
+    ensures { result ≡ is_unfit_term kind term.now }
+{
+    match term {
+        Term::Text(text) => numeral(kind, text.as_str()).is_none(),
+        Term::Undefined(word) => {
+            begins_as_number(word.as_str()) && numeral(kind, word.as_str()).is_none()
+        }
+        Term::Tri(_) | Term::Symbol(_) => false,
+    }
+}
+
+/// Whether a default does not fit a type.
+fn is_unfit_default(kind: SymbolType, default: &DefaultValue) -> bool
+    ensures { result ≡ is_unfit_default kind default.now }
+{
+    if is_tri_type(kind) {
+        return false;
+    }
+    match lone_term(&default.value) {
+        None => true,
+        Some(term) => kind != SymbolType::String && is_unfit_term(kind, term),
+    }
+}
+
+/// Whether a range does not fit a type.
+fn is_unfit_range(kind: SymbolType, range: &Range) -> bool
+    ensures { result ≡ is_unfit_range kind range.now }
+{
+    match kind {
+        SymbolType::Int | SymbolType::Hex => {
+            is_unfit_term(kind, &range.low) || is_unfit_term(kind, &range.high)
+        }
+        SymbolType::Bool | SymbolType::Tristate | SymbolType::String => true,
+    }
+}
+
+/// Whether one of some defaults does not fit a type.
+fn has_unfit_value(kind: SymbolType, defaults: &[DefaultValue]) -> bool
+    ensures { result ≡ list_any (is_unfit_default kind) defaults.now }
+{
+    defaults
+        .iter()
+        .any(|default| is_unfit_default(kind, default))
+}
+
+/// Whether one of some ranges does not fit a type.
+fn has_unfit_range(kind: SymbolType, ranges: &[Range]) -> bool
+    ensures { result ≡ list_any (is_unfit_range kind) ranges.now }
+{
+    ranges.iter().any(|range| is_unfit_range(kind, range))
+}
+
+/// Whether a definition by number has a default or a range that does not fit a type.
+fn has_unfit(outline: &Outline, kind: SymbolType, definition: usize) -> bool
+    ensures { result ≡ option_map_or (has_unfit kind) (slice_get outline.now.definitions definition) false }
+{
+    match outline.definitions.get(definition) {
+        Some(definition) => {
+            has_unfit_value(kind, definition.defaults())
+                || has_unfit_range(kind, definition.ranges())
+        }
+        None => false,
+    }
+}
+
+/// Whether a default or a range of a symbol does not fit its type.
+fn has_unfit_default(outline: &Outline, symbol: &Symbol) -> bool
+    ensures { result ≡ list_any (has_unfit (kind_of symbol.now)) (definitions_of outline.now symbol.now) }
+{
+    let kind = symbol.kind();
+    for definition in symbol.definitions() {
+        if has_unfit(outline, kind, *definition) {
+            return true;
+        }
+    }
+    false
+}
+
+/// Whether a symbol that is no bool and no tristate selects or implies, or is selected or implied.
+fn has_unfit_select(outline: &Outline, number: usize, symbol: &Symbol) -> bool
+    ensures { result ≡ has_unfit_select outline.now (record { 0 = number }) symbol.now }
+{
+    !is_tri_type(symbol.kind())
+        && (symbol.has_selections || !symbol.selected().is_empty() || !symbol.implied().is_empty())
+}
+
 /// Whether the symbol is `MODULES` and no bool, or another one with `modules`.
 fn is_bad_modules(outline: &Outline, number: usize, symbol: &Symbol) -> bool
     ensures { result ≡ is_bad_modules outline.now (record { 0 = number }) symbol.now }
 {
     if outline.names.get(number) == "MODULES" {
-        matches!(symbol.kind(), SymbolType::Tristate)
+        !matches!(symbol.kind(), SymbolType::Bool)
     } else {
         symbol.has_modules
     }
@@ -53,9 +162,11 @@ fn has_problem(outline: &Outline, problem: TreeProblem, number: usize) -> bool
         return false;
     };
     match problem {
-        TreeProblem::NoType => symbol.kind.is_none(),
+        TreeProblem::NoType => symbol.kind.is_none() && symbol.choice.is_none(),
         TreeProblem::TypeConflict => symbol.has_other_type,
         TreeProblem::SecondPrompt => has_two_prompts(outline, symbol),
+        TreeProblem::UnfitDefault => has_unfit_default(outline, symbol),
+        TreeProblem::UnfitSelect => has_unfit_select(outline, number, symbol),
         TreeProblem::BadModules => is_bad_modules(outline, number, symbol),
         _ => false,
     }
@@ -74,7 +185,7 @@ fn first_with(outline: &Outline, problem: TreeProblem) -> Option<(TreeProblem, S
     None
 }
 
-/// The first fault of a symbol, if there is one: each kind is looked for among all symbols before the next.
+/// The first fault of a symbol but for `modules`, if there is one: each kind is looked for among all symbols before the next.
 pub(crate) fn symbol_fault(outline: &Outline) -> Option<(TreeProblem, SymId)>
     requires { length outline.now.symbols ≤ 65535 }
     ensures { result ≡ symbol_fault outline.now }
@@ -88,5 +199,16 @@ pub(crate) fn symbol_fault(outline: &Outline) -> Option<(TreeProblem, SymId)>
     if let Some(fault) = first_with(outline, TreeProblem::SecondPrompt) {
         return Some(fault);
     }
+    if let Some(fault) = first_with(outline, TreeProblem::UnfitDefault) {
+        return Some(fault);
+    }
+    first_with(outline, TreeProblem::UnfitSelect)
+}
+
+/// The fault of `modules`, if there is one.
+pub(crate) fn modules_fault(outline: &Outline) -> Option<(TreeProblem, SymId)>
+    requires { length outline.now.symbols ≤ 65535 }
+    ensures { result ≡ modules_fault outline.now }
+{
     first_with(outline, TreeProblem::BadModules)
 }

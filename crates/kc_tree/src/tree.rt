@@ -1,20 +1,22 @@
 ghost use Rattle.std.specs.Prelude.{◌≡◌, ◌<◌, IfSome, IfOk, IfErr, length, Contains, ◌↔◌};
 ghost use Rattle.kc_tree.specs.TreeValue.{symbol_named, name_of, modules_symbol};
-ghost use Rattle.kc_tree.specs.Nodes.{all_nodes, node_count, IsNodeOf};
+ghost use Rattle.kc_tree.specs.Nodes.{all_nodes, node_count, number_of, IsNodeOf};
 ghost use Rattle.kc_tree.specs.Uses.{Uses};
 ghost use Rattle.kc_tree.specs.Order.{IsOrder};
 ghost use Rattle.kc_tree.specs.Accepted.{IsAccepted};
-ghost use Rattle.kc_tree.specs.Fits.{fits};
+ghost use Rattle.kc_tree.specs.Fits.{fits, fits_type};
 
 use crate::block::{Block, Comment};
+use crate::choice::Choice;
 use crate::definition::Definition;
 use crate::fault::TreeFault;
-use crate::id::{BlockId, CommentId, SymId};
+use crate::id::{BlockId, ChoiceId, CommentId, SymId};
 use crate::link::link;
 use crate::names::Names;
 use crate::node::Node;
 use crate::node_rows::NodeRows;
 use crate::nodes::Nodes;
+use crate::numerals::numeral;
 use crate::reading::read_outline;
 use crate::symbol::{Symbol, SymbolType};
 use crate::tri::Tri;
@@ -34,11 +36,13 @@ pub enum Entry {
     Menu(BlockId),
     /// The end of a menu.
     EndMenu(BlockId),
+    /// A choice, whose members follow.
+    Choice(ChoiceId),
     /// A comment.
     Comment(CommentId),
 }
 
-/// The tree of a Kconfig: its symbols and entries, and the nodes with what each uses, in a topological
+/// The tree of a Kconfig: its symbols, choices and entries, and the nodes with what each uses, in a topological
 /// order. Contracts see all but the order and what nodes use.
 #[derive(Drop)]
 pub struct Tree {
@@ -46,6 +50,7 @@ pub struct Tree {
     pub(crate) symbols: Vec<Symbol>,
     pub(crate) definitions: Vec<Definition>,
     pub(crate) blocks: Vec<Block>,
+    pub(crate) choices: Vec<Choice>,
     pub(crate) comments: Vec<Comment>,
     pub(crate) entries: Vec<Entry>,
     pub(crate) order: Vec<Node>,
@@ -69,6 +74,22 @@ impl Model for Tree {
     ghost invariant = { IsWellMade };
 }
 
+/// Whether a user value is one of a type.
+fn fits_type(kind: SymbolType, value: &UserVal) -> bool
+    ensures { result ≡ fits_type kind value.now }
+{
+    match (kind, value) {
+        (SymbolType::Bool, UserVal::Tri(tri)) => !matches!(tri, Tri::Module),
+        (SymbolType::Tristate, UserVal::Tri(_)) => true,
+        (SymbolType::String, UserVal::Text(_)) => true,
+        (SymbolType::Int | SymbolType::Hex, UserVal::Text(text)) => {
+            numeral(kind, text.as_str()).is_some()
+        }
+        (SymbolType::Bool | SymbolType::Tristate, UserVal::Text(_)) => false,
+        (SymbolType::String | SymbolType::Int | SymbolType::Hex, UserVal::Tri(_)) => false,
+    }
+}
+
 impl Tree {
     ghost use Rattle.kc_tree.specs.Parsed.{IsTreeOf, IsFaultOf};
 
@@ -80,7 +101,10 @@ impl Tree {
     ///   attribute belongs to nothing that takes it, K07 a block is closed wrongly or left open, K05 its form, and K01
     ///   a limit of parentheses, blocks or symbols.
     /// - `TreeFault::Symbol` where no line is at fault, with the first symbol without type (K12), else with two types
-    ///   (K13), else with two prompts in one definition (K14), else of a bad `modules` (K18).
+    ///   (K13), else with two prompts in one definition (K14), else with a default or a range that does not fit its type
+    ///   (K15), else with a `select` or an `imply` that does not (K16); else, where no choice has a fault, of a bad
+    ///   `modules` (K18).
+    /// - `TreeFault::Choice` where none of these up to K16 is there, with the line of the first choice with a fault (K17).
     /// - `TreeFault::Loop` where there is no other fault, with nodes that form a loop.
     /// - `TreeFault::NoMemory` where memory was refused.
     pub fn parse(alloc: Global, lines: &[Line<'_>]) -> Result<Tree, TreeFault>
@@ -88,7 +112,7 @@ impl Tree {
         ensures fault { IfErr result (IsFaultOf lines.now) }
     {
         let outline = read_outline(alloc, lines)?;
-        link(alloc, outline)
+        link(alloc, lines, outline)
     }
 
     /// The symbol of a name.
@@ -122,7 +146,15 @@ impl Tree {
         self.definitions.as_slice()
     }
 
-    /// The menus and `if` blocks by number, which is the order of the lines that open them.
+    /// The choices by number, which is the order of their lines.
+    pub fn choices(&self) -> &[Choice]
+        ensures choices { result.now ≡ self.now.choices }
+        ensures accepted { IsAccepted self.now }
+    {
+        self.choices.as_slice()
+    }
+
+    /// The menus, `if` blocks and choices' blocks by number, which is the order of the lines that open them.
     pub fn blocks(&self) -> &[Block]
         ensures { result.now ≡ self.now.blocks }
     {
@@ -151,12 +183,12 @@ impl Tree {
         self.entries.as_slice()
     }
 
-    /// How many nodes there are: two for each symbol.
+    /// How many nodes there are: two for each symbol, and two for each choice.
     pub fn node_count(&self) -> usize
         ensures count { result ≡ node_count self.now }
         ensures accepted { IsAccepted self.now }
     {
-        2 * self.symbols.len()
+        2 * (self.symbols.len() + self.choices.len())
     }
 
     /// All nodes, by number.
@@ -164,6 +196,15 @@ impl Tree {
         ensures { result ≡ all_nodes self.now }
     {
         Nodes::of(self)
+    }
+
+    /// The number of a node, from 0: twice that of its symbol for a visibility, and one more for a value; the modes and
+    /// the selections of the choices follow, in the same way.
+    pub fn number(&self, node: Node) -> usize
+        ensures number { result ≡ number_of self.now node }
+        ensures accepted { IsAccepted self.now }
+    {
+        node.number_in(self.symbols.len())
     }
 
     /// Each node once, after all that it uses.
@@ -180,7 +221,7 @@ impl Tree {
         ensures exact { (m : Node) → Contains result.now m ↔ Uses self.now node m }
         ensures accepted { IsAccepted self.now }
     {
-        self.uses.row(node.number())
+        self.uses.row(self.number(node))
     }
 
     /// The nodes that are computed from a node.
@@ -189,22 +230,18 @@ impl Tree {
         ensures exact { (m : Node) → Contains result.now m ↔ Uses self.now m node }
         ensures accepted { IsAccepted self.now }
     {
-        self.used_by.row(node.number())
+        self.used_by.row(self.number(node))
     }
 
-    /// Whether a user value is one that the symbol takes: a bool takes n and y, a tristate n, m and y. False for a
-    /// symbol that the tree doesn't have.
+    /// Whether a user value is one that the symbol takes: a bool takes n and y, a tristate n, m and y, a string all
+    /// texts, an int and a hex the numerals of their types. False for a member of a choice, and for a symbol that the
+    /// tree doesn't have.
     pub fn fits(&self, symbol: SymId, value: &UserVal) -> bool
         ensures { result ≡ fits self.now symbol value.now }
     {
         let Some(symbol) = self.symbols.get(symbol.0 as usize) else {
             return false;
         };
-        match (symbol.kind(), value) {
-            (_, UserVal::Tri(Tri::No)) | (_, UserVal::Tri(Tri::Yes)) => true,
-            (SymbolType::Tristate, UserVal::Tri(Tri::Module)) => true,
-            (SymbolType::Bool, UserVal::Tri(Tri::Module)) => false,
-            (_, UserVal::Text(_)) => false,
-        }
+        symbol.choice().is_none() && fits_type(symbol.kind(), value)
     }
 }

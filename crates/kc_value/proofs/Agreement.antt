@@ -1,8 +1,11 @@
 -- A rule reads the nodes that its node uses, and no others.
-use Rattle.std.proofs.Common.{◌≡◌, ◌<◌, Bool, true, false, cond, not, List, [], ◌∷◌, ◌++◌, map, Option, Some, None, find, slice_get, option_map, unwrap_or, refl, sym, ap, ◌∙◌, arith, length, ◌||◌, ◌&&◌, true≢false}
+use Rattle.std.proofs.Common.{◌≡◌, ◌<◌, ◌⊎◌, inl, inr, Bool, true, false, cond, not, List, [], ◌∷◌, ◌++◌, map, Option, Some, None, find, slice_get, option_map, unwrap_or, refl, sym, ap, subst, ◌∙◌, arith, length, ◌||◌, ◌&&◌, true≢false, ℕ, ℤ, if◌then◌else◌}
+use Rattle.std.specs.Prelude.{codes, option_and_then, is_some}
 use Rattle.std.specs.List.{Contains, AllByRecursion, flat_map, filter_map, cons_option}
+use Rattle.std.specs.Option.{option_map_or, option_or}
+use Rattle.std.specs.Str.{bytes_eq}
 use Rattle.std.specs.Cmp.Lexicographic.{slice_cmp}
-use Rattle.std.specs.Option.{option_map_or}
+use Rattle.std.specs.declared.cmp.Ordering.{Ordering}
 use Rattle.std.specs.Ordering.{nat_cmp}
 use Rattle.std.proofs.lemmas.List.Elements.{Contains-append_right}
 use Rattle.kc_tree.specs.declared.expr.Term.{Term}
@@ -10,26 +13,36 @@ use Rattle.kc_tree.specs.declared.expr.Term.TheVariants.{Tri as Constant, Text a
 use Rattle.kc_tree.specs.declared.expr.Expr.{Expr}
 use Rattle.kc_tree.specs.declared.definition.Prompt.{Prompt}
 use Rattle.kc_tree.specs.declared.definition.DefaultValue.{DefaultValue}
+use Rattle.kc_tree.specs.declared.definition.Range.{Range}
+use Rattle.kc_tree.specs.declared.choice.ChoiceDefault.{ChoiceDefault}
 use Rattle.kc_tree.specs.declared.symbol.Reverse.{Reverse}
+use Rattle.kc_tree.specs.declared.symbol.SymbolType.{SymbolType}
 use Rattle.kc_tree.specs.declared.symbol.SymbolType.TheVariants.{Tristate}
 use Rattle.kc_tree.specs.declared.id.SymId.{SymId}
+use Rattle.kc_tree.specs.declared.id.ChoiceId.{ChoiceId}
 use Rattle.kc_tree.specs.declared.node.Node.{Node}
-use Rattle.kc_tree.specs.declared.node.Node.TheVariants.{Vis, Val}
+use Rattle.kc_tree.specs.declared.node.Node.TheVariants.{Vis, Val, Mode, Sel}
 use Rattle.kc_tree.specs.declared.tri.Tri.{Tri}
 use Rattle.kc_tree.specs.declared.tri.Tri.TheVariants.{No, Module, Yes}
 use Rattle.kc_tree.specs.declared.user_value.UserVal.{UserVal}
-use Rattle.kc_tree.specs.declared.user_value.UserVal.TheVariants.{Tri as TriVal}
-use Rattle.kc_tree.specs.Grammar.{Formula, atom, compare, negation, group, both, either, formula}
+use Rattle.kc_tree.specs.declared.user_value.UserVal.TheVariants.{Tri as TriVal, Text as TextVal}
+use Rattle.kc_tree.specs.Grammar.{Formula, atom, compare, negation, group, both, either, formula, lone_term}
+use Rattle.kc_tree.specs.SymbolFaults.{is_tri_type}
 use Rattle.kc_tree.specs.TreeOf.{same_type}
-use Rattle.kc_tree.specs.TreeValue.{TreeValue, SymbolValue, DefinitionValue, BlockValue, modules_symbol, kind_of, definitions_of, blocks_around}
+use Rattle.kc_tree.specs.TreeValue.{TreeValue, SymbolValue, DefinitionValue, BlockValue, ChoiceValue, modules_symbol, kind_of, definitions_of, blocks_around}
 use Rattle.kc_tree.specs.Tristate.{least, greatest, least_of, greatest_of, complement, is_no}
-use Rattle.kc_tree.specs.Uses.{Uses, used_nodes, symbol_nodes, term_nodes, formula_nodes, value_nodes, modules_nodes, is_module_term, has_bare_module, nodes_if, condition_nodes, conditions_nodes, own_condition_nodes, depends_nodes, visible_nodes, dependency_nodes, prompt_nodes, default_nodes, definition_nodes, reverse_nodes, type_nodes, visibility_nodes, symbol_value_nodes}
-use Rattle.kc_value.specs.declared.value.Value.TheVariants.{Tri as Level, Shown}
-use Rattle.kc_value.specs.Assignment.{Assignment, as_tri}
-use Rattle.kc_value.specs.UserValues.{UserValues, user_value}
-use Rattle.kc_value.specs.ExprValue.{symbol_tri, modules_value, term_tri, tri_letter, term_text, tri_number, term_number, number_or_text_order, term_order, is_related, yes_if, formula_value, expr_value, condition_value, conditions_value, own_condition}
-use Rattle.kc_value.specs.Conditions.{blocks_depend, blocks_visible, dependency, prompt_value}
-use Rattle.kc_value.specs.Rule.{rule, in_type, has_modules, visibility, default_condition, is_active, definition_default, default_value, reverse_value, reverse_values, direct, user_part, symbol_rule}
+use Rattle.kc_tree.specs.Uses.{Uses, used_nodes, symbol_nodes, term_nodes, formula_nodes, value_nodes, modules_nodes, is_module_term, has_bare_module, nodes_if, condition_nodes, conditions_nodes, own_condition_nodes, depends_nodes, visible_nodes, dependency_nodes, prompt_nodes, default_nodes, range_nodes, definition_nodes, reverse_nodes, mode_nodes, selection_nodes, visibility_node, choice_prompt_nodes, choice_default_nodes, choice_value_nodes, type_nodes, visibility_nodes, free_value_nodes, symbol_value_nodes}
+use Rattle.kc_value.specs.declared.value.Value.{Value}
+use Rattle.kc_value.specs.declared.value.Value.TheVariants.{Tri as Level, Shown, Member}
+use Rattle.kc_value.specs.declared.bounds.Bounds.{Bounds}
+use Rattle.kc_value.specs.Assignment.{Assignment, as_tri, as_text, as_member, tri_letter}
+use Rattle.kc_value.specs.UserValues.{UserValues, user_value, chosen_in}
+use Rattle.kc_value.specs.ExprValue.{symbol_tri, modules_value, constant_tri, term_tri, term_text, tri_number, number_in_type, term_number, is_string_term, number_or_text_order, text_order, term_order, is_related, yes_if, formula_value, expr_value, condition_value, conditions_value, own_condition}
+use Rattle.kc_value.specs.Conditions.{blocks_depend, blocks_visible, dependency, prompt_value, mode_around}
+use Rattle.kc_value.specs.Defaults.{default_condition, is_active}
+use Rattle.kc_value.specs.TextRule.{value_text, definition_text, default_text, number_or_zero, is_range_active, bounds_in, definition_bounds, is_number_type, bounds_of, user_text, clamped, text_rule}
+use Rattle.kc_value.specs.ChoiceRule.{mode, is_visible, is_symbol, visible_if, default_member, selection, selected_in, member_rule}
+use Rattle.kc_value.specs.Rule.{rule, in_type, has_modules, visibility, definition_default, default_value, reverse_value, reverse_values, direct, user_part, tri_rule, free_rule, symbol_rule}
 
 or-left : (x y : Bool) → x ≡ true → (x || y) ≡ true
 or-left true y h = refl
@@ -38,6 +51,15 @@ or-left false y h = absurd (true≢false (sym h))
 or-right : (x y : Bool) → y ≡ true → (x || y) ≡ true
 or-right true y h = refl
 or-right false y h = h
+
+-- a text in quotes reads what m stands for where it is m
+constant_agrees : (p q : Tri) (n m y : Bool) → (m ≡ true → p ≡ q)
+    → option_map_or (constant_tri p) (if n then Some No else (if m then Some Module else (if y then Some Yes else None))) No
+    ≡ option_map_or (constant_tri q) (if n then Some No else (if m then Some Module else (if y then Some Yes else None))) No
+constant_agrees p q true m y h = refl
+constant_agrees p q false true y h = h refl
+constant_agrees p q false false true h = refl
+constant_agrees p q false false false h = refl
 
 module _ (a b : Assignment) where
   -- both give each of the nodes the same value
@@ -88,6 +110,13 @@ module _ (a b : Assignment) where
         | false ↦ found_agrees p q f g nodes test same xs (Agree-right (nodes x) (flat_map nodes xs) h)
       ]
 
+  find_agrees : {X : Type 0} (p q : X → Bool) (nodes : X → List Node) → ((x : X) → Agree (nodes x) → p x ≡ q x)
+      → (xs : List X) → Agree (flat_map nodes xs) → find p xs ≡ find q xs
+  find_agrees p q nodes test [] h = refl
+  find_agrees p q nodes test (x ∷ xs) h =
+      ap (λ v. cond v (Some x) (find p xs)) (test x (Agree-left (nodes x) (flat_map nodes xs) h))
+      ∙ ap (λ rest. cond (q x) (Some x) rest) (find_agrees p q nodes test xs (Agree-right (nodes x) (flat_map nodes xs) h))
+
   module _ (t : TreeValue) where
     -- ---- expressions
     found_symbol_agrees : (s : SymId) (o : Option SymbolValue) → Agree (option_map_or (λ x. Val s ∷ []) o [])
@@ -109,28 +138,44 @@ module _ (a b : Assignment) where
     term_agrees p q (Constant No) h bare = refl
     term_agrees p q (Constant Module) h bare = bare refl
     term_agrees p q (Constant Yes) h bare = refl
-    term_agrees p q (TextTerm w) h bare = refl
+    term_agrees p q (TextTerm w) h bare = constant_agrees p q (bytes_eq w (codes "n")) (bytes_eq w (codes "m")) (bytes_eq w (codes "y")) bare
     term_agrees p q (Symbol s) h bare = symbol_tri_agrees s h
     term_agrees p q (Undefined w) h bare = refl
+
+    found_text_agrees : (s : SymId) (o : Option SymbolValue) → Agree (option_map_or (λ x. Val s ∷ []) o [])
+        → option_map_or (λ x. as_text (a (Val s))) o (tri_letter No) ≡ option_map_or (λ x. as_text (b (Val s))) o (tri_letter No)
+    found_text_agrees s None h = refl
+    found_text_agrees s (Some x) h = ap as_text h.0
 
     text_agrees : (x : Term) → Agree (term_nodes t x) → term_text t a x ≡ term_text t b x
     text_agrees (Constant v) h = refl
     text_agrees (TextTerm w) h = refl
-    text_agrees (Symbol s) h = ap tri_letter (symbol_tri_agrees s h)
+    text_agrees (Symbol s) h = found_text_agrees s (slice_get t.symbols s.0) h
     text_agrees (Undefined w) h = refl
+
+    found_number_agrees : (s : SymId) (o : Option SymbolValue) → Agree (option_map_or (λ x. Val s ∷ []) o [])
+        → option_map_or (λ x. number_in_type (kind_of x) (a (Val s))) o (Some (tri_number No))
+        ≡ option_map_or (λ x. number_in_type (kind_of x) (b (Val s))) o (Some (tri_number No))
+    found_number_agrees s None h = refl
+    found_number_agrees s (Some x) h = ap (number_in_type (kind_of x)) h.0
 
     number_agrees : (x : Term) → Agree (term_nodes t x) → term_number t a x ≡ term_number t b x
     number_agrees (Constant v) h = refl
     number_agrees (TextTerm w) h = refl
-    number_agrees (Symbol s) h = ap (λ v. Some (tri_number v)) (symbol_tri_agrees s h)
+    number_agrees (Symbol s) h = found_number_agrees s (slice_get t.symbols s.0) h
     number_agrees (Undefined w) h = refl
+
+    text_order_agrees : (x y : Term) → Agree (term_nodes t x) → Agree (term_nodes t y) → text_order t a x y ≡ text_order t b x y
+    text_order_agrees x y h k =
+        ap (λ w. slice_cmp nat_cmp w (term_text t a y)) (text_agrees x h)
+        ∙ ap (λ w. slice_cmp nat_cmp (term_text t b x) w) (text_agrees y k)
 
     order_agrees : (x y : Term) → Agree (term_nodes t x) → Agree (term_nodes t y) → term_order t a x y ≡ term_order t b x y
     order_agrees x y h k =
-        ap (λ n. number_or_text_order n (term_number t a y) (slice_cmp nat_cmp (term_text t a x) (term_text t a y))) (number_agrees x h)
-        ∙ ap (λ n. number_or_text_order (term_number t b x) n (slice_cmp nat_cmp (term_text t a x) (term_text t a y))) (number_agrees y k)
-        ∙ ap (λ w. number_or_text_order (term_number t b x) (term_number t b y) (slice_cmp nat_cmp w (term_text t a y))) (text_agrees x h)
-        ∙ ap (λ w. number_or_text_order (term_number t b x) (term_number t b y) (slice_cmp nat_cmp (term_text t b x) w)) (text_agrees y k)
+        let of : Option ℤ → Option ℤ → Ordering → Ordering = λ n m texts. if is_string_term t x && is_string_term t y then texts else number_or_text_order n m texts in
+        ap (λ n. of n (term_number t a y) (text_order t a x y)) (number_agrees x h)
+        ∙ ap (λ n. of (term_number t b x) n (text_order t a x y)) (number_agrees y k)
+        ∙ ap (λ o. of (term_number t b x) (term_number t b y) o) (text_order_agrees x y h k)
 
     -- m alone may stand for two things where it does not stand alone
     formula_value_agrees : (p q : Tri) (f : Formula) → Agree (formula_nodes t f) → (has_bare_module f ≡ true → p ≡ q) → formula_value t a p f ≡ formula_value t b q f
@@ -203,17 +248,26 @@ module _ (a b : Assignment) where
         ap (λ c. least c (dependency t a d)) (own_condition_agrees v.condition (Agree-right (value_nodes t v.value) (own_condition_nodes t v.condition) h))
         ∙ ap (λ c. least (own_condition t b v.condition) c) same
 
+    definition_dependency_agrees : (d : DefinitionValue) → Agree (definition_nodes t d) → dependency t a d ≡ dependency t b d
+    definition_dependency_agrees d h =
+        let defaults = flat_map (default_nodes t) d.defaults in
+        let ranges = flat_map (range_nodes t) d.ranges in
+        dependency_agrees d (Agree-right ranges (dependency_nodes t d) (Agree-right defaults (ranges ++ dependency_nodes t d) h))
+
+    active_agrees : (d : DefinitionValue) → dependency t a d ≡ dependency t b d → (v : DefaultValue) → Agree (default_nodes t v) → is_active t a d v ≡ is_active t b d v
+    active_agrees d same v h = ap (λ c. not (is_no c)) (default_condition_agrees d same v h)
+
     definition_default_agrees : (d : DefinitionValue) → Agree (definition_nodes t d) → definition_default t a d ≡ definition_default t b d
     definition_default_agrees d h =
-        let same = dependency_agrees d (Agree-right (flat_map (default_nodes t) d.defaults) (dependency_nodes t d) h) in
+        let same = definition_dependency_agrees d h in
         found_agrees (is_active t a d) (is_active t b d)
         (λ v. least (expr_value t a v.value) (default_condition t a d v)) (λ v. least (expr_value t b v.value) (default_condition t b d v))
         (default_nodes t)
-        (λ v k. ap (λ c. not (is_no c)) (default_condition_agrees d same v k))
+        (active_agrees d same)
         (λ v k.
         ap (λ c. least c (default_condition t a d v)) (expr_agrees v.value (Agree-left (value_nodes t v.value) (own_condition_nodes t v.condition) k))
         ∙ ap (λ c. least (expr_value t b v.value) c) (default_condition_agrees d same v k))
-        d.defaults (Agree-left (flat_map (default_nodes t) d.defaults) (dependency_nodes t d) h)
+        d.defaults (Agree-left (flat_map (default_nodes t) d.defaults) (flat_map (range_nodes t) d.ranges ++ dependency_nodes t d) h)
 
     default_value_agrees : (x : SymbolValue) → Agree (flat_map (definition_nodes t) (definitions_of t x)) → default_value t a x ≡ default_value t b x
     default_value_agrees x h =
@@ -221,8 +275,7 @@ module _ (a b : Assignment) where
 
     direct_agrees : (x : SymbolValue) → Agree (flat_map (definition_nodes t) (definitions_of t x)) → direct t a x ≡ direct t b x
     direct_agrees x h =
-        ap greatest_of (map_agrees (dependency t a) (dependency t b) (definition_nodes t)
-        (λ d k. dependency_agrees d (Agree-right (flat_map (default_nodes t) d.defaults) (dependency_nodes t d) k)) (definitions_of t x) h)
+        ap greatest_of (map_agrees (dependency t a) (dependency t b) (definition_nodes t) definition_dependency_agrees (definitions_of t x) h)
 
     -- ---- select and imply
     found_dependency_agrees : (o : Option DefinitionValue) → Agree (option_map_or (dependency_nodes t) o []) → option_map_or (dependency t a) o No ≡ option_map_or (dependency t b) o No
@@ -253,15 +306,152 @@ module _ (a b : Assignment) where
     has_modules_agrees : (x : SymbolValue) → Agree (type_nodes t x) → has_modules t a x ≡ has_modules t b x
     has_modules_agrees x h = has_modules_if (same_type (kind_of x) Tristate) h
 
+    -- ---- texts
+    lone_text_agrees : (f : Formula) → Agree (formula_nodes t f) → option_map_or (term_text t a) (lone_term f) [] ≡ option_map_or (term_text t b) (lone_term f) []
+    lone_text_agrees (atom x) h = text_agrees x h
+    lone_text_agrees (compare c x y) h = refl
+    lone_text_agrees (negation f) h = refl
+    lone_text_agrees (group f) h = lone_text_agrees f h
+    lone_text_agrees (both f g) h = refl
+    lone_text_agrees (either f g) h = refl
+
+    definition_text_agrees : (d : DefinitionValue) → Agree (definition_nodes t d) → definition_text t a d ≡ definition_text t b d
+    definition_text_agrees d h =
+        found_agrees (is_active t a d) (is_active t b d) (λ v. value_text t a v.value) (λ v. value_text t b v.value) (default_nodes t)
+        (active_agrees d (definition_dependency_agrees d h))
+        (λ v k. lone_text_agrees (formula v.value) (Agree-left (value_nodes t v.value) (own_condition_nodes t v.condition) k))
+        d.defaults (Agree-left (flat_map (default_nodes t) d.defaults) (flat_map (range_nodes t) d.ranges ++ dependency_nodes t d) h)
+
+    default_text_agrees : (x : SymbolValue) → Agree (flat_map (definition_nodes t) (definitions_of t x)) → default_text t a x ≡ default_text t b x
+    default_text_agrees x h =
+        ap (λ ws. slice_get ws 0) (filter_map_agrees (definition_text t a) (definition_text t b) (definition_nodes t) definition_text_agrees (definitions_of t x) h)
+
+    -- ---- ranges
+    range_active_agrees : (d : DefinitionValue) → dependency t a d ≡ dependency t b d → (r : Range) → Agree (range_nodes t r) → is_range_active t a d r ≡ is_range_active t b d r
+    range_active_agrees d same r h =
+        let own = Agree-right (term_nodes t r.high) (own_condition_nodes t r.condition) (Agree-right (term_nodes t r.low) (term_nodes t r.high ++ own_condition_nodes t r.condition) h) in
+        ap (λ c. not (is_no (least c (dependency t a d)))) (own_condition_agrees r.condition own)
+        ∙ ap (λ c. not (is_no (least (own_condition t b r.condition) c))) same
+
+    bounds_agree : (k : SymbolType) (r : Range) → Agree (range_nodes t r) → bounds_in t a k r ≡ bounds_in t b k r
+    bounds_agree k r h =
+        let last = term_nodes t r.high ++ own_condition_nodes t r.condition in
+        let low = text_agrees r.low (Agree-left (term_nodes t r.low) last h) in
+        let high = text_agrees r.high (Agree-left (term_nodes t r.high) (own_condition_nodes t r.condition) (Agree-right (term_nodes t r.low) last h)) in
+        let of : List ℕ → List ℕ → Bounds = λ v w. record { low = number_or_zero k v; high = number_or_zero k w } in
+        ap (λ w. of w (term_text t a r.high)) low
+        ∙ ap (λ w. of (term_text t b r.low) w) high
+
+    definition_bounds_agree : (k : SymbolType) (d : DefinitionValue) → Agree (definition_nodes t d) → definition_bounds t a k d ≡ definition_bounds t b k d
+    definition_bounds_agree k d h =
+        let defaults = flat_map (default_nodes t) d.defaults in
+        let ranges = flat_map (range_nodes t) d.ranges in
+        found_agrees (is_range_active t a d) (is_range_active t b d) (bounds_in t a k) (bounds_in t b k) (range_nodes t)
+        (range_active_agrees d (definition_dependency_agrees d h)) (bounds_agree k)
+        d.ranges (Agree-left ranges (dependency_nodes t d) (Agree-right defaults (ranges ++ dependency_nodes t d) h))
+
+    bounds_of_agree : (x : SymbolValue) → Agree (flat_map (definition_nodes t) (definitions_of t x)) → bounds_of t a x ≡ bounds_of t b x
+    bounds_of_agree x h =
+        ap (λ bs. if is_number_type (kind_of x) then slice_get bs 0 else None)
+        (filter_map_agrees (definition_bounds t a (kind_of x)) (definition_bounds t b (kind_of x)) (definition_nodes t) (definition_bounds_agree (kind_of x)) (definitions_of t x) h)
+
+    text_rule_agrees : (x : SymbolValue) (vis : Tri) (u : Option UserVal) → Agree (flat_map (definition_nodes t) (definitions_of t x)) → text_rule t a x vis u ≡ text_rule t b x vis u
+    text_rule_agrees x vis u h =
+        let of : Option Bounds → Option (List ℕ) → Value = λ bounds w.
+        Shown (TextVal (unwrap_or (user_text (kind_of x) bounds vis u) (clamped (kind_of x) bounds (unwrap_or w [])))) (not (is_no vis) || is_some w)
+        in
+        ap (λ bounds. of bounds (default_text t a x)) (bounds_of_agree x h)
+        ∙ ap (λ w. of (bounds_of t b x) w) (default_text_agrees x h)
+
+    -- ---- choices
+    found_choice_agrees : {Y : Type 0} (f : Value → Y) (y : Y) (n : Node) (o : Option ChoiceValue) → Agree (option_map_or (λ x. n ∷ []) o [])
+        → option_map_or (λ x. f (a n)) o y ≡ option_map_or (λ x. f (b n)) o y
+    found_choice_agrees f y n None h = refl
+    found_choice_agrees f y n (Some x) h = ap f h.0
+
+    mode_around_agrees : (o : Option ChoiceId) → Agree (option_map_or (mode_nodes t) o []) → mode_around t a o ≡ mode_around t b o
+    mode_around_agrees None h = refl
+    mode_around_agrees (Some c) h = found_choice_agrees as_tri Yes (Mode c) (slice_get t.choices c.0) h
+
+    found_selection_agrees : (c : ChoiceId) (o : Option ChoiceValue) → Agree (option_map_or (λ x. Sel c ∷ []) o [])
+        → option_and_then (λ x. as_member (a (Sel c))) o ≡ option_and_then (λ x. as_member (b (Sel c))) o
+    found_selection_agrees c None h = refl
+    found_selection_agrees c (Some x) h = ap as_member h.0
+
+    selected_agrees : (c : ChoiceId) → Agree (selection_nodes t c) → selected_in t a c ≡ selected_in t b c
+    selected_agrees c h = found_selection_agrees c (slice_get t.choices c.0) h
+
+    found_visible_agrees : (s : SymId) (o : Option SymbolValue) → Agree (option_map_or (λ x. Vis s ∷ []) o [])
+        → option_map_or (λ x. not (is_no (as_tri (a (Vis s))))) o false ≡ option_map_or (λ x. not (is_no (as_tri (b (Vis s))))) o false
+    found_visible_agrees s None h = refl
+    found_visible_agrees s (Some x) h = ap (λ v. not (is_no (as_tri v))) h.0
+
+    visible_agrees : (s : SymId) → Agree (visibility_node t s) → is_visible t a s ≡ is_visible t b s
+    visible_agrees s h = found_visible_agrees s (slice_get t.symbols s.0) h
+
+    found_choice_prompt_agrees : (x : ChoiceValue) (o : Option Prompt)
+        → Agree (option_map_or (λ p. own_condition_nodes t p.condition ++ (depends_nodes t (blocks_around t (Some x.block)) ++ visible_nodes t (blocks_around t (Some x.block)))) o [])
+        → option_map_or (λ p. least (own_condition t a p.condition) (least (blocks_depend t a (blocks_around t (Some x.block))) (blocks_visible t a (blocks_around t (Some x.block))))) o No
+        ≡ option_map_or (λ p. least (own_condition t b p.condition) (least (blocks_depend t b (blocks_around t (Some x.block))) (blocks_visible t b (blocks_around t (Some x.block))))) o No
+    found_choice_prompt_agrees x None h = refl
+    found_choice_prompt_agrees x (Some p) h =
+        let around = blocks_around t (Some x.block) in
+        let last = depends_nodes t around ++ visible_nodes t around in
+        let rest = Agree-right (own_condition_nodes t p.condition) last h in
+        let own = own_condition_agrees p.condition (Agree-left (own_condition_nodes t p.condition) last h) in
+        let depends = blocks_depend_agrees around (Agree-left (depends_nodes t around) (visible_nodes t around) rest) in
+        let visible = blocks_visible_agrees around (Agree-right (depends_nodes t around) (visible_nodes t around) rest) in
+        ap (λ v. least v (least (blocks_depend t a around) (blocks_visible t a around))) own
+        ∙ ap (λ v. least (own_condition t b p.condition) (least v (blocks_visible t a around))) depends
+        ∙ ap (λ v. least (own_condition t b p.condition) (least (blocks_depend t b around) v)) visible
+
+    mode_agrees : (x : ChoiceValue) (chosen : Option SymId) → Agree (choice_prompt_nodes t x) → mode t a x chosen ≡ mode t b x chosen
+    mode_agrees x chosen h =
+        ap (λ v. yes_if (not (is_no v) && (not x.is_optional || is_some chosen))) (found_choice_prompt_agrees x x.prompt h)
+
+    visible_if_agrees : (active : Bool) (o : Option SymId) → Agree (option_map_or (visibility_node t) o []) → visible_if t active a o ≡ visible_if t active b o
+    visible_if_agrees active None h = refl
+    visible_if_agrees active (Some m) h = ap (λ v. if active && v then Some m else None) (visible_agrees m h)
+
+    default_member_agrees : (d : ChoiceDefault) → Agree (choice_default_nodes t d) → default_member t a d ≡ default_member t b d
+    default_member_agrees d h =
+        let member = option_map_or (visibility_node t) d.symbol [] in
+        ap (λ v. visible_if t (not (is_no v)) a d.symbol) (own_condition_agrees d.condition (Agree-right member (own_condition_nodes t d.condition) h))
+        ∙ visible_if_agrees (not (is_no (own_condition t b d.condition))) d.symbol (Agree-left member (own_condition_nodes t d.condition) h)
+
+    -- the mode is that of a choice of the tree
+    selection_agrees : (c : ChoiceId) (x : ChoiceValue) (chosen : Option SymId) → slice_get t.choices c.0 ≡ Some x → Agree (choice_value_nodes t c x)
+        → selection t a c x chosen ≡ selection t b c x chosen
+    selection_agrees c x chosen found h =
+        let members = flat_map (visibility_node t) x.members in
+        let defaults = flat_map (choice_default_nodes t) x.defaults in
+        let rest = Agree-right (mode_nodes t c) (members ++ defaults) h in
+        let of_members = Agree-left members defaults rest in
+        let own : Agree (Mode c ∷ []) = subst (λ (o : Option ChoiceValue). Agree (option_map_or (λ y. Mode c ∷ []) o [])) found (Agree-left (mode_nodes t c) (members ++ defaults) h) in
+        let chosen_is = find_agrees (λ s. is_symbol chosen s && is_visible t a s) (λ s. is_symbol chosen s && is_visible t b s) (visibility_node t)
+        (λ s k. ap (λ v. is_symbol chosen s && v) (visible_agrees s k)) x.members of_members
+        in
+        let by_default = filter_map_agrees (default_member t a) (default_member t b) (choice_default_nodes t) default_member_agrees x.defaults (Agree-right members defaults rest) in
+        let first = find_agrees (is_visible t a) (is_visible t b) (visibility_node t) visible_agrees x.members of_members in
+        let of : Value → Option SymId → List SymId → Option SymId → Option SymId = λ m s ds v. option_or (if is_no (as_tri m) then None else s) (option_or (slice_get ds 0) v) in
+        ap (λ m. of m (find (λ s. is_symbol chosen s && is_visible t a s) x.members) (filter_map (default_member t a) x.defaults) (find (is_visible t a) x.members)) own.0
+        ∙ ap (λ s. of (b (Mode c)) s (filter_map (default_member t a) x.defaults) (find (is_visible t a) x.members)) chosen_is
+        ∙ ap (λ ds. of (b (Mode c)) (find (λ s. is_symbol chosen s && is_visible t b s) x.members) ds (find (is_visible t a) x.members)) by_default
+        ∙ ap (λ v. of (b (Mode c)) (find (λ s. is_symbol chosen s && is_visible t b s) x.members) (filter_map (default_member t b) x.defaults) v) first
+
     -- ---- nodes
     visibility_agrees : (x : SymbolValue) → Agree (visibility_nodes t x) → visibility t a x ≡ visibility t b x
     visibility_agrees x h =
         let prompts = flat_map (prompt_nodes t) (definitions_of t x) in
-        ap (λ m. in_type m (greatest_of (map (prompt_value t a) (definitions_of t x)))) (has_modules_agrees x (Agree-right prompts (type_nodes t x) h))
-        ∙ ap (λ vs. in_type (has_modules t b x) (greatest_of vs)) (map_agrees (prompt_value t a) (prompt_value t b) (prompt_nodes t) prompt_agrees (definitions_of t x) (Agree-left prompts (type_nodes t x) h))
+        let around = option_map_or (mode_nodes t) x.choice [] in
+        let rest = Agree-right prompts (type_nodes t x ++ around) h in
+        let of : Bool → List Tri → Tri → Tri = λ m vs v. in_type m (least (greatest_of vs) v) in
+        ap (λ m. of m (map (prompt_value t a) (definitions_of t x)) (mode_around t a x.choice)) (has_modules_agrees x (Agree-left (type_nodes t x) around rest))
+        ∙ ap (λ vs. of (has_modules t b x) vs (mode_around t a x.choice)) (map_agrees (prompt_value t a) (prompt_value t b) (prompt_nodes t) prompt_agrees (definitions_of t x) (Agree-left prompts (type_nodes t x ++ around) h))
+        ∙ ap (λ v. of (has_modules t b x) (map (prompt_value t b) (definitions_of t x)) v) (mode_around_agrees x.choice (Agree-right (type_nodes t x) around rest))
 
-    symbol_agrees : (s : SymId) (x : SymbolValue) (u : Option UserVal) → Agree (symbol_value_nodes t s x) → symbol_rule t a x (as_tri (a (Vis s))) u ≡ symbol_rule t b x (as_tri (b (Vis s))) u
-    symbol_agrees s x u h =
+    tri_rule_agrees : (s : SymId) (x : SymbolValue) (u : Option UserVal) → Agree (free_value_nodes t s x) → tri_rule t a x (as_tri (a (Vis s))) u ≡ tri_rule t b x (as_tri (b (Vis s))) u
+    tri_rule_agrees s x u h =
         let ds = flat_map (definition_nodes t) (definitions_of t x) in
         let ss = flat_map (reverse_nodes t) x.selected in
         let is = flat_map (reverse_nodes t) x.implied in
@@ -280,24 +470,63 @@ module _ (a b : Assignment) where
         ∙ ap (λ c. of (has_modules t b x) (as_tri (b (Vis s))) (default_value t b x) (reverse_values t b x.implied) c (reverse_values t a x.selected)) (direct_agrees x definitions)
         ∙ ap (λ r. of (has_modules t b x) (as_tri (b (Vis s))) (default_value t b x) (reverse_values t b x.implied) (direct t b x) r) selected
 
+    free_agrees : (s : SymId) (x : SymbolValue) (u : Option UserVal) → Agree (free_value_nodes t s x) → free_rule t a x (as_tri (a (Vis s))) u ≡ free_rule t b x (as_tri (b (Vis s))) u
+    free_agrees s x u h =
+        let definitions = flat_map (definition_nodes t) (definitions_of t x) in
+        let rest = flat_map (reverse_nodes t) x.selected ++ (flat_map (reverse_nodes t) x.implied ++ type_nodes t x) in
+        let texts = ap (λ v. text_rule t a x (as_tri v) u) h.0 ∙ text_rule_agrees x (as_tri (b (Vis s))) u (Agree-left definitions rest h.1) in
+        ap (λ v. if is_tri_type (kind_of x) then v else text_rule t a x (as_tri (a (Vis s))) u) (tri_rule_agrees s x u h)
+        ∙ ap (λ v. if is_tri_type (kind_of x) then tri_rule t b x (as_tri (b (Vis s))) u else v) texts
+
+    -- a member of a choice, or a symbol that is none
+    member_agrees : (s : SymId) (x : SymbolValue) (u : Option UserVal) (o : Option ChoiceId) → Agree (option_map_or (λ c. Vis s ∷ selection_nodes t c) o (free_value_nodes t s x))
+        → option_map_or (λ c. member_rule t a c s (as_tri (a (Vis s)))) o (free_rule t a x (as_tri (a (Vis s))) u)
+        ≡ option_map_or (λ c. member_rule t b c s (as_tri (b (Vis s)))) o (free_rule t b x (as_tri (b (Vis s))) u)
+    member_agrees s x u None h = free_agrees s x u h
+    member_agrees s x u (Some c) h =
+        ap (λ v. member_rule t a c s (as_tri v)) h.0
+        ∙ ap (λ m. Shown (TriVal (yes_if (is_symbol m s))) (not (is_no (as_tri (b (Vis s)))))) (selected_agrees c h.1)
+
+    symbol_agrees : (s : SymId) (x : SymbolValue) (u : Option UserVal) → Agree (symbol_value_nodes t s x) → symbol_rule t a s x (as_tri (a (Vis s))) u ≡ symbol_rule t b s x (as_tri (b (Vis s))) u
+    symbol_agrees s x u h = member_agrees s x u x.choice h
+
     vis_agrees : (o : Option SymbolValue) → Agree (option_map_or (visibility_nodes t) o []) → option_map_or (λ x. Level (visibility t a x)) o (Level No) ≡ option_map_or (λ x. Level (visibility t b x)) o (Level No)
     vis_agrees None h = refl
     vis_agrees (Some x) h = ap Level (visibility_agrees x h)
 
     val_agrees : (s : SymId) (u : Option UserVal) (o : Option SymbolValue) → Agree (option_map_or (symbol_value_nodes t s) o [])
-        → option_map_or (λ x. symbol_rule t a x (as_tri (a (Vis s))) u) o (Level No) ≡ option_map_or (λ x. symbol_rule t b x (as_tri (b (Vis s))) u) o (Level No)
+        → option_map_or (λ x. symbol_rule t a s x (as_tri (a (Vis s))) u) o (Level No) ≡ option_map_or (λ x. symbol_rule t b s x (as_tri (b (Vis s))) u) o (Level No)
     val_agrees s u None h = refl
     val_agrees s u (Some x) h = symbol_agrees s x u h
+
+    of_mode_agrees : (chosen : Option SymId) (o : Option ChoiceValue) → Agree (option_map_or (choice_prompt_nodes t) o [])
+        → option_map_or (λ x. Level (mode t a x chosen)) o (Level No) ≡ option_map_or (λ x. Level (mode t b x chosen)) o (Level No)
+    of_mode_agrees chosen None h = refl
+    of_mode_agrees chosen (Some x) h = ap Level (mode_agrees x chosen h)
+
+    of_selection_agrees : (c : ChoiceId) (chosen : Option SymId) (o : Option ChoiceValue) → slice_get t.choices c.0 ≡ o → Agree (option_map_or (choice_value_nodes t c) o [])
+        → option_map_or (λ x. Member (selection t a c x chosen)) o (Level No) ≡ option_map_or (λ x. Member (selection t b c x chosen)) o (Level No)
+    of_selection_agrees c chosen None found h = refl
+    of_selection_agrees c chosen (Some x) found h = ap Member (selection_agrees c x chosen found h)
 
 -- assignments that agree on the nodes that a node uses give it the same value by its rule
 pub rule_agrees : (t : TreeValue) (u : UserValues) (a b : Assignment) (n : Node) → ((m : Node) → Uses t n m → a m ≡ b m) → rule t u a n ≡ rule t u b n
 unfolding rule Uses
 rule_agrees t u a b (Vis s) h = vis_agrees a b t (slice_get t.symbols s.0) (Agree-from_contains a b (used_nodes t (Vis s)) h)
 rule_agrees t u a b (Val s) h = val_agrees a b t s (user_value u s) (slice_get t.symbols s.0) (Agree-from_contains a b (used_nodes t (Val s)) h)
+rule_agrees t u a b (Mode c) h = of_mode_agrees a b t (chosen_in u c) (slice_get t.choices c.0) (Agree-from_contains a b (used_nodes t (Mode c)) h)
+rule_agrees t u a b (Sel c) h = of_selection_agrees a b t c (chosen_in u c) (slice_get t.choices c.0) refl (Agree-from_contains a b (used_nodes t (Sel c)) h)
 
--- user values enter at the value of their symbol alone
-pub rule_user : (t : TreeValue) (u w : UserValues) (a : Assignment) (n : Node) → ((s : SymId) → n ≡ Val s → user_value u s ≡ user_value w s) → rule t u a n ≡ rule t w a n
+-- user values enter at the value of their symbol alone, and a chosen member at the mode and the selection of its choice
+pub rule_user : (t : TreeValue) (u w : UserValues) (a : Assignment) (n : Node)
+    → ((s : SymId) → n ≡ Val s → user_value u s ≡ user_value w s)
+    → ((c : ChoiceId) → (n ≡ Mode c) ⊎ (n ≡ Sel c) → chosen_in u c ≡ chosen_in w c)
+    → rule t u a n ≡ rule t w a n
 unfolding rule
-rule_user t u w a (Vis s) h = refl
-rule_user t u w a (Val s) h =
-    ap (λ v. option_map_or (λ x. symbol_rule t a x (as_tri (a (Vis s))) v) (slice_get t.symbols s.0) (Level No)) (h s refl)
+rule_user t u w a (Vis s) values chosen = refl
+rule_user t u w a (Val s) values chosen =
+    ap (λ v. option_map_or (λ x. symbol_rule t a s x (as_tri (a (Vis s))) v) (slice_get t.symbols s.0) (Level No)) (values s refl)
+rule_user t u w a (Mode c) values chosen =
+    ap (λ m. option_map_or (λ x. Level (mode t a x m)) (slice_get t.choices c.0) (Level No)) (chosen c (inl refl))
+rule_user t u w a (Sel c) values chosen =
+    ap (λ m. option_map_or (λ x. Member (selection t a c x m)) (slice_get t.choices c.0) (Level No)) (chosen c (inr refl))

@@ -1,37 +1,61 @@
 -- The values that a symbol shows for some user value of its type.
-use Rattle.std.proofs.Common.{◌≡◌, ◌<◌, Bool, true, false, cond, ◌||◌, ◌&&◌, List, [], ◌∷◌, ◌++◌, Option, Some, None, length, if◌then◌else◌, get_or-set_same, refl, sym, ap, ◌∙◌, subst, arith}
+use Rattle.std.proofs.Common.{◌≡◌, ◌<◌, Bool, true, false, true≢false, cond, ◌||◌, ◌&&◌, List, [], ◌∷◌, ◌++◌, Option, Some, None, length, if◌then◌else◌, get_or-set_same, refl, sym, ap, ◌∙◌, subst, arith}
+use Rattle.std.specs.Prelude.{is_some, option_and_then}
 use Rattle.std.specs.List.{slice_get, filter, list_any}
 use Rattle.std.specs.Option.{option_map_or}
 use Rattle.kc_tree.specs.declared.id.SymId.{SymId}
+use Rattle.kc_tree.specs.declared.id.ChoiceId.{ChoiceId}
 use Rattle.kc_tree.specs.declared.node.Node.{Node}
 use Rattle.kc_tree.specs.declared.node.Node.TheVariants.{Vis, Val}
 use Rattle.kc_tree.specs.declared.symbol.SymbolType.{SymbolType}
-use Rattle.kc_tree.specs.declared.symbol.SymbolType.TheVariants.{Bool as BoolType, Tristate}
+use Rattle.kc_tree.specs.declared.symbol.SymbolType.TheVariants.{Bool as BoolType, Tristate, String as StringType, Int as IntType, Hex as HexType}
 use Rattle.kc_tree.specs.declared.tri.Tri.{Tri}
 use Rattle.kc_tree.specs.declared.tri.Tri.TheVariants.{No, Module, Yes}
 use Rattle.kc_tree.specs.declared.user_value.UserVal.TheVariants.{Tri as TriVal}
+use Rattle.kc_tree.specs.SymbolFaults.{is_tri_type}
 use Rattle.kc_tree.specs.TreeOf.{same_type}
-use Rattle.kc_tree.specs.TreeValue.{TreeValue, SymbolValue, kind_of}
+use Rattle.kc_tree.specs.TreeValue.{TreeValue, SymbolValue, kind_of, choice_of}
 use Rattle.kc_tree.specs.Uses.{Uses}
 use Rattle.kc_value.specs.declared.value.Value.TheVariants.{Tri as Level}
 use Rattle.kc_tree.specs.Tristate.{is_no}
 use Rattle.kc_value.specs.declared.value.Value.{Value}
 use Rattle.kc_value.specs.Assignment.{Assignment, as_tri, assignment_of}
 use Rattle.kc_value.specs.UserValues.{UserValues, IsUserFor, user_value, with_value}
-use Rattle.kc_value.specs.Rule.{rule, symbol_rule}
+use Rattle.kc_value.specs.ChoiceRule.{member_rule}
+use Rattle.kc_value.specs.TextRule.{text_rule}
+use Rattle.kc_value.specs.Rule.{rule, tri_rule, free_rule, symbol_rule}
 use Rattle.kc_value.specs.Assignable.{same_tri, shown_with, values_of_type, values_of, is_shown_with_some, assignable_in}
 use Rattle.kc_value.specs.Solution.{solution}
 use Rattle.kc_value.proofs.Agreement.{rule_agrees}
+
+none_of : {X : Type 0} (o : Option X) → is_some o ≡ false → o ≡ None
+none_of None h = refl
+none_of (Some x) h = absurd (true≢false h)
 
 or_false : (x : Bool) → (x || false) ≡ x
 or_false true = refl
 or_false false = refl
 
+-- whether the value is among those of n, m and y; m counts for a tristate alone
+abbrev pub among : Tri → Tri → Tri → SymbolType → Tri → Bool
+among n m y k w = is_tri_type k && (same_tri n w || ((same_type k Tristate && same_tri m w) || same_tri y w))
+
 -- whether one of the values of a type gives the value
 one_of_type : (f : Tri → Tri) (k : SymbolType) (w : Tri)
-    → list_any (λ v. same_tri (f v) w) (values_of_type k) ≡ (same_tri (f No) w || ((same_type k Tristate && same_tri (f Module) w) || same_tri (f Yes) w))
+    → list_any (λ v. same_tri (f v) w) (values_of_type k) ≡ among (f No) (f Module) (f Yes) k w
 one_of_type f BoolType w = ap (λ b. same_tri (f No) w || b) (or_false (same_tri (f Yes) w))
 one_of_type f Tristate w = ap (λ b. same_tri (f No) w || (same_tri (f Module) w || b)) (or_false (same_tri (f Yes) w))
+one_of_type f StringType w = refl
+one_of_type f IntType w = refl
+one_of_type f HexType w = refl
+
+-- what gives the same for a type with values is as good
+among_same : (f g : Tri → Tri) (k : SymbolType) (w : Tri) → (is_tri_type k ≡ true → (v : Tri) → f v ≡ g v) → among (f No) (f Module) (f Yes) k w ≡ among (g No) (g Module) (g Yes) k w
+among_same f g BoolType w same = ap (λ (h : Tri → Tri). among (h No) (h Module) (h Yes) BoolType w) (λ i v. same refl v i)
+among_same f g Tristate w same = ap (λ (h : Tri → Tri). among (h No) (h Module) (h Yes) Tristate w) (λ i v. same refl v i)
+among_same f g StringType w same = refl
+among_same f g IntType w same = refl
+among_same f g HexType w same = refl
 
 -- a list with one more value where it is wanted
 abbrev pub pushed : Bool → Tri → List Tri → List Tri
@@ -48,37 +72,43 @@ pushed_all false true false = refl
 pushed_all false false true = refl
 pushed_all false false false = refl
 
-module _ (t : TreeValue) (u : UserValues) (a : Assignment) (s : SymId) (sized : IsUserFor t u) (x : SymbolValue) (within : s.0 < length t.symbols) (found : slice_get t.symbols s.0 ≡ Some x) where
+module _ (t : TreeValue) (u : UserValues) (a : Assignment) (s : SymId) (sized : IsUserFor t u) (x : SymbolValue) (within : s.0 < length t.symbols) (found : slice_get t.symbols s.0 ≡ Some x) (alone : is_some (choice_of t s) ≡ false) where
+  abbrev vis : Tri
+  vis = as_tri (a (Vis s))
+
   abbrev shown : Tri → Tri
-  shown v = as_tri (symbol_rule t a x (as_tri (a (Vis s))) (Some (TriVal v)))
+  shown v = as_tri (tri_rule t a x vis (Some (TriVal v)))
+
+  no_choice : x.choice ≡ None
+  no_choice = none_of x.choice (sym (ap (λ (o : Option SymbolValue). is_some (option_and_then (λ y. y.choice) o)) found) ∙ alone)
 
   -- what the symbol shows with a user value is the rule at that value
-  shown_at : (v : Tri) → shown_with t u a s v ≡ shown v
+  shown_at : is_tri_type (kind_of x) ≡ true → (v : Tri) → shown_with t u a s v ≡ shown v
   unfolding rule
-  shown_at v =
-      let room : s.0 < length u.values = omega (arith, within, sized) in
-      ap (λ o. as_tri (option_map_or (λ y. symbol_rule t a y (as_tri (a (Vis s))) (user_value (with_value u s (Some (TriVal v))) s)) o (Level No))) found
-      ∙ ap (λ w. as_tri (symbol_rule t a x (as_tri (a (Vis s))) w)) (get_or-set_same u.values s.0 (Some (TriVal v)) None room)
+  shown_at tri v =
+      let room : s.0 < length u.values = omega (arith, within, sized.values) in
+      ap (λ o. as_tri (option_map_or (λ y. symbol_rule t a s y vis (user_value (with_value u s (Some (TriVal v))) s)) o (Level No))) found
+      ∙ ap (λ w. as_tri (symbol_rule t a s x vis w)) (get_or-set_same u.values s.0 (Some (TriVal v)) None room)
+      ∙ ap (λ (o : Option ChoiceId). as_tri (option_map_or (λ c. member_rule t a c s vis) o (free_rule t a x vis (Some (TriVal v))))) no_choice
+      ∙ ap (λ b. as_tri (if b then tri_rule t a x vis (Some (TriVal v)) else text_rule t a x vis (Some (TriVal v)))) tri
 
-  some_is : (w : Tri) → is_shown_with_some t u a s w ≡ (same_tri (shown No) w || ((same_type (kind_of x) Tristate && same_tri (shown Module) w) || same_tri (shown Yes) w))
+  some_is : (w : Tri) → is_shown_with_some t u a s w ≡ among (shown No) (shown Module) (shown Yes) (kind_of x) w
   some_is w =
       ap (λ o. list_any (λ v. same_tri (shown_with t u a s v) w) (option_map_or (λ y. values_of_type (kind_of y)) o [])) found
-      ∙ ap (λ (f : Tri → Tri). list_any (λ v. same_tri (f v) w) (values_of_type (kind_of x))) (λ i v. shown_at v i)
-      ∙ one_of_type shown (kind_of x) w
+      ∙ one_of_type (shown_with t u a s) (kind_of x) w
+      ∙ among_same (shown_with t u a s) shown (kind_of x) w shown_at
 
   -- the three values, each where it is shown with some
   pub collected : (n m y : Tri) (k : SymbolType) (b₀ b₁ b₂ : Bool) (l₀ l₁ l₂ l₃ : List Tri) → n ≡ shown No → m ≡ shown Module → y ≡ shown Yes → k ≡ kind_of x
-      → b₀ ≡ (same_tri n No || ((same_type k Tristate && same_tri m No) || same_tri y No))
-      → b₁ ≡ (same_tri n Module || ((same_type k Tristate && same_tri m Module) || same_tri y Module))
-      → b₂ ≡ (same_tri n Yes || ((same_type k Tristate && same_tri m Yes) || same_tri y Yes))
+      → b₀ ≡ among n m y k No → b₁ ≡ among n m y k Module → b₂ ≡ among n m y k Yes
       → l₀ ≡ [] → l₁ ≡ pushed b₀ No l₀ → l₂ ≡ pushed b₁ Module l₁ → l₃ ≡ pushed b₂ Yes l₂
       → l₃ ≡ filter (is_shown_with_some t u a s) (No ∷ Module ∷ Yes ∷ [])
   collected n m y k b₀ b₁ b₂ l₀ l₁ l₂ l₃ en em ey ek e₀ e₁ e₂ f₀ f₁ f₂ f₃ =
-      let with_all : (w : Tri) → (same_tri n w || ((same_type k Tristate && same_tri m w) || same_tri y w)) ≡ is_shown_with_some t u a s w = λ w.
-      ap (λ v. same_tri v w || ((same_type k Tristate && same_tri m w) || same_tri y w)) en
-      ∙ ap (λ v. same_tri (shown No) w || ((same_type k Tristate && same_tri v w) || same_tri y w)) em
-      ∙ ap (λ v. same_tri (shown No) w || ((same_type k Tristate && same_tri (shown Module) w) || same_tri v w)) ey
-      ∙ ap (λ v. same_tri (shown No) w || ((same_type v Tristate && same_tri (shown Module) w) || same_tri (shown Yes) w)) ek
+      let with_all : (w : Tri) → among n m y k w ≡ is_shown_with_some t u a s w = λ w.
+      ap (λ v. among v m y k w) en
+      ∙ ap (λ v. among (shown No) v y k w) em
+      ∙ ap (λ v. among (shown No) (shown Module) v k w) ey
+      ∙ ap (λ v. among (shown No) (shown Module) (shown Yes) v w) ek
       ∙ sym (some_is w)
       in
       f₃ ∙ ap (pushed b₂ Yes) (f₂ ∙ ap (pushed b₁ Module) (f₁ ∙ ap (pushed b₀ No) f₀))
@@ -94,19 +124,35 @@ shown_agrees t u a b s same =
     ap (λ (f : Tri → Tri). filter (λ w. list_any (λ v. same_tri (f v) w) (values_of t s)) (No ∷ Module ∷ Yes ∷ []))
     (λ i v. as_tri (rule_agrees t (with_value u s (Some (TriVal v))) a b (Val s) same i))
 
--- what was shown over the values of the used nodes is what can be given to a visible symbol
+-- what was shown over the values of the used nodes is what can be given to a visible symbol that is no member
 pub visible_values : (t t₁ t₂ : TreeValue) (u u₁ : UserValues) (s : SymId) (env lent : List (Option Value)) (items : List Tri)
     → t₁ ≡ t → u₁ ≡ u → t₂ ≡ t → lent ≡ env → IsUserFor t u
-    → ((n : Node) → Uses t₁ (Val s) n → assignment_of env n ≡ solution t₁ u₁ n)
-    → ((w : UserValues) → IsUserFor t₂ w → items ≡ filter (is_shown_with_some t₂ w (assignment_of lent) s) (No ∷ Module ∷ Yes ∷ []))
+    → ((n : Node) → Uses t₁ (Val s) n → assignment_of t₁ env n ≡ solution t₁ u₁ n)
+    → ((w : UserValues) → IsUserFor t₂ w → items ≡ filter (is_shown_with_some t₂ w (assignment_of t₂ lent) s) (No ∷ Module ∷ Yes ∷ []))
     → is_no (as_tri (solution t u (Vis s))) ≡ false
+    → is_some (choice_of t s) ≡ false
     → items ≡ assignable_in t u (solution t u) s
-visible_values t t₁ t₂ u u₁ s env lent items e₁ f₁ e₂ g sized right shown seen =
-    let same : (n : Node) → Uses t (Val s) n → assignment_of env n ≡ solution t u n = λ n uses.
-    right n (subst (λ x. Uses x (Val s) n) (sym e₁) uses) ∙ ap (λ x. solution x u₁ n) e₁ ∙ ap (λ w. solution t w n) f₁
+visible_values t t₁ t₂ u u₁ s env lent items e₁ f₁ e₂ g sized right shown seen alone =
+    let same : (n : Node) → Uses t (Val s) n → assignment_of t env n ≡ solution t u n = λ n uses.
+    sym (ap (λ x. assignment_of x env n) e₁) ∙ right n (subst (λ x. Uses x (Val s) n) (sym e₁) uses) ∙ ap (λ x. solution x u₁ n) e₁ ∙ ap (λ w. solution t w n) f₁
     in
+    let all = filter (is_shown_with_some t u (solution t u) s) (No ∷ Module ∷ Yes ∷ []) in
     shown u (subst (λ x. IsUserFor x u) (sym e₂) sized)
-    ∙ ap (λ x. filter (is_shown_with_some x u (assignment_of lent) s) (No ∷ Module ∷ Yes ∷ [])) e₂
-    ∙ ap (λ l. filter (is_shown_with_some t u (assignment_of l) s) (No ∷ Module ∷ Yes ∷ [])) g
-    ∙ shown_agrees t u (assignment_of env) (solution t u) s same
-    ∙ sym (ap (λ b. if b then [] else filter (is_shown_with_some t u (solution t u) s) (No ∷ Module ∷ Yes ∷ [])) seen)
+    ∙ ap (λ x. filter (is_shown_with_some x u (assignment_of x lent) s) (No ∷ Module ∷ Yes ∷ [])) e₂
+    ∙ ap (λ l. filter (is_shown_with_some t u (assignment_of t l) s) (No ∷ Module ∷ Yes ∷ [])) g
+    ∙ shown_agrees t u (assignment_of t env) (solution t u) s same
+    ∙ sym (ap (λ b. if b then [] else (if is_some (choice_of t s) then Yes ∷ [] else all)) seen ∙ ap (λ b. if b then Yes ∷ [] else all) alone)
+
+-- y alone can be given to a visible member
+pub member_values : (t : TreeValue) (u : UserValues) (s : SymId) (items : List Tri) → items ≡ Yes ∷ [] → is_no (as_tri (solution t u (Vis s))) ≡ false → is_some (choice_of t s) ≡ true
+    → items ≡ assignable_in t u (solution t u) s
+member_values t u s items is seen member =
+    let all = filter (is_shown_with_some t u (solution t u) s) (No ∷ Module ∷ Yes ∷ []) in
+    is ∙ sym (ap (λ b. if b then [] else (if is_some (choice_of t s) then Yes ∷ [] else all)) seen ∙ ap (λ b. if b then Yes ∷ [] else all) member)
+
+-- none can be given to an invisible symbol
+pub no_values : (t : TreeValue) (u : UserValues) (s : SymId) (items : List Tri) → items ≡ [] → is_no (as_tri (solution t u (Vis s))) ≡ true
+    → items ≡ assignable_in t u (solution t u) s
+no_values t u s items is seen =
+    let all = filter (is_shown_with_some t u (solution t u) s) (No ∷ Module ∷ Yes ∷ []) in
+    is ∙ sym (ap (λ b. if b then [] else (if is_some (choice_of t s) then Yes ∷ [] else all)) seen)

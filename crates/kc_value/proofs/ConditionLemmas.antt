@@ -9,17 +9,18 @@ use Rattle.kc_tree.specs.declared.expr.Expr.{Expr}
 use Rattle.kc_tree.specs.declared.id.SymId.{SymId}
 use Rattle.kc_tree.specs.declared.id.BlockId.{BlockId}
 use Rattle.kc_tree.specs.declared.id.CommentId.{CommentId}
+use Rattle.kc_tree.specs.declared.id.ChoiceId.{ChoiceId}
 use Rattle.kc_tree.specs.declared.node.Node.{Node}
-use Rattle.kc_tree.specs.declared.node.Node.TheVariants.{Val}
-use Rattle.kc_tree.specs.declared.tri.Tri.TheVariants.{No}
+use Rattle.kc_tree.specs.declared.node.Node.TheVariants.{Val, Mode}
+use Rattle.kc_tree.specs.declared.tri.Tri.TheVariants.{No, Yes}
 use Rattle.kc_tree.specs.Grammar.{Formula, atom, compare, negation, group, both, either, formula}
 use Rattle.kc_tree.specs.Nodes.{IsNodeOf}
-use Rattle.kc_tree.specs.TreeValue.{TreeValue, SymbolValue, BlockValue, CommentValue, modules_symbol, blocks_around}
+use Rattle.kc_tree.specs.TreeValue.{TreeValue, SymbolValue, BlockValue, ChoiceValue, CommentValue, modules_symbol, blocks_around}
 use Rattle.kc_tree.specs.Tristate.{least}
 use Rattle.kc_tree.specs.Uses.{symbol_nodes, term_nodes, formula_nodes, value_nodes, modules_nodes, has_bare_module, nodes_if, condition_nodes, conditions_nodes}
-use Rattle.kc_value.specs.Assignment.{Assignment}
+use Rattle.kc_value.specs.Assignment.{Assignment, as_tri}
 use Rattle.kc_value.specs.ExprValue.{conditions_value}
-use Rattle.kc_value.specs.Conditions.{blocks_depend, menu_value, comment_value, menu_condition, comment_condition}
+use Rattle.kc_value.specs.Conditions.{blocks_depend, mode_around, menu_value, comment_value, menu_condition, comment_condition}
 use Rattle.kc_value.proofs.Agreement.{Agree, conditions_agree, blocks_depend_agrees}
 
 module _ (t : TreeValue) (a b : Assignment) (same : (n : Node) → IsNodeOf t n → a n ≡ b n) where
@@ -76,11 +77,20 @@ module _ (t : TreeValue) (a b : Assignment) (same : (n : Node) → IsNodeOf t n 
       ∙ ap (λ v. least (conditions_value t b x.depends) (least v (conditions_value t a x.visible))) (same_blocks_depend around)
       ∙ ap (λ v. least (conditions_value t b x.depends) (least (blocks_depend t b around) v)) (same_conditions x.visible)
 
+  same_mode : (o : Option ChoiceId) → mode_around t a o ≡ mode_around t b o
+  same_mode None = refl
+  same_mode (Some c) = found (slice_get t.choices c.0) refl
+    where
+      found : (o : Option ChoiceValue) → slice_get t.choices c.0 ≡ o → option_map_or (λ x. as_tri (a (Mode c))) o Yes ≡ option_map_or (λ x. as_tri (b (Mode c))) o Yes
+      found None e = refl
+      found (Some x) e = ap as_tri (same (Mode c) (slice_get_within t.choices c.0 x e))
+
   same_comment_value : (x : CommentValue) → comment_value t a x ≡ comment_value t b x
   same_comment_value x =
       let around = blocks_around t x.block in
-      ap (λ v. least v (blocks_depend t a around)) (same_conditions x.depends)
-      ∙ ap (λ v. least (conditions_value t b x.depends) v) (same_blocks_depend around)
+      ap (λ v. least v (least (blocks_depend t a around) (mode_around t a x.choice))) (same_conditions x.depends)
+      ∙ ap (λ v. least (conditions_value t b x.depends) (least v (mode_around t a x.choice))) (same_blocks_depend around)
+      ∙ ap (λ v. least (conditions_value t b x.depends) (least (blocks_depend t b around) v)) (same_mode x.choice)
 
   pub same_menu_condition : (id : BlockId) → menu_condition t a id ≡ menu_condition t b id
   same_menu_condition id = found (slice_get t.blocks id.0)

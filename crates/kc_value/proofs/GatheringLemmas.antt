@@ -1,7 +1,7 @@
 -- Asking nodes one after another, and keeping what they give.
-use Rattle.std.proofs.Common.{◌≡◌, ◌↔◌, ℕ, ◌+◌, ◌<◌, ◌≤◌, List, [], ◌∷◌, ◌++◌, map, length, get_or, take, Option, Some, None, unwrap_or, refl, sym, ap, ◌∙◌, subst, ⊎_elim, arith}
+use Rattle.std.proofs.Common.{◌≡◌, ◌↔◌, ℕ, ◌+◌, ◌<◌, ◌≤◌, ◌-◌, List, [], ◌∷◌, ◌++◌, map, length, get_or, take, drop, Option, Some, None, unwrap_or, refl, sym, ap, ◌∙◌, subst, ⊎_elim, arith}
 use Rattle.std.specs.List.{Contains, range_with_len}
-use Rattle.std.proofs.lemmas.List.{take_all}
+use Rattle.std.proofs.lemmas.List.{take_all, drop_more, length-drop}
 use Rattle.std.proofs.lemmas.List.Elements.{Contains-push_cases, Contains-get_or}
 use Rattle.std.proofs.lemmas.List.FromFn.{get_or-map-range_with_len, length-map-range_with_len, map-range_with_len_more}
 use Rattle.kc_tree.specs.declared.node.Node.{Node}
@@ -11,8 +11,7 @@ use Rattle.kc_tree.specs.Nodes.{IsNodeOf, node_count, number_of, node_at, all_no
 use Rattle.kc_tree.specs.Accepted.{IsAccepted}
 use Rattle.kc_tree.specs.Uses.{Uses}
 use Rattle.kc_tree.specs.Reached.{Reached, Leads, step}
-use Rattle.kc_tree.proofs.NodeNumbers.{node_at-number_of}
-use Rattle.kc_tree.proofs.OrderLaws.{number_of-below}
+use Rattle.kc_tree.proofs.NodeNumbers.{node_at-number_of, number_below}
 use Rattle.kc_value.specs.declared.value.Value.{Value}
 use Rattle.kc_value.specs.declared.value.Value.TheVariants.{Tri as Level}
 use Rattle.kc_value.specs.Assignment.{assignment_of}
@@ -20,12 +19,12 @@ use Rattle.kc_value.specs.UserValues.{UserValues}
 use Rattle.kc_value.specs.Solution.{solution}
 
 -- all nodes and one of them once more reach no more than all nodes do
-pub once_more_in_all : (t : TreeValue) (k : ℕ) → k < node_count t → (n : Node) → Reached t (all_nodes t ++ node_at k ∷ []) n → Reached t (all_nodes t) n
+pub once_more_in_all : (t : TreeValue) (k : ℕ) → k < node_count t → (n : Node) → Reached t (all_nodes t ++ node_at t k ∷ []) n → Reached t (all_nodes t) n
 once_more_in_all t k below n (m, asked, leads) =
-    let long : length (all_nodes t) ≡ node_count t = length-map-range_with_len node_at 0 (node_count t) in
+    let long : length (all_nodes t) ≡ node_count t = length-map-range_with_len (node_at t) 0 (node_count t) in
     let within : k < length (all_nodes t) = subst (λ j. k < j) (sym long) below in
-    let one : Contains (all_nodes t) (node_at k) = (k, within, get_or-map-range_with_len node_at 0 (node_count t) k k (node_at k) below (omega arith)) in
-    (m, ⊎_elim (λ c. c) (λ same. subst (λ x. Contains (all_nodes t) x) same one) (Contains-push_cases (all_nodes t) (node_at k) m asked), leads)
+    let one : Contains (all_nodes t) (node_at t k) = (k, within, get_or-map-range_with_len (node_at t) 0 (node_count t) k k (node_at t k) below (omega arith)) in
+    (m, ⊎_elim (λ c. c) (λ same. subst (λ x. Contains (all_nodes t) x) same one) (Contains-push_cases (all_nodes t) (node_at t k) m asked), leads)
 
 -- a node and one that it uses reach no more than the node does
 pub used_in_one : (t : TreeValue) (m q : Node) → Uses t m q → (n : Node) → Reached t (m ∷ [] ++ q ∷ []) n → Reached t (m ∷ []) n
@@ -34,26 +33,54 @@ used_in_one t m q uses n (p, asked, leads) =
 
 -- the values of all nodes up to a number
 abbrev pub values_up_to : TreeValue → UserValues → ℕ → List (Option Value)
-values_up_to t u k = map (λ j. Some (solution t u (node_at j))) (range_with_len 0 k)
+values_up_to t u k = map (λ j. Some (solution t u (node_at t j))) (range_with_len 0 k)
 
 pub one_more_value : (t s : TreeValue) (u w : UserValues) (k : ℕ) (n : Node) (v : Value) (before after : List (Option Value))
-    → s ≡ t → w ≡ u → n ≡ node_at k → v ≡ solution s w n → before ≡ values_up_to t u k → after ≡ before ++ Some v ∷ []
+    → s ≡ t → w ≡ u → n ≡ node_at t k → v ≡ solution s w n → before ≡ values_up_to t u k → after ≡ before ++ Some v ∷ []
     → after ≡ values_up_to t u (k + 1)
 one_more_value t s u w k n v before after tree user node is kept pushed =
-    let right : v ≡ solution t u (node_at k) = is ∙ ap (λ x. solution x w n) tree ∙ ap (λ x. solution t x n) user ∙ ap (solution t u) node in
+    let right : v ≡ solution t u (node_at t k) = is ∙ ap (λ x. solution x w n) tree ∙ ap (λ x. solution t x n) user ∙ ap (solution t u) node in
     pushed
     ∙ ap (λ vs. vs ++ Some v ∷ []) kept
     ∙ ap (λ x. values_up_to t u k ++ Some x ∷ []) right
-    ∙ sym (map-range_with_len_more (λ j. Some (solution t u (node_at j))) 0 k k (omega arith))
+    ∙ sym (map-range_with_len_more (λ j. Some (solution t u (node_at t j))) 0 k k (omega arith))
+
+-- the same where the list itself says how many there are
+pub one_more_counted : (t s : TreeValue) (u w : UserValues) (n : Node) (v : Value) (before after : List (Option Value))
+    → s ≡ t → w ≡ u → n ≡ node_at t (length before) → v ≡ solution s w n → before ≡ values_up_to t u (length before) → after ≡ before ++ Some v ∷ []
+    → (length after ≡ length before + 1) × (after ≡ values_up_to t u (length after))
+one_more_counted t s u w n v before after tree user node is kept pushed =
+    let k : ℕ = length before in
+    let all : after ≡ values_up_to t u (k + 1) = one_more_value t s u w k n v before after tree user node is kept pushed in
+    let long : length after ≡ k + 1 = ap length all ∙ length-map-range_with_len (λ j. Some (solution t u (node_at t j))) 0 (k + 1) in
+    (long, all ∙ ap (values_up_to t u) (sym long))
+
+-- the first of the nodes that are left
+pub next_of_all : (t : TreeValue) (k : ℕ) (x : Node) (left : List Node) → x ∷ left ≡ drop k (all_nodes t)
+    → (k < node_count t) × (x ≡ node_at t k) × (left ≡ drop (k + 1) (all_nodes t))
+next_of_all t k x left e =
+    let long : length (all_nodes t) ≡ node_count t = length-map-range_with_len (node_at t) 0 (node_count t) in
+    let some : length (x ∷ left) ≡ length (all_nodes t) - k = ap length e ∙ length-drop k (all_nodes t) in
+    let within : k < length (all_nodes t) = omega (arith, some) in
+    let below : k < node_count t = subst (λ j. k < j) long within in
+    let split : x ∷ left ≡ get_or (all_nodes t) k x ∷ drop (k + 1) (all_nodes t) = e ∙ drop_more (all_nodes t) k x within in
+    (below, ap (λ xs. get_or xs 0 x) split ∙ get_or-map-range_with_len (node_at t) 0 (node_count t) k k x below (omega arith), ap (drop 1) split)
+
+-- none is left after the last
+pub none_of_all : (t : TreeValue) (k : ℕ) → k ≤ node_count t → [] ≡ drop k (all_nodes t) → k ≡ node_count t
+none_of_all t k within e =
+    let long : length (all_nodes t) ≡ node_count t = length-map-range_with_len (node_at t) 0 (node_count t) in
+    let none : 0 ≡ length (all_nodes t) - k = ap length e ∙ length-drop k (all_nodes t) in
+    omega (arith, none, long, within)
 
 -- the values of all nodes, as an assignment
 pub all_values_right : (t : TreeValue) (u : UserValues) (k : ℕ) (vs : List (Option Value)) → k ≡ node_count t → vs ≡ values_up_to t u k
-    → (n : Node) → IsNodeOf t n → assignment_of vs n ≡ solution t u n
+    → (n : Node) → IsNodeOf t n → assignment_of t vs n ≡ solution t u n
 all_values_right t u k vs whole is n inside =
-    let below : number_of n < k = subst (λ j. number_of n < j) (sym whole) (number_of-below t n inside) in
-    ap (λ xs. assignment_of xs n) is
-    ∙ ap (λ o. unwrap_or o (Level No)) (get_or-map-range_with_len (λ j. Some (solution t u (node_at j))) 0 k (number_of n) (number_of n) None below (omega arith))
-    ∙ ap (solution t u) (node_at-number_of n)
+    let below : number_of t n < k = subst (λ j. number_of t n < j) (sym whole) (number_below t n inside) in
+    ap (λ xs. assignment_of t xs n) is
+    ∙ ap (λ o. unwrap_or o (Level No)) (get_or-map-range_with_len (λ j. Some (solution t u (node_at t j))) 0 k (number_of t n) (number_of t n) None below (omega arith))
+    ∙ ap (solution t u) (node_at-number_of t n inside)
 
 -- a node at a place of a list of what a node uses
 pub used_at : (t s : TreeValue) (n : Node) (used nodes items : List Node) → s ≡ t → ((m : Node) → Contains used m ↔ Uses s n m) → nodes ≡ used → items ≡ nodes
@@ -72,3 +99,10 @@ used_in_all t s n used nodes items tree exact copied lent i done m uses =
 pub used_is_node : (t s : TreeValue) (n m : Node) → s ≡ t → IsAccepted s → IsNodeOf t n → Uses t n m → IsNodeOf t m
 used_is_node t s n m tree accepted inside uses =
     subst (λ x. IsNodeOf x m) tree (accepted.within n m (subst (λ x. IsNodeOf x n) (sym tree) inside) (subst (λ x. Uses x n m) (sym tree) uses))
+
+-- what stands in a list of what a node uses is a node
+pub used_are_nodes : (t s : TreeValue) (n : Node) (used nodes items : List Node) → s ≡ t → IsAccepted s → IsNodeOf t n → ((m : Node) → Contains used m ↔ Uses s n m) → nodes ≡ used → items ≡ nodes
+    → (m : Node) → Contains items m → IsNodeOf t m
+used_are_nodes t s n used nodes items tree accepted inside exact copied lent m c =
+    let uses : Uses s n m = (exact m).0 (subst (λ xs. Contains xs m) (lent ∙ copied) c) in
+    used_is_node t s n m tree accepted inside (subst (λ x. Uses x n m) tree uses)

@@ -1,6 +1,7 @@
 pub mod Agreement
 pub mod AssignableLemmas
 pub mod BlockLemmas
+pub mod BoundsLemmas
 pub mod ConditionLemmas
 pub mod Examples
 pub mod ExprLemmas
@@ -9,5 +10,7 @@ pub mod FirstLemmas
 pub mod GatheringLemmas
 pub mod MarkLemmas
 pub mod NumeralLemmas
+pub mod PartLemmas
+pub mod SlotLemmas
 pub mod SolutionLaws
 pub mod WithoutLemmas

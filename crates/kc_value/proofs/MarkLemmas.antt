@@ -7,51 +7,53 @@ use Rattle.std.proofs.lemmas.List.Elements.{Contains-push_cases, Contains-append
 use Rattle.std.proofs.lemmas.Option.{slice_get-get_or}
 use Rattle.kc_tree.specs.declared.node.Node.{Node}
 use Rattle.kc_tree.specs.TreeValue.{TreeValue}
-use Rattle.kc_tree.specs.Nodes.{number_of}
+use Rattle.kc_tree.specs.Nodes.{IsNodeOf, number_of}
 use Rattle.kc_tree.specs.Order.{IsOrder}
 use Rattle.kc_tree.specs.Uses.{Uses}
 use Rattle.kc_tree.proofs.NodeNumbers.{same_node}
 use Rattle.kc_value.specs.Marks.{IsMarked}
+use Rattle.kc_value.proofs.PartLemmas.{Contains-from_drop}
 
 -- ---- one more mark
-module _ (marks : List Bool) (x : Node) where
+module _ (t : TreeValue) (marks : List Bool) (x : Node) where
   abbrev marked : List Bool
-  marked = set marks (number_of x) true
+  marked = set marks (number_of t x) true
 
-  pub mark_here : number_of x < length marks → IsMarked marked x
-  mark_here room = get_or-set_same marks (number_of x) true false room
+  pub mark_here : number_of t x < length marks → IsMarked t marked x
+  mark_here room = get_or-set_same marks (number_of t x) true false room
 
-  other_mark : (n : Node) → (number_of n ≡ number_of x → ⊥) → get_or marked (number_of n) false ≡ get_or marks (number_of n) false
-  other_mark n differs = get_or-set_other marks (number_of x) (number_of n) true false differs
+  other_mark : (n : Node) → (number_of t n ≡ number_of t x → ⊥) → get_or marked (number_of t n) false ≡ get_or marks (number_of t n) false
+  other_mark n differs = get_or-set_other marks (number_of t x) (number_of t n) true false differs
 
-  pub mark_kept : number_of x < length marks → (n : Node) → IsMarked marks n → IsMarked marked n
+  pub mark_kept : number_of t x < length marks → (n : Node) → IsMarked t marks n → IsMarked t marked n
   mark_kept room n h =
-      ⊎_elim (λ e. subst (λ m. IsMarked marked m) (sym (same_node n x e)) (mark_here room)) (λ differs. other_mark n differs ∙ h) (cases_eq (number_of n) (number_of x))
+      ⊎_elim (λ e. ap (λ k. get_or marked k false) e ∙ mark_here room) (λ differs. other_mark n differs ∙ h) (cases_eq (number_of t n) (number_of t x))
 
-  pub mark_only : (n : Node) → IsMarked marked n → IsMarked marks n ⊎ (x ≡ n)
-  mark_only n h =
-      ⊎_elim (λ e. inr (sym (same_node n x e))) (λ differs. inl (sym (other_mark n differs) ∙ h)) (cases_eq (number_of n) (number_of x))
+  -- of the nodes of the tree
+  pub mark_only : IsNodeOf t x → (n : Node) → IsNodeOf t n → IsMarked t marked n → IsMarked t marks n ⊎ (x ≡ n)
+  mark_only at n inside h =
+      ⊎_elim (λ e. inr (sym (same_node t n x inside at e))) (λ differs. inl (sym (other_mark n differs) ∙ h)) (cases_eq (number_of t n) (number_of t x))
 
 -- ---- the marks of the first nodes of a list, and one more
-module _ (old now : List Bool) (nodes : List Node) (i : ℕ) (d : Node) (within : i < length nodes) where
+module _ (t : TreeValue) (old now : List Bool) (nodes : List Node) (i : ℕ) (d : Node) (within : i < length nodes) where
   abbrev added : Node
   added = get_or nodes i d
 
   one_more : take (i + 1) nodes ≡ take i nodes ++ added ∷ []
   one_more = take_more nodes i d within
 
-  pub all_more : number_of added < length now → ((n : Node) → Contains (take i nodes) n → IsMarked now n) → (n : Node) → Contains (take (i + 1) nodes) n → IsMarked (set now (number_of added) true) n
+  pub all_more : number_of t added < length now → ((n : Node) → Contains (take i nodes) n → IsMarked t now n) → (n : Node) → Contains (take (i + 1) nodes) n → IsMarked t (set now (number_of t added) true) n
   all_more room all n c =
-      ⊎_elim (λ before. mark_kept now added room n (all n before)) (λ here. subst (λ m. IsMarked (set now (number_of added) true) m) here (mark_here now added room))
+      ⊎_elim (λ before. mark_kept t now added room n (all n before)) (λ here. subst (λ m. IsMarked t (set now (number_of t added) true) m) here (mark_here t now added room))
       (Contains-push_cases (take i nodes) added n (subst (λ xs. Contains xs n) one_more c))
 
-  pub only_more : ((n : Node) → IsMarked now n → IsMarked old n ⊎ Contains (take i nodes) n)
-      → (n : Node) → IsMarked (set now (number_of added) true) n → IsMarked old n ⊎ Contains (take (i + 1) nodes) n
-  only_more only n h =
+  pub only_more : IsNodeOf t added → ((n : Node) → IsNodeOf t n → IsMarked t now n → IsMarked t old n ⊎ Contains (take i nodes) n)
+      → (n : Node) → IsNodeOf t n → IsMarked t (set now (number_of t added) true) n → IsMarked t old n ⊎ Contains (take (i + 1) nodes) n
+  only_more at only n inside h =
       ⊎_elim
-      (λ before. ⊎_elim (λ o. inl o) (λ c. inr (subst (λ xs. Contains xs n) (sym one_more) (Contains-append_left (take i nodes) (added ∷ []) n c))) (only n before))
+      (λ before. ⊎_elim (λ o. inl o) (λ c. inr (subst (λ xs. Contains xs n) (sym one_more) (Contains-append_left (take i nodes) (added ∷ []) n c))) (only n inside before))
       (λ here. let zero_in : Contains (added ∷ []) n = (0, omega arith, here) in inr (subst (λ xs. Contains xs n) (sym one_more) (Contains-append_right (take i nodes) (added ∷ []) n zero_in)))
-      (mark_only now added n h)
+      (mark_only t now added at n inside h)
 
 -- ---- the pass back over the order
 module _ (t : TreeValue) (order : List Node) (ok : IsOrder t order) (i : ℕ) (d : Node) (within : i < length order) where
@@ -72,17 +74,17 @@ module _ (t : TreeValue) (order : List Node) (ok : IsOrder t order) (i : ℕ) (d
       omega (arith, one, first)
 
   pub closed_back : (old new : List Bool)
-      → ((n : Node) → IsMarked old n → IsMarked new n)
-      → (IsMarked old next → (m : Node) → Uses t next m → IsMarked new m)
-      → ((n : Node) → IsMarked new n → IsMarked old n ⊎ Uses t next n)
-      → ((n m : Node) → Contains (drop (i + 1) order) n → IsMarked old n → Uses t n m → IsMarked old m)
-      → (n m : Node) → Contains (drop i order) n → IsMarked new n → Uses t n m → IsMarked new m
+      → ((n : Node) → IsMarked t old n → IsMarked t new n)
+      → (IsMarked t old next → (m : Node) → Uses t next m → IsMarked t new m)
+      → ((n : Node) → IsNodeOf t n → IsMarked t new n → IsMarked t old n ⊎ Uses t next n)
+      → ((n m : Node) → Contains (drop (i + 1) order) n → IsMarked t old n → Uses t n m → IsMarked t old m)
+      → (n m : Node) → Contains (drop i order) n → IsMarked t new n → Uses t n m → IsMarked t new m
   closed_back old new kept all only closed n m c h uses =
-      let was : IsMarked old n = ⊎_elim (λ o. o) (λ used. absurd (parted n (ok.after_used i next n (slice_get-get_or order i d within) used) c)) (only n h) in
+      let was : IsMarked t old n = ⊎_elim (λ o. o) (λ used. absurd (parted n (ok.after_used i next n (slice_get-get_or order i d within) used) c)) (only n (ok.only n (Contains-from_drop i order n c)) h) in
       let split : Contains (next ∷ [] ++ drop (i + 1) order) n = subst (λ xs. Contains xs n) (drop_more order i d within) c in
       ⊎_elim
       (λ here.
       let same : next ≡ n = ⊎_elim (λ none. absurd (omega (arith, none.1))) (λ e. e) (Contains-push_cases [] next n here) in
-      all (subst (λ x. IsMarked old x) (sym same) was) m (subst (λ x. Uses t x m) (sym same) uses))
+      all (subst (λ x. IsMarked t old x) (sym same) was) m (subst (λ x. Uses t x m) (sym same) uses))
       (λ later. kept m (closed n m later was uses))
       (Contains-append_cases (next ∷ []) (drop (i + 1) order) n split)

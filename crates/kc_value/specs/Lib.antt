@@ -1,13 +1,17 @@
 pub mod Assignable
 pub mod Assignment
 pub mod BareModule
+pub mod BoundsRange
+pub mod ChoiceRule
 pub mod Conditions
 pub mod Counting
+pub mod Defaults
 pub mod ExprValue
 pub mod Fresh
 pub mod Marks
 pub mod Numerals
 pub mod Rule
 pub mod Solution
+pub mod TextRule
 pub mod UserValues
 pub mod Without

@@ -4,22 +4,26 @@ use Rattle.std.specs.Prelude.{Bool, not, ◌&&◌, ◌||◌, List, Option, Some,
 use Rattle.std.specs.Option.{option_map_or}
 use Rattle.kc_tree.specs.declared.tri.Tri.{Tri}
 use Rattle.kc_tree.specs.declared.tri.Tri.TheVariants.{No, Module, Yes}
-use Rattle.kc_tree.specs.declared.definition.DefaultValue.{DefaultValue}
+use Rattle.kc_tree.specs.declared.id.SymId.{SymId}
 use Rattle.kc_tree.specs.declared.symbol.Reverse.{Reverse}
 use Rattle.kc_tree.specs.declared.symbol.SymbolType.TheVariants.{Tristate}
 use Rattle.kc_tree.specs.declared.node.Node.{Node}
-use Rattle.kc_tree.specs.declared.node.Node.TheVariants.{Vis, Val}
+use Rattle.kc_tree.specs.declared.node.Node.TheVariants.{Vis, Val, Mode, Sel}
 use Rattle.kc_tree.specs.declared.user_value.UserVal.{UserVal}
 use Rattle.kc_tree.specs.declared.user_value.UserVal.TheVariants.{Tri as TriVal, Text}
 use Rattle.kc_tree.specs.Tristate.{least, greatest, greatest_of, is_no}
 use Rattle.kc_tree.specs.TreeOf.{same_type}
 use Rattle.kc_tree.specs.TreeValue.{TreeValue, SymbolValue, DefinitionValue, kind_of, definitions_of}
 use Rattle.kc_value.specs.declared.value.Value.{Value}
-use Rattle.kc_value.specs.declared.value.Value.TheVariants.{Tri as Level, Shown}
+use Rattle.kc_value.specs.declared.value.Value.TheVariants.{Tri as Level, Shown, Member}
 use Rattle.kc_value.specs.Assignment.{Assignment, as_tri}
-use Rattle.kc_value.specs.UserValues.{UserValues, user_value}
+use Rattle.kc_value.specs.UserValues.{UserValues, user_value, chosen_in}
 use Rattle.kc_value.specs.ExprValue.{symbol_tri, modules_value, expr_value, own_condition}
-use Rattle.kc_value.specs.Conditions.{dependency, prompt_value}
+use Rattle.kc_value.specs.Conditions.{dependency, prompt_value, mode_around}
+use Rattle.kc_value.specs.Defaults.{default_condition, is_active}
+use Rattle.kc_value.specs.TextRule.{text_rule}
+use Rattle.kc_value.specs.ChoiceRule.{mode, selection, member_rule}
+use Rattle.kc_tree.specs.SymbolFaults.{is_tri_type}
 
 -- ---- types
 -- a bool knows no m: it stands for y
@@ -35,18 +39,12 @@ has_modules t a x = same_type (kind_of x) Tristate && not (is_no (modules_value 
 abbrev pub in_type : Bool → Tri → Tri
 in_type has v = if has then v else in_bool v
 
--- ---- visibility: the greatest condition of the prompts
+-- ---- visibility: the greatest condition of the prompts; of a member, within the mode of its choice
 abbrev pub visibility : TreeValue → Assignment → SymbolValue → Tri
-visibility t a x = in_type (has_modules t a x) (greatest_of (map (prompt_value t a) (definitions_of t x)))
+visibility t a x = in_type (has_modules t a x)
+    (least (greatest_of (map (prompt_value t a) (definitions_of t x))) (mode_around t a x.choice))
 
 -- ---- defaults
-abbrev pub default_condition : TreeValue → Assignment → DefinitionValue → DefaultValue → Tri
-default_condition t a d v = least (own_condition t a v.condition) (dependency t a d)
-
--- whether the condition of a default is not n
-abbrev pub is_active : TreeValue → Assignment → DefinitionValue → DefaultValue → Bool
-is_active t a d v = not (is_no (default_condition t a d v))
-
 -- the least of the value and the condition of the first active default of a definition, if one is active
 abbrev pub definition_default : TreeValue → Assignment → DefinitionValue → Option Tri
 definition_default t a d =
@@ -99,9 +97,20 @@ has_line t a x vis =
     || (not (is_no (reverse_values t a x.implied)) && not (is_no (direct t a x)))
     || not (is_no (reverse_values t a x.selected))
 
-abbrev pub symbol_rule : TreeValue → Assignment → SymbolValue → Tri → Option UserVal → Value
-symbol_rule t a x vis u = Shown (TriVal (shown_value t a x vis u)) (has_line t a x vis)
+-- of a bool or a tristate
+abbrev pub tri_rule : TreeValue → Assignment → SymbolValue → Tri → Option UserVal → Value
+tri_rule t a x vis u = Shown (TriVal (shown_value t a x vis u)) (has_line t a x vis)
+
+-- ---- all nodes
+-- of a symbol that is no member of a choice
+abbrev pub free_rule : TreeValue → Assignment → SymbolValue → Tri → Option UserVal → Value
+free_rule t a x vis u = if is_tri_type (kind_of x) then tri_rule t a x vis u else text_rule t a x vis u
+
+abbrev pub symbol_rule : TreeValue → Assignment → SymId → SymbolValue → Tri → Option UserVal → Value
+symbol_rule t a s x vis u = option_map_or (λ c. member_rule t a c s vis) x.choice (free_rule t a x vis u)
 
 unfoldable pub rule : TreeValue → UserValues → Assignment → Node → Value
 rule t u a (Vis s) = option_map_or (λ x. Level (visibility t a x)) (slice_get t.symbols s.0) (Level No)
-rule t u a (Val s) = option_map_or (λ x. symbol_rule t a x (as_tri (a (Vis s))) (user_value u s)) (slice_get t.symbols s.0) (Level No)
+rule t u a (Val s) = option_map_or (λ x. symbol_rule t a s x (as_tri (a (Vis s))) (user_value u s)) (slice_get t.symbols s.0) (Level No)
+rule t u a (Mode c) = option_map_or (λ x. Level (mode t a x (chosen_in u c))) (slice_get t.choices c.0) (Level No)
+rule t u a (Sel c) = option_map_or (λ x. Member (selection t a c x (chosen_in u c))) (slice_get t.choices c.0) (Level No)

@@ -1,22 +1,23 @@
 //! The values that a user can give a symbol with an effect.
 
-ghost use Rattle.std.specs.Prelude.{◌≡◌, [], ◌∷◌, ◌++◌, ◌||◌, ◌&&◌, Some, None, IfOk, OnOk, if◌then◌else◌, filter, slice_get};
-ghost use Rattle.std.specs.Option.{option_map_or};
+ghost use Rattle.std.specs.Prelude.{◌≡◌, [], ◌∷◌, ◌++◌, ◌||◌, ◌&&◌, false, Some, IfOk, OnOk, if◌then◌else◌, filter, is_some};
 ghost use Rattle.kc_tree.specs.declared.node.Node.TheVariants.{Vis, Val};
 ghost use Rattle.kc_tree.specs.declared.symbol.SymbolType.TheVariants.{Tristate};
 ghost use Rattle.kc_tree.specs.declared.user_value.UserVal.TheVariants.{Tri as TriVal};
 ghost use Rattle.kc_tree.specs.declared.tri.Tri.TheVariants.{No, Module, Yes};
 ghost use Rattle.kc_tree.specs.Nodes.{IsNodeOf};
+ghost use Rattle.kc_tree.specs.SymbolFaults.{is_tri_type};
 ghost use Rattle.kc_tree.specs.TreeOf.{same_type};
+ghost use Rattle.kc_tree.specs.TreeValue.{choice_of};
 ghost use Rattle.kc_value.specs.Assignable.{same_tri, is_shown_with_some, assignable_values};
 ghost use Rattle.kc_value.specs.Assignment.{as_tri, assignment_of};
-ghost use Rattle.kc_value.specs.Rule.{symbol_rule};
+ghost use Rattle.kc_value.specs.Rule.{tri_rule};
 ghost use Rattle.kc_value.specs.UserValues.{UserValues, IsUserFor};
 
 use crate::expr_value::node_tri;
 use crate::gathering::used_values;
 use crate::resolver::Resolver;
-use crate::symbol_value::symbol_value;
+use crate::symbol_value::tri_value;
 use crate::value::Value;
 use kc_tree::{Node, SymId, Symbol, SymbolType, Tree, Tri, UserVal};
 use std::alloc::{AllocError, Global};
@@ -33,21 +34,23 @@ fn is_same(left: Tri, right: Tri) -> bool
 
 /// What a symbol of this number shows with a user value, over the values of the nodes that it is computed from.
 fn shown_with(tree: &Tree, id: SymId, symbol: &Symbol, value: Tri, env: &[Option<Value>]) -> Tri
-    ensures { result ≡ as_tri (symbol_rule tree.now (assignment_of env.now) symbol.now
-        (as_tri (assignment_of env.now (Vis id))) (Some (TriVal value))) }
+    ensures { result ≡ as_tri (tri_rule tree.now (assignment_of tree.now env.now) symbol.now
+        (as_tri (assignment_of tree.now env.now (Vis id))) (Some (TriVal value))) }
 {
-    let visibility = node_tri(env, Node::Vis(id));
-    symbol_value(tree, symbol, visibility, Some(&UserVal::Tri(value)), env).as_tri()
+    let visibility = node_tri(tree, env, Node::Vis(id));
+    tri_value(tree, symbol, visibility, Some(&UserVal::Tri(value)), env).as_tri()
 }
 
-/// Whether a value is among those that are shown with n, with m and with y; m counts for a tristate alone.
+/// Whether a value is among those that are shown with n, with m and with y; m counts for a tristate alone, and a type
+/// that is neither bool nor tristate has none of them.
 fn is_shown(kind: SymbolType, with_no: Tri, with_module: Tri, with_yes: Tri, value: Tri) -> bool
-    ensures { result ≡ (same_tri with_no value
-        || ((same_type kind Tristate && same_tri with_module value) || same_tri with_yes value)) }
+    ensures { result ≡ (is_tri_type kind && (same_tri with_no value
+        || ((same_type kind Tristate && same_tri with_module value) || same_tri with_yes value))) }
 {
     let is_module_shown = match kind {
         SymbolType::Bool => false,
         SymbolType::Tristate => is_same(with_module, value),
+        SymbolType::String | SymbolType::Int | SymbolType::Hex => return false,
     };
     is_same(with_no, value) || is_module_shown || is_same(with_yes, value)
 }
@@ -62,17 +65,18 @@ fn push_if(values: &mut Vec<Tri>, value: Tri, is_wanted: bool) -> Result<(), All
     Ok(())
 }
 
-/// The values that a symbol shows for some user value of its type, in the order n, m, y, over the values of the nodes
-/// that it is computed from. The error is want of memory.
+/// The values that a symbol, which is no member of a choice, shows for some user value of its type, in the order n, m,
+/// y, over the values of the nodes that it is computed from. The error is want of memory.
 fn shown_values(
     alloc: Global,
     tree: &Tree,
     id: SymId,
     env: &[Option<Value>],
 ) -> Result<Vec<Tri>, AllocError>
-    requires { IsNodeOf tree.now (Val id) }
+    requires inside { IsNodeOf tree.now (Val id) }
+    requires alone { is_some (choice_of tree.now id) ≡ false }
     ensures { (u : UserValues) → IsUserFor tree.now u → IfOk result (λ v. v.items
-        ≡ filter (is_shown_with_some tree.now u (assignment_of env.now) id) (No ∷ Module ∷ Yes ∷ [])) }
+        ≡ filter (is_shown_with_some tree.now u (assignment_of tree.now env.now) id) (No ∷ Module ∷ Yes ∷ [])) }
 {
     let mut values = Vec::with_capacity(alloc, 3)?;
     let Some(symbol) = tree.symbols().get(id.0 as usize) else {
@@ -100,9 +104,29 @@ fn shown_values(
     Ok(values)
 }
 
+/// Whether a symbol is a member of a choice.
+fn is_member(tree: &Tree, symbol: SymId) -> bool
+    ensures { result ≡ is_some (choice_of tree.now symbol) }
+{
+    match tree.symbols().get(symbol.0 as usize) {
+        Some(symbol) => symbol.choice().is_some(),
+        None => false,
+    }
+}
+
+/// A value alone. The error is want of memory.
+fn one_value(alloc: Global, value: Tri) -> Result<Vec<Tri>, AllocError>
+    ensures { IfOk result (λ v. v.items ≡ value ∷ []) }
+{
+    let mut values = Vec::with_capacity(alloc, 1)?;
+    values.push(value)?;
+    Ok(values)
+}
+
 /// The values that a user can give a symbol with an effect, in the order n, m, y (Kconfiglib,
 /// "assignable"): of a visible symbol those that it would show for some user value of its type, all else
-/// as it is, and none of an invisible one. The resolver is asked for the symbol's nodes alone.
+/// as it is, y alone of a visible member of a choice, and none of an invisible symbol and of a string, an int
+/// or a hex. The resolver is asked for the symbol's nodes alone.
 ///
 /// The error is want of memory.
 pub fn assignable<R: Resolver>(
@@ -121,6 +145,9 @@ pub fn assignable<R: Resolver>(
     let visibility = resolver.node(Node::Vis(symbol))?.as_tri();
     if visibility.is_no() {
         return Ok(Vec::new(alloc));
+    }
+    if is_member(resolver.tree(), symbol) {
+        return one_value(alloc, Tri::Yes);
     }
     let env = used_values(alloc, resolver, Node::Val(symbol))?;
     let values = shown_values(alloc, resolver.tree(), symbol, env.as_slice())?;

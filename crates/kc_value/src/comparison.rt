@@ -1,26 +1,30 @@
 //! Comparisons of terms.
 
-ghost use Rattle.std.specs.Prelude.{◌≡◌, Some};
+ghost use Rattle.std.specs.Prelude.{◌≡◌, Some, option_map};
 ghost use Rattle.std.specs.Cmp.Lexicographic.{slice_cmp};
 ghost use Rattle.std.specs.Ordering.{nat_cmp};
-ghost use Rattle.kc_value.specs.Assignment.{assignment_of};
+ghost use Rattle.std.specs.Option.{option_or};
+ghost use Rattle.kc_tree.specs.declared.tri.Tri.TheVariants.{No};
+ghost use Rattle.kc_value.specs.declared.value.Value.TheVariants.{Tri as Level};
+ghost use Rattle.kc_value.specs.Assignment.{assignment_of, as_text, tri_letter};
 ghost use Rattle.kc_value.specs.Numerals.{number_of_text};
-ghost use Rattle.kc_value.specs.ExprValue.{tri_letter, tri_number, term_text, term_number, number_or_text_order, term_order, is_related, yes_if};
+ghost use Rattle.kc_value.specs.ExprValue.{constant_of, tri_number, number_in_type, symbol_text, symbol_number, term_text, term_number, is_string_term, number_or_text_order, term_order, is_related, yes_if};
 
-use crate::expr_value::symbol_tri;
+use crate::expr_value::value_of;
 use crate::numeral::number_of_text;
-use crate::value::Value;
-use kc_tree::{Comparison, Operands, Term, Tree, Tri};
+use crate::value::{Value, tri_letter};
+use kc_tree::{Comparison, Node, Operands, SymId, SymbolType, Term, Tree, Tri, numeral};
 use std::cmp::Ordering;
 
-/// The text of a constant.
-fn tri_letter(tri: Tri) -> &'static str
-    ensures { result.now ≡ tri_letter tri }
+/// The constant that a text in quotes is.
+pub(crate) fn constant_of(text: &str) -> Option<Tri>
+    ensures { result ≡ constant_of text.now }
 {
-    match tri {
-        Tri::No => "n",
-        Tri::Module => "m",
-        Tri::Yes => "y",
+    match text {
+        "n" => Some(Tri::No),
+        "m" => Some(Tri::Module),
+        "y" => Some(Tri::Yes),
+        _ => None,
     }
 }
 
@@ -66,15 +70,71 @@ impl<'a> Operand<'a> {
         }
     }
 
+    /// A text in quotes, which is a constant where it is that of one.
+    pub(crate) fn of_quoted(text: &'a str) -> Operand<'a>
+        ensures text { result.text.now ≡ text.now }
+        ensures number { result.number ≡ option_or (option_map tri_number (constant_of text.now)) (number_of_text text.now) }
+    {
+        match constant_of(text) {
+            Some(tri) => Operand {
+                text,
+                number: Some(tri_number(tri)),
+            },
+            None => Operand::of_text(text),
+        }
+    }
+
+    /// The value of a symbol of a type.
+    fn of_value(kind: SymbolType, value: &'a Value) -> Operand<'a>
+        ensures text { result.text.now ≡ as_text value.now }
+        ensures number { result.number ≡ number_in_type kind value.now }
+    {
+        let text = value.as_text();
+        let number = match kind {
+            SymbolType::Bool | SymbolType::Tristate => Some(tri_number(value.as_tri())),
+            SymbolType::String => number_of_text(text),
+            SymbolType::Int | SymbolType::Hex => numeral(kind, text),
+        };
+        Operand { text, number }
+    }
+
+    /// A symbol of a type that has no value: n, which counts for a bool and a tristate.
+    fn without_value(kind: SymbolType) -> Operand<'static>
+        ensures text { result.text.now ≡ as_text (Level No) }
+        ensures number { result.number ≡ number_in_type kind (Level No) }
+    {
+        match kind {
+            SymbolType::Bool | SymbolType::Tristate => Operand::of_tri(Tri::No),
+            SymbolType::String | SymbolType::Int | SymbolType::Hex => Operand {
+                text: tri_letter(Tri::No),
+                number: None,
+            },
+        }
+    }
+
+    /// The value of a symbol, n where it has none.
+    fn of_symbol(tree: &Tree, env: &'a [Option<Value>], symbol: SymId) -> Operand<'a>
+        ensures text { result.text.now ≡ symbol_text tree.now (assignment_of tree.now env.now) symbol }
+        ensures number { result.number ≡ symbol_number tree.now (assignment_of tree.now env.now) symbol }
+    {
+        let Some(found) = tree.symbols().get(symbol.0 as usize) else {
+            return Operand::of_tri(Tri::No);
+        };
+        match value_of(tree, env, Node::Val(symbol)) {
+            Some(value) => Operand::of_value(found.kind(), value),
+            None => Operand::without_value(found.kind()),
+        }
+    }
+
     /// A term: a symbol stands for its value, and a word that names none for itself.
-    fn of_term(tree: &Tree, env: &[Option<Value>], term: &'a Term) -> Operand<'a>
-        ensures text { result.text.now ≡ term_text tree.now (assignment_of env.now) term.now }
-        ensures number { result.number ≡ term_number tree.now (assignment_of env.now) term.now }
+    fn of_term(tree: &Tree, env: &'a [Option<Value>], term: &'a Term) -> Operand<'a>
+        ensures text { result.text.now ≡ term_text tree.now (assignment_of tree.now env.now) term.now }
+        ensures number { result.number ≡ term_number tree.now (assignment_of tree.now env.now) term.now }
     {
         match term {
             Term::Tri(tri) => Operand::of_tri(*tri),
-            Term::Text(text) => Operand::of_text(text.as_str()),
-            Term::Symbol(symbol) => Operand::of_tri(symbol_tri(tree, env, *symbol)),
+            Term::Text(text) => Operand::of_quoted(text.as_str()),
+            Term::Symbol(symbol) => Operand::of_symbol(tree, env, *symbol),
             Term::Undefined(name) => Operand::of_text(name.as_str()),
         }
     }
@@ -105,6 +165,40 @@ pub(crate) fn is_related(comparison: Comparison, order: Ordering) -> bool
     }
 }
 
+/// The text of a term.
+pub(crate) fn term_text<'a>(tree: &Tree, env: &'a [Option<Value>], term: &'a Term) -> &'a str
+    ensures { result.now ≡ term_text tree.now (assignment_of tree.now env.now) term.now }
+{
+    let operand = Operand::of_term(tree, env, term);
+    operand.text
+}
+
+/// Whether a term is a symbol of type string.
+fn is_string(tree: &Tree, term: &Term) -> bool
+    ensures { result ≡ is_string_term tree.now term.now }
+{
+    let Term::Symbol(symbol) = term else {
+        return false;
+    };
+    match tree.symbols().get(symbol.0 as usize) {
+        Some(symbol) => matches!(symbol.kind(), SymbolType::String),
+        None => false,
+    }
+}
+
+/// How two terms are ordered: two symbols of type string as texts, else as numbers where both count, else as texts.
+fn term_order(tree: &Tree, env: &[Option<Value>], operands: &Operands) -> Ordering
+    ensures { result ≡ term_order tree.now (assignment_of tree.now env.now) operands.now.left operands.now.right }
+{
+    let left = Operand::of_term(tree, env, &operands.left);
+    let right = Operand::of_term(tree, env, &operands.right);
+    if is_string(tree, &operands.left) && is_string(tree, &operands.right) {
+        left.text.cmp(right.text)
+    } else {
+        left.order(right)
+    }
+}
+
 /// The value of a comparison, y or n.
 pub(crate) fn comparison_tri(
     tree: &Tree,
@@ -113,11 +207,9 @@ pub(crate) fn comparison_tri(
     operands: &Operands,
 ) -> Tri
     ensures { result ≡ yes_if (is_related comparison
-        (term_order tree.now (assignment_of env.now) operands.now.left operands.now.right)) }
+        (term_order tree.now (assignment_of tree.now env.now) operands.now.left operands.now.right)) }
 {
-    let left = Operand::of_term(tree, env, &operands.left);
-    let right = Operand::of_term(tree, env, &operands.right);
-    if is_related(comparison, left.order(right)) {
+    if is_related(comparison, term_order(tree, env, operands)) {
         Tri::Yes
     } else {
         Tri::No

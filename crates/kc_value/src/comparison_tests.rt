@@ -105,6 +105,25 @@ fn constants_compare_with_texts(rt: HostRuntime) {
 }
 
 #[test]
+fn quoted_constants_compare(rt: HostRuntime) {
+    let table = [
+        ("n", "0", Ordering::Equal),
+        ("m", "1", Ordering::Equal),
+        ("y", "2", Ordering::Equal),
+        ("y", "m", Ordering::Greater),
+        ("y", "10", Ordering::Less),
+        // no constants: numbers, and texts
+        ("10", "9", Ordering::Greater),
+        ("yes", "y", Ordering::Greater),
+        ("M", "m", Ordering::Less),
+    ];
+    for (left, right, want) in table {
+        let order = Operand::of_quoted(left).order(Operand::of_quoted(right));
+        assert_eq!(rt; order, want, "at {left} and {right}");
+    }
+}
+
+#[test]
 fn orders_meet_comparisons(rt: HostRuntime) {
     let table = [
         (Comparison::Equal, [false, true, false]),

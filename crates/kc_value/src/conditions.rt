@@ -6,11 +6,11 @@ ghost use Rattle.kc_tree.specs.Nodes.{IsNodeOf};
 ghost use Rattle.kc_tree.specs.declared.node.Node.{Node};
 ghost use Rattle.kc_value.specs.Assignment.{Assignment, assignment_of};
 ghost use Rattle.kc_tree.specs.TreeValue.{blocks_from, blocks_around};
-ghost use Rattle.kc_value.specs.Conditions.{blocks_depend, blocks_visible, dependency, prompt_value, menu_value, comment_value, menu_condition, comment_condition};
+ghost use Rattle.kc_value.specs.Conditions.{blocks_depend, blocks_visible, dependency, prompt_value, mode_around, choice_prompt_value, menu_value, comment_value, menu_condition, comment_condition};
 
-use crate::expr_value::{conditions_tri, own_condition_tri};
+use crate::expr_value::{conditions_tri, node_tri, own_condition_tri};
 use crate::value::Value;
-use kc_tree::{Block, BlockId, Comment, CommentId, Definition, Tree, Tri};
+use kc_tree::{Block, BlockId, Choice, ChoiceId, Comment, CommentId, Definition, Node, Tree, Tri};
 
 /// How many blocks may be nested.
 const MOST_NESTED: usize = 64;
@@ -30,7 +30,7 @@ fn depend_within(
     innermost: Option<BlockId>,
     env: &[Option<Value>],
 ) -> Tri
-    ensures { result ≡ blocks_depend tree.now (assignment_of env.now) (blocks_from tree.now.blocks limit innermost) }
+    ensures { result ≡ blocks_depend tree.now (assignment_of tree.now env.now) (blocks_from tree.now.blocks limit innermost) }
 {
     let mut least = Tri::Yes;
     let mut next = innermost;
@@ -51,7 +51,7 @@ fn visible_within(
     innermost: Option<BlockId>,
     env: &[Option<Value>],
 ) -> Tri
-    ensures { result ≡ blocks_visible tree.now (assignment_of env.now) (blocks_from tree.now.blocks limit innermost) }
+    ensures { result ≡ blocks_visible tree.now (assignment_of tree.now env.now) (blocks_from tree.now.blocks limit innermost) }
 {
     let mut least = Tri::Yes;
     let mut next = innermost;
@@ -67,14 +67,14 @@ fn visible_within(
 
 /// What all inside the blocks around a place depends on.
 fn blocks_depend_tri(tree: &Tree, innermost: Option<BlockId>, env: &[Option<Value>]) -> Tri
-    ensures { result ≡ blocks_depend tree.now (assignment_of env.now) (blocks_around tree.now innermost) }
+    ensures { result ≡ blocks_depend tree.now (assignment_of tree.now env.now) (blocks_around tree.now innermost) }
 {
     depend_within(tree, MOST_NESTED, innermost, env)
 }
 
 /// What the prompts inside the blocks around a place depend on besides.
 fn blocks_visible_tri(tree: &Tree, innermost: Option<BlockId>, env: &[Option<Value>]) -> Tri
-    ensures { result ≡ blocks_visible tree.now (assignment_of env.now) (blocks_around tree.now innermost) }
+    ensures { result ≡ blocks_visible tree.now (assignment_of tree.now env.now) (blocks_around tree.now innermost) }
 {
     visible_within(tree, MOST_NESTED, innermost, env)
 }
@@ -82,7 +82,7 @@ fn blocks_visible_tri(tree: &Tree, innermost: Option<BlockId>, env: &[Option<Val
 /// The dependencies of a definition (kconfig-language.rst, "Menu dependencies"): its own `depends on` lines, and those
 /// of all blocks around it.
 pub(crate) fn dependency_tri(tree: &Tree, definition: &Definition, env: &[Option<Value>]) -> Tri
-    ensures { result ≡ dependency tree.now (assignment_of env.now) definition.now }
+    ensures { result ≡ dependency tree.now (assignment_of tree.now env.now) definition.now }
 {
     let own = conditions_tri(tree, definition.depends(), env);
     own.and(blocks_depend_tri(tree, definition.block(), env))
@@ -90,7 +90,7 @@ pub(crate) fn dependency_tri(tree: &Tree, definition: &Definition, env: &[Option
 
 /// The condition of a definition's prompt, n without one.
 pub(crate) fn prompt_tri(tree: &Tree, definition: &Definition, env: &[Option<Value>]) -> Tri
-    ensures { result ≡ prompt_value tree.now (assignment_of env.now) definition.now }
+    ensures { result ≡ prompt_value tree.now (assignment_of tree.now env.now) definition.now }
 {
     let Some(prompt) = definition.prompt() else {
         return Tri::No;
@@ -102,7 +102,7 @@ pub(crate) fn prompt_tri(tree: &Tree, definition: &Definition, env: &[Option<Val
 
 /// The condition of a menu over the values of the nodes in `env`.
 fn menu_tri(tree: &Tree, menu: &Block, env: &[Option<Value>]) -> Tri
-    ensures { result ≡ menu_value tree.now (assignment_of env.now) menu.now }
+    ensures { result ≡ menu_value tree.now (assignment_of tree.now env.now) menu.now }
 {
     let own = conditions_tri(tree, menu.depends(), env);
     let around = blocks_depend_tri(tree, menu.parent(), env);
@@ -111,16 +111,42 @@ fn menu_tri(tree: &Tree, menu: &Block, env: &[Option<Value>]) -> Tri
 
 /// The condition of a comment over the values of the nodes in `env`.
 fn comment_tri(tree: &Tree, comment: &Comment, env: &[Option<Value>]) -> Tri
-    ensures { result ≡ comment_value tree.now (assignment_of env.now) comment.now }
+    ensures { result ≡ comment_value tree.now (assignment_of tree.now env.now) comment.now }
 {
     let own = conditions_tri(tree, comment.depends(), env);
-    own.and(blocks_depend_tri(tree, comment.block(), env))
+    let around = blocks_depend_tri(tree, comment.block(), env);
+    own.and(around.and(mode_tri(tree, comment.choice(), env)))
+}
+
+/// The mode of the choice in which something stands, y outside of choices.
+pub(crate) fn mode_tri(tree: &Tree, choice: Option<ChoiceId>, env: &[Option<Value>]) -> Tri
+    ensures { result ≡ mode_around tree.now (assignment_of tree.now env.now) choice }
+{
+    let Some(choice) = choice else {
+        return Tri::Yes;
+    };
+    match tree.choices().get(choice.0 as usize) {
+        Some(_) => node_tri(tree, env, Node::Mode(choice)),
+        None => Tri::Yes,
+    }
+}
+
+/// The condition of a choice's prompt, n without one: what a definition's is, by the block of the choice.
+pub(crate) fn choice_prompt_tri(tree: &Tree, choice: &Choice, env: &[Option<Value>]) -> Tri
+    ensures { result ≡ choice_prompt_value tree.now (assignment_of tree.now env.now) choice.now }
+{
+    let Some(prompt) = choice.prompt() else {
+        return Tri::No;
+    };
+    let own = own_condition_tri(tree, prompt.condition.as_ref(), env);
+    let depends = blocks_depend_tri(tree, Some(choice.block()), env);
+    own.and(depends.and(blocks_visible_tri(tree, Some(choice.block()), env)))
 }
 
 /// The condition of a menu: its own `depends on` and `visible if` lines, and what the blocks around it depend on, but
 /// not their `visible if` lines. It is n for a number that the tree doesn't have. `env` has the values of all nodes.
 pub fn menu_condition(tree: &Tree, menu: BlockId, env: &[Option<Value>]) -> Tri
-    ensures { (a : Assignment) → ((n : Node) → IsNodeOf tree.now n → assignment_of env.now n ≡ a n)
+    ensures { (a : Assignment) → ((n : Node) → IsNodeOf tree.now n → assignment_of tree.now env.now n ≡ a n)
         → result ≡ menu_condition tree.now a menu }
 {
     match tree.blocks().get(menu.0 as usize) {
@@ -129,10 +155,10 @@ pub fn menu_condition(tree: &Tree, menu: BlockId, env: &[Option<Value>]) -> Tri
     }
 }
 
-/// The condition of a comment: its own `depends on` lines, and what the blocks around it depend on. It is n for a number
-/// that the tree doesn't have. `env` has the values of all nodes.
+/// The condition of a comment: its own `depends on` lines, what the blocks around it depend on, and inside a choice its
+/// mode. It is n for a number that the tree doesn't have. `env` has the values of all nodes.
 pub fn comment_condition(tree: &Tree, comment: CommentId, env: &[Option<Value>]) -> Tri
-    ensures { (a : Assignment) → ((n : Node) → IsNodeOf tree.now n → assignment_of env.now n ≡ a n)
+    ensures { (a : Assignment) → ((n : Node) → IsNodeOf tree.now n → assignment_of tree.now env.now n ≡ a n)
         → result ≡ comment_condition tree.now a comment }
 {
     match tree.comments().get(comment.0 as usize) {

@@ -1,43 +1,105 @@
-ghost use Rattle.std.specs.Prelude.{◌≡◌};
+ghost use Rattle.std.specs.Prelude.{◌≡◌, IfOk, if◌then◌else◌, is_ok};
+ghost use Rattle.kc_tree.specs.declared.node.Node.TheVariants.{Vis, Val, Mode, Sel};
 ghost use Rattle.kc_value.specs.Assignment.{assignment_of};
 ghost use Rattle.kc_value.specs.Counting.{raised};
 ghost use Rattle.kc_value.specs.Rule.{rule};
 
+use crate::choice_value::{mode_value, selection_value};
 use crate::expr_value::node_tri;
 use crate::meter::Meter;
 use crate::symbol_value::{symbol_value, symbol_visibility};
 use crate::user::User;
 use crate::value::Value;
-use kc_tree::{Node, Tree, Tri};
+use kc_tree::{ChoiceId, Node, SymId, Tree, Tri};
+use std::alloc::{AllocError, Global};
 
-/// What the rule of a node gives over the values of the nodes that it uses, which stand in `env` by
-/// number; n for a symbol that the tree doesn't have.
+/// What the rule of a visibility gives.
 #[tactic(auto, unfolding(crate::specs::Rule::rule))]
-pub(crate) fn apply_rule(tree: &Tree, user: &User, env: &[Option<Value>], node: Node) -> Value
-    ensures { result ≡ rule tree.now user.now (assignment_of env.now) node }
+fn visibility(tree: &Tree, user: &User, env: &[Option<Value>], id: SymId) -> Value
+    ensures { result ≡ rule tree.now user.now (assignment_of tree.now env.now) (Vis id) }
 {
-    let Some(symbol) = tree.symbols().get(node.symbol().0 as usize) else {
-        return Value::Tri(Tri::No);
+    match tree.symbols().get(id.0 as usize) {
+        Some(symbol) => Value::Tri(symbol_visibility(tree, symbol, env)),
+        None => Value::Tri(Tri::No),
+    }
+}
+
+/// What the rule of a value gives.
+#[tactic(auto, unfolding(crate::specs::Rule::rule))]
+fn value(
+    alloc: Global,
+    tree: &Tree,
+    user: &User,
+    env: &[Option<Value>],
+    id: SymId,
+) -> Result<Value, AllocError>
+    ensures { IfOk result (λ v. v ≡ rule tree.now user.now (assignment_of tree.now env.now) (Val id)) }
+{
+    let Some(symbol) = tree.symbols().get(id.0 as usize) else {
+        return Ok(Value::Tri(Tri::No));
     };
+    let visibility = node_tri(tree, env, Node::Vis(id));
+    symbol_value(alloc, tree, id, symbol, visibility, user.get(id), env)
+}
+
+/// What the rule of a mode gives.
+#[tactic(auto, unfolding(crate::specs::Rule::rule))]
+fn mode(tree: &Tree, user: &User, env: &[Option<Value>], id: ChoiceId) -> Value
+    ensures { result ≡ rule tree.now user.now (assignment_of tree.now env.now) (Mode id) }
+{
+    match tree.choices().get(id.0 as usize) {
+        Some(choice) => Value::Tri(mode_value(tree, choice, user.chosen(id), env)),
+        None => Value::Tri(Tri::No),
+    }
+}
+
+/// What the rule of a selection gives.
+#[tactic(auto, unfolding(crate::specs::Rule::rule))]
+fn selection(tree: &Tree, user: &User, env: &[Option<Value>], id: ChoiceId) -> Value
+    ensures { result ≡ rule tree.now user.now (assignment_of tree.now env.now) (Sel id) }
+{
+    match tree.choices().get(id.0 as usize) {
+        Some(choice) => Value::Member(selection_value(tree, id, choice, user.chosen(id), env)),
+        None => Value::Tri(Tri::No),
+    }
+}
+
+/// What the rule of a node gives over the values of the nodes that it uses, which stand in `env` by number; n for a
+/// node that the tree doesn't have. The error is want of memory for a text.
+pub(crate) fn apply_rule(
+    alloc: Global,
+    tree: &Tree,
+    user: &User,
+    env: &[Option<Value>],
+    node: Node,
+) -> Result<Value, AllocError>
+    ensures { IfOk result (λ v. v ≡ rule tree.now user.now (assignment_of tree.now env.now) node) }
+{
     match node {
-        Node::Vis(_) => Value::Tri(symbol_visibility(tree, symbol, env)),
-        Node::Val(id) => symbol_value(
-            tree,
-            symbol,
-            node_tri(env, Node::Vis(id)),
-            user.get(id),
-            env,
-        ),
+        Node::Vis(id) => Ok(visibility(tree, user, env, id)),
+        Node::Val(id) => value(alloc, tree, user, env, id),
+        Node::Mode(id) => Ok(mode(tree, user, env, id)),
+        Node::Sel(id) => Ok(selection(tree, user, env, id)),
     }
 }
 
 /// Evaluates a node, and raises the meter by one: what the node's rule gives (kconfig-language.rst, "Menu
 /// attributes") over the values of the nodes that it uses, which stand in `env` by number. A node whose
 /// place in `env` is empty or missing counts as n.
-pub fn eval(tree: &Tree, user: &User, env: &[Option<Value>], node: Node, meter: &mut Meter) -> Value
-    ensures value { result ≡ rule tree.now user.now (assignment_of env.now) node }
-    ensures counted { meter.new ≡ raised meter.old 1 }
+///
+/// The error is want of memory for a text; the meter stays then.
+pub fn eval(
+    alloc: Global,
+    tree: &Tree,
+    user: &User,
+    env: &[Option<Value>],
+    node: Node,
+    meter: &mut Meter,
+) -> Result<Value, AllocError>
+    ensures value { IfOk result (λ v. v ≡ rule tree.now user.now (assignment_of tree.now env.now) node) }
+    ensures counted { meter.new ≡ (if is_ok result then raised meter.old 1 else meter.old) }
 {
+    let value = apply_rule(alloc, tree, user, env, node)?;
     meter.raise();
-    apply_rule(tree, user, env, node)
+    Ok(value)
 }

@@ -7,25 +7,25 @@ ghost use Rattle.kc_value.specs.Assignment.{as_tri, value_at, assignment_of};
 ghost use Rattle.kc_value.specs.BareModule.{bare_module};
 ghost use Rattle.kc_value.specs.ExprValue.{symbol_tri, modules_value, term_tri, formula_value, expr_value, condition_value, conditions_value, own_condition};
 
-use crate::comparison::comparison_tri;
+use crate::comparison::{comparison_tri, constant_of};
 use crate::value::Value;
 use kc_tree::{Expr, Node, SymId, Term, Tree, Tri};
 
 /// The value that stands for a node in a list by number.
-fn value_of(env: &[Option<Value>], node: Node) -> Option<&Value>
-    ensures { option_copied result ≡ value_at env.now node }
+pub(crate) fn value_of<'a>(tree: &Tree, env: &'a [Option<Value>], node: Node) -> Option<&'a Value>
+    ensures { option_copied result ≡ value_at tree.now env.now node }
 {
-    match env.get(node.number()) {
+    match env.get(tree.number(node)) {
         Some(Some(value)) => Some(value),
         Some(None) | None => None,
     }
 }
 
 /// The tristate value of a node in a list by number, n where it has nothing.
-pub(crate) fn node_tri(env: &[Option<Value>], node: Node) -> Tri
-    ensures { result ≡ as_tri (assignment_of env.now node) }
+pub(crate) fn node_tri(tree: &Tree, env: &[Option<Value>], node: Node) -> Tri
+    ensures { result ≡ as_tri (assignment_of tree.now env.now node) }
 {
-    match value_of(env, node) {
+    match value_of(tree, env, node) {
         Some(value) => value.as_tri(),
         None => Tri::No,
     }
@@ -33,17 +33,17 @@ pub(crate) fn node_tri(env: &[Option<Value>], node: Node) -> Tri
 
 /// The value of a symbol, whatever its visibility.
 pub(crate) fn symbol_tri(tree: &Tree, env: &[Option<Value>], symbol: SymId) -> Tri
-    ensures { result ≡ symbol_tri tree.now (assignment_of env.now) symbol }
+    ensures { result ≡ symbol_tri tree.now (assignment_of tree.now env.now) symbol }
 {
     match tree.symbols().get(symbol.0 as usize) {
-        Some(_) => node_tri(env, Node::Val(symbol)),
+        Some(_) => node_tri(tree, env, Node::Val(symbol)),
         None => Tri::No,
     }
 }
 
 /// The value of `MODULES`, n where it is not defined.
 pub(crate) fn modules_tri(tree: &Tree, env: &[Option<Value>]) -> Tri
-    ensures { result ≡ modules_value tree.now (assignment_of env.now) }
+    ensures { result ≡ modules_value tree.now (assignment_of tree.now env.now) }
 {
     match tree.modules() {
         Some(symbol) => symbol_tri(tree, env, symbol),
@@ -53,7 +53,7 @@ pub(crate) fn modules_tri(tree: &Tree, env: &[Option<Value>]) -> Tri
 
 /// What m alone stands for: itself, and in a condition `m && MODULES`.
 fn bare_module(tree: &Tree, env: &[Option<Value>], in_condition: bool) -> Tri
-    ensures { result ≡ bare_module tree.now (assignment_of env.now) in_condition }
+    ensures { result ≡ bare_module tree.now (assignment_of tree.now env.now) in_condition }
 {
     if in_condition {
         Tri::Module.and(modules_tri(tree, env))
@@ -64,23 +64,28 @@ fn bare_module(tree: &Tree, env: &[Option<Value>], in_condition: bool) -> Tri
 
 /// The value of a term that stands alone.
 fn term_tri(tree: &Tree, env: &[Option<Value>], in_condition: bool, term: &Term) -> Tri
-    ensures { result ≡ term_tri tree.now (assignment_of env.now)
-        (bare_module tree.now (assignment_of env.now) in_condition) term.now }
+    ensures { result ≡ term_tri tree.now (assignment_of tree.now env.now)
+        (bare_module tree.now (assignment_of tree.now env.now) in_condition) term.now }
 {
     match term {
         Term::Tri(Tri::No) => Tri::No,
         Term::Tri(Tri::Module) => bare_module(tree, env, in_condition),
         Term::Tri(Tri::Yes) => Tri::Yes,
+        Term::Text(text) => match constant_of(text.as_str()) {
+            Some(Tri::Module) => bare_module(tree, env, in_condition),
+            Some(tri) => tri,
+            None => Tri::No,
+        },
         Term::Symbol(symbol) => symbol_tri(tree, env, *symbol),
-        Term::Text(_) | Term::Undefined(_) => Tri::No,
+        Term::Undefined(_) => Tri::No,
     }
 }
 
 /// The value of an expression.
 #[cycle(expr_value)]
 fn formula_tri(tree: &Tree, env: &[Option<Value>], in_condition: bool, expr: &Expr) -> Tri
-    ensures { result ≡ formula_value tree.now (assignment_of env.now)
-        (bare_module tree.now (assignment_of env.now) in_condition) (formula expr.now) }
+    ensures { result ≡ formula_value tree.now (assignment_of tree.now env.now)
+        (bare_module tree.now (assignment_of tree.now env.now) in_condition) (formula expr.now) }
 {
     match expr {
         Expr::Term(term) => term_tri(tree, env, in_condition, term),
@@ -95,8 +100,8 @@ fn formula_tri(tree: &Tree, env: &[Option<Value>], in_condition: bool, expr: &Ex
 /// The value of expressions that `&&` joins, n where there is none.
 #[cycle(expr_value)]
 fn all_tri(tree: &Tree, env: &[Option<Value>], in_condition: bool, parts: &[Expr]) -> Tri
-    ensures { result ≡ formula_value tree.now (assignment_of env.now)
-        (bare_module tree.now (assignment_of env.now) in_condition) (joined both (map formula parts.now)) }
+    ensures { result ≡ formula_value tree.now (assignment_of tree.now env.now)
+        (bare_module tree.now (assignment_of tree.now env.now) in_condition) (joined both (map formula parts.now)) }
 {
     if parts.is_empty() {
         return Tri::No;
@@ -111,8 +116,8 @@ fn all_tri(tree: &Tree, env: &[Option<Value>], in_condition: bool, parts: &[Expr
 /// The value of expressions that `||` joins.
 #[cycle(expr_value)]
 fn any_tri(tree: &Tree, env: &[Option<Value>], in_condition: bool, parts: &[Expr]) -> Tri
-    ensures { result ≡ formula_value tree.now (assignment_of env.now)
-        (bare_module tree.now (assignment_of env.now) in_condition) (joined either (map formula parts.now)) }
+    ensures { result ≡ formula_value tree.now (assignment_of tree.now env.now)
+        (bare_module tree.now (assignment_of tree.now env.now) in_condition) (joined either (map formula parts.now)) }
 {
     let mut greatest = Tri::No;
     for part in parts {
@@ -126,21 +131,21 @@ fn any_tri(tree: &Tree, env: &[Option<Value>], in_condition: bool, parts: &[Expr
 /// place is empty or missing counts as n), n, m and y for themselves, and other texts for n. A comparison is y or n.
 /// It is that of a default; a condition has its value by [`condition_tri`].
 pub fn tri(tree: &Tree, expr: &Expr, env: &[Option<Value>]) -> Tri
-    ensures { result ≡ expr_value tree.now (assignment_of env.now) expr.now }
+    ensures { result ≡ expr_value tree.now (assignment_of tree.now env.now) expr.now }
 {
     formula_tri(tree, env, false, expr)
 }
 
 /// The value of a condition, as after `if`, `depends on` and `visible if`: as [`tri`] gives it, but m alone means `m && MODULES`.
 pub fn condition_tri(tree: &Tree, expr: &Expr, env: &[Option<Value>]) -> Tri
-    ensures { result ≡ condition_value tree.now (assignment_of env.now) expr.now }
+    ensures { result ≡ condition_value tree.now (assignment_of tree.now env.now) expr.now }
 {
     formula_tri(tree, env, true, expr)
 }
 
 /// The value of conditions that `&&` joins.
 pub(crate) fn conditions_tri(tree: &Tree, exprs: &[Expr], env: &[Option<Value>]) -> Tri
-    ensures { result ≡ conditions_value tree.now (assignment_of env.now) exprs.now }
+    ensures { result ≡ conditions_value tree.now (assignment_of tree.now env.now) exprs.now }
 {
     let mut least = Tri::Yes;
     for expr in exprs {
@@ -151,7 +156,7 @@ pub(crate) fn conditions_tri(tree: &Tree, exprs: &[Expr], env: &[Option<Value>])
 
 /// The value of the condition after `if`, y where there is none.
 pub(crate) fn own_condition_tri(tree: &Tree, condition: Option<&Expr>, env: &[Option<Value>]) -> Tri
-    ensures { result ≡ own_condition tree.now (assignment_of env.now) (option_copied condition.entry) }
+    ensures { result ≡ own_condition tree.now (assignment_of tree.now env.now) (option_copied condition.entry) }
 {
     match condition {
         Some(expr) => condition_tri(tree, expr, env),

@@ -16,7 +16,7 @@ use std::alloc::{AllocError, Global};
 /// order, and nothing is kept.
 ///
 /// That there is a solution, and no other, holds whatever the call returns. The error is want of memory
-/// for a place for each node.
+/// for a place for each node, or for a text.
 pub fn solve(alloc: Global, tree: &Tree, user: &User, node: Node) -> Result<Value, AllocError>
     requires { IsNodeOf tree.now node }
     ensures value { IfOk result (λ v. v ≡ solution tree.now user.now node) }
@@ -26,14 +26,15 @@ pub fn solve(alloc: Global, tree: &Tree, user: &User, node: Node) -> Result<Valu
     let marks = marked_nodes(alloc, tree, node)?;
     let mut env = empty_slots(alloc, count)?;
     for next in tree.order() {
-        if !marks[next.number()] {
+        let number = tree.number(*next);
+        if !marks[number] {
             continue;
         }
-        let value = apply_rule(tree, user, env.as_slice(), *next);
-        if next.number() == node.number() {
+        let value = apply_rule(alloc, tree, user, env.as_slice(), *next)?;
+        if number == tree.number(node) {
             return Ok(value);
         }
-        env[next.number()] = Some(value);
+        env[number] = Some(value);
     }
     unreachable!()
 }

@@ -33,15 +33,14 @@ pub fn all_values<R: Resolver>(
     resolver: &mut R,
 ) -> Result<Vec<Option<Value>>, AllocError>
     ensures values { IfOk result (λ v. (n : Node) → IsNodeOf (R.tree_of resolver.old) n
-        → assignment_of v.items n ≡ solution (R.tree_of resolver.old) (R.user_of resolver.old) n) }
+        → assignment_of (R.tree_of resolver.old) v.items n ≡ solution (R.tree_of resolver.old) (R.user_of resolver.old) n) }
     ensures tree { R.tree_of resolver.new ≡ R.tree_of resolver.old }
     ensures user { R.user_of resolver.new ≡ R.user_of resolver.old }
     ensures grew { R.grew resolver.old resolver.new (all_nodes (R.tree_of resolver.old)) }
 {
-    let count = resolver.tree().node_count();
-    let mut values = Vec::with_capacity(alloc, count)?;
-    for number in 0..count {
-        let value = value_at(alloc, resolver, Node::at(number))?;
+    let mut values = Vec::with_capacity(alloc, resolver.tree().node_count())?;
+    for node in resolver.tree().nodes() {
+        let value = value_at(alloc, resolver, node)?;
         values.push(Some(value))?;
     }
     Ok(values)
@@ -57,7 +56,7 @@ pub(crate) fn used_values<R: Resolver>(
 ) -> Result<Vec<Option<Value>>, AllocError>
     requires { IsNodeOf (R.tree_of resolver.old) node }
     ensures values { IfOk result (λ v. (n : Node) → Uses (R.tree_of resolver.old) node n
-        → assignment_of v.items n ≡ solution (R.tree_of resolver.old) (R.user_of resolver.old) n) }
+        → assignment_of (R.tree_of resolver.old) v.items n ≡ solution (R.tree_of resolver.old) (R.user_of resolver.old) n) }
     ensures tree { R.tree_of resolver.new ≡ R.tree_of resolver.old }
     ensures user { R.user_of resolver.new ≡ R.user_of resolver.old }
     ensures grew { R.grew resolver.old resolver.new (node ∷ []) }
@@ -66,7 +65,8 @@ pub(crate) fn used_values<R: Resolver>(
     let mut values = empty_slots(alloc, resolver.tree().node_count())?;
     for next in nodes.as_slice() {
         let value = value_at(alloc, resolver, *next)?;
-        values[next.number()] = Some(value);
+        let number = resolver.tree().number(*next);
+        values[number] = Some(value);
     }
     Ok(values)
 }

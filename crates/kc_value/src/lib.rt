@@ -2,6 +2,8 @@
 #![tactic(auto)]
 
 mod assignable_values;
+mod bounds;
+mod choice_value;
 mod comparison;
 mod conditions;
 mod evaluation;
@@ -14,6 +16,7 @@ mod numeral;
 mod resolver;
 mod slots;
 mod symbol_value;
+mod text_value;
 mod user;
 mod value;
 mod without;
@@ -27,7 +30,7 @@ pub use gathering::all_values;
 pub use meter::Meter;
 pub use resolver::Resolver;
 pub use user::User;
-pub use value::Value;
+pub use value::{Value, tri_letter};
 pub use without::without_user;
 
 #[cfg(test)]

@@ -1,8 +1,8 @@
 //! Which nodes a node is computed from, through others too: marks by number.
 
-ghost use Rattle.std.specs.Prelude.{◌≡◌, ◌<◌, ◌⊎◌, false, IfOk, Contains, length, replicate};
+ghost use Rattle.std.specs.Prelude.{◌≡◌, ◌⊎◌, false, IfOk, Contains, length, replicate};
 ghost use Rattle.kc_tree.specs.declared.node.Node.{Node};
-ghost use Rattle.kc_tree.specs.Nodes.{IsNodeOf, node_count, number_of};
+ghost use Rattle.kc_tree.specs.Nodes.{IsNodeOf, node_count};
 ghost use Rattle.kc_tree.specs.Uses.{Uses};
 ghost use Rattle.kc_value.specs.Marks.{IsMarked};
 
@@ -20,16 +20,18 @@ fn no_marks(alloc: Global, count: usize) -> Result<Vec<bool>, AllocError>
     Ok(marks)
 }
 
-/// Marks some nodes.
-fn mark_all(marks: &mut Vec<bool>, nodes: &[Node])
-    requires { (n : Node) → Contains nodes.now n → number_of n < length marks.old.items }
+/// Marks some nodes of the tree.
+fn mark_all(tree: &Tree, marks: &mut Vec<bool>, nodes: &[Node])
+    requires inside { (n : Node) → Contains nodes.now n → IsNodeOf tree.now n }
+    requires whole { length marks.old.items ≡ node_count tree.now }
     ensures long { length marks.new.items ≡ length marks.old.items }
-    ensures kept { (n : Node) → IsMarked marks.old.items n → IsMarked marks.new.items n }
-    ensures all { (n : Node) → Contains nodes.now n → IsMarked marks.new.items n }
-    ensures only { (n : Node) → IsMarked marks.new.items n → IsMarked marks.old.items n ⊎ Contains nodes.now n }
+    ensures kept { (n : Node) → IsMarked tree.now marks.old.items n → IsMarked tree.now marks.new.items n }
+    ensures all { (n : Node) → Contains nodes.now n → IsMarked tree.now marks.new.items n }
+    ensures only { (n : Node) → IsNodeOf tree.now n → IsMarked tree.now marks.new.items n
+        → IsMarked tree.now marks.old.items n ⊎ Contains nodes.now n }
 {
     for node in nodes {
-        marks[node.number()] = true;
+        marks[tree.number(*node)] = true;
     }
 }
 
@@ -38,12 +40,13 @@ fn mark_used(tree: &Tree, marks: &mut Vec<bool>, node: Node)
     requires inside { IsNodeOf tree.now node }
     requires whole { length marks.old.items ≡ node_count tree.now }
     ensures long { length marks.new.items ≡ node_count tree.now }
-    ensures kept { (n : Node) → IsMarked marks.old.items n → IsMarked marks.new.items n }
-    ensures all { IsMarked marks.old.items node → (n : Node) → Uses tree.now node n → IsMarked marks.new.items n }
-    ensures only { (n : Node) → IsMarked marks.new.items n → IsMarked marks.old.items n ⊎ Uses tree.now node n }
+    ensures kept { (n : Node) → IsMarked tree.now marks.old.items n → IsMarked tree.now marks.new.items n }
+    ensures all { IsMarked tree.now marks.old.items node → (n : Node) → Uses tree.now node n → IsMarked tree.now marks.new.items n }
+    ensures only { (n : Node) → IsNodeOf tree.now n → IsMarked tree.now marks.new.items n
+        → IsMarked tree.now marks.old.items n ⊎ Uses tree.now node n }
 {
-    if marks[node.number()] {
-        mark_all(marks, tree.uses(node));
+    if marks[tree.number(node)] {
+        mark_all(tree, marks, tree.uses(node));
     }
 }
 
@@ -54,11 +57,11 @@ fn mark_used(tree: &Tree, marks: &mut Vec<bool>, node: Node)
 pub(crate) fn marked_nodes(alloc: Global, tree: &Tree, node: Node) -> Result<Vec<bool>, AllocError>
     requires { IsNodeOf tree.now node }
     ensures long { IfOk result (λ v. length v.items ≡ node_count tree.now) }
-    ensures asked { IfOk result (λ v. IsMarked v.items node) }
-    ensures closed { IfOk result (λ v. (n m : Node) → IsNodeOf tree.now n → IsMarked v.items n → Uses tree.now n m → IsMarked v.items m) }
+    ensures asked { IfOk result (λ v. IsMarked tree.now v.items node) }
+    ensures closed { IfOk result (λ v. (n m : Node) → IsNodeOf tree.now n → IsMarked tree.now v.items n → Uses tree.now n m → IsMarked tree.now v.items m) }
 {
     let mut marks = no_marks(alloc, tree.node_count())?;
-    marks[node.number()] = true;
+    marks[tree.number(node)] = true;
     let order = tree.order();
     let mut left = order.len();
     while left > 0 {

@@ -1,4 +1,4 @@
-ghost use Rattle.std.specs.Prelude.{◌≡◌, None, IfOk, replicate};
+ghost use Rattle.std.specs.Prelude.{◌≡◌, None, IfOk, length, replicate};
 
 use std::alloc::{AllocError, Global};
 
@@ -14,4 +14,15 @@ pub(crate) fn empty_slots<T: Drop>(
         slots.push(None)?;
     }
     Ok(slots)
+}
+
+/// Takes away what is in each place of a list.
+pub(crate) fn clear_slots<T: Drop>(slots: &mut Vec<Option<T>>)
+    ensures { slots.new.items ≡ replicate (length slots.old.items) None }
+{
+    let mut place = 0;
+    while place < slots.len() {
+        slots[place] = None;
+        place += 1;
+    }
 }

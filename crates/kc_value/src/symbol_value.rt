@@ -1,6 +1,6 @@
 //! The visibility and the value of a symbol.
 
-ghost use Rattle.std.specs.Prelude.{◌≡◌, not, slice_get, option_and_then, find, filter_map};
+ghost use Rattle.std.specs.Prelude.{◌≡◌, IfOk, not, slice_get, option_and_then, find, filter_map};
 ghost use Rattle.std.specs.Option.{option_copied, option_map_or, option_or};
 ghost use Rattle.kc_tree.specs.declared.tri.Tri.TheVariants.{No};
 ghost use Rattle.kc_tree.specs.Tristate.{least, greatest, is_no};
@@ -8,13 +8,17 @@ ghost use Rattle.kc_tree.specs.TreeValue.{definitions_of};
 ghost use Rattle.kc_value.specs.Assignment.{assignment_of};
 ghost use Rattle.kc_value.specs.Conditions.{dependency, prompt_value};
 ghost use Rattle.kc_value.specs.ExprValue.{own_condition};
-ghost use Rattle.kc_value.specs.Rule.{in_bool, has_modules, in_type, visibility, is_active, definition_default, reverse_value, reverse_values, direct, user_part, symbol_rule};
+ghost use Rattle.kc_value.specs.Defaults.{is_active};
+ghost use Rattle.kc_value.specs.Rule.{in_bool, has_modules, in_type, visibility, definition_default, reverse_value, reverse_values, direct, user_part, tri_rule, symbol_rule};
 
-use crate::conditions::{dependency_tri, prompt_tri};
+use crate::choice_value::member_value;
+use crate::conditions::{dependency_tri, mode_tri, prompt_tri};
 use crate::expr_value::{modules_tri, own_condition_tri, symbol_tri, tri};
+use crate::text_value::text_value;
 use crate::value::Value;
 use itertools::Itertools;
-use kc_tree::{DefaultValue, Definition, Reverse, Symbol, SymbolType, Tree, Tri, UserVal};
+use kc_tree::{DefaultValue, Definition, Reverse, SymId, Symbol, SymbolType, Tree, Tri, UserVal};
+use std::alloc::{AllocError, Global};
 
 /// A bool knows no m: it stands for y.
 fn bool_value(value: Tri) -> Tri
@@ -28,10 +32,10 @@ fn bool_value(value: Tri) -> Tri
 
 /// Whether a symbol takes m: a tristate acts as bool where `MODULES` is n.
 fn has_modules(tree: &Tree, symbol: &Symbol, env: &[Option<Value>]) -> bool
-    ensures { result ≡ has_modules tree.now (assignment_of env.now) symbol.now }
+    ensures { result ≡ has_modules tree.now (assignment_of tree.now env.now) symbol.now }
 {
     match symbol.kind() {
-        SymbolType::Bool => false,
+        SymbolType::Bool | SymbolType::String | SymbolType::Int | SymbolType::Hex => false,
         SymbolType::Tristate => !modules_tri(tree, env).is_no(),
     }
 }
@@ -50,7 +54,7 @@ fn in_type(has_modules: bool, value: Tri) -> Tri
 /// The condition of the prompt of a definition by number, n where there is none.
 fn numbered_prompt_tri(tree: &Tree, number: usize, env: &[Option<Value>]) -> Tri
     ensures { result
-        ≡ option_map_or (prompt_value tree.now (assignment_of env.now)) (slice_get tree.now.definitions number) No }
+        ≡ option_map_or (prompt_value tree.now (assignment_of tree.now env.now)) (slice_get tree.now.definitions number) No }
 {
     match tree.definitions().get(number) {
         Some(definition) => prompt_tri(tree, definition, env),
@@ -61,13 +65,14 @@ fn numbered_prompt_tri(tree: &Tree, number: usize, env: &[Option<Value>]) -> Tri
 /// The visibility of a symbol: the greatest condition of its prompts, with m as y unless it is a tristate and `MODULES`
 /// is not n.
 pub(crate) fn symbol_visibility(tree: &Tree, symbol: &Symbol, env: &[Option<Value>]) -> Tri
-    ensures { result ≡ visibility tree.now (assignment_of env.now) symbol.now }
+    ensures { result ≡ visibility tree.now (assignment_of tree.now env.now) symbol.now }
 {
     let mut greatest = Tri::No;
     for number in symbol.definitions() {
         greatest = greatest.or(numbered_prompt_tri(tree, *number, env));
     }
-    in_type(has_modules(tree, symbol, env), greatest)
+    let within = greatest.and(mode_tri(tree, symbol.choice(), env));
+    in_type(has_modules(tree, symbol, env), within)
 }
 
 /// The condition of a default in a definition with these dependencies.
@@ -77,7 +82,7 @@ fn default_condition_tri(
     depends: Tri,
     env: &[Option<Value>],
 ) -> Tri
-    ensures { result ≡ least (own_condition tree.now (assignment_of env.now) default.now.condition) depends }
+    ensures { result ≡ least (own_condition tree.now (assignment_of tree.now env.now) default.now.condition) depends }
 {
     own_condition_tri(tree, default.condition.as_ref(), env).and(depends)
 }
@@ -85,21 +90,21 @@ fn default_condition_tri(
 /// Whether the condition of a default is not n.
 fn is_active(tree: &Tree, default: &DefaultValue, depends: Tri, env: &[Option<Value>]) -> bool
     ensures { result
-        ≡ not (is_no (least (own_condition tree.now (assignment_of env.now) default.now.condition) depends)) }
+        ≡ not (is_no (least (own_condition tree.now (assignment_of tree.now env.now) default.now.condition) depends)) }
 {
     !default_condition_tri(tree, default, depends, env).is_no()
 }
 
 /// The first default of a definition whose condition is not n.
-fn first_active_default<'a>(
+pub(crate) fn first_active_default<'a>(
     tree: &Tree,
     definition: &'a Definition,
     depends: Tri,
     env: &[Option<Value>],
 ) -> Option<&'a DefaultValue>
-    requires { depends ≡ dependency tree.now (assignment_of env.now) definition.now }
+    requires { depends ≡ dependency tree.now (assignment_of tree.now env.now) definition.now }
     ensures { option_copied result
-        ≡ find (is_active tree.now (assignment_of env.now) definition.now) definition.now.defaults }
+        ≡ find (is_active tree.now (assignment_of tree.now env.now) definition.now) definition.now.defaults }
 {
     let (_, default) = definition
         .defaults()
@@ -115,8 +120,8 @@ fn definition_default_tri(
     depends: Tri,
     env: &[Option<Value>],
 ) -> Option<Tri>
-    requires { depends ≡ dependency tree.now (assignment_of env.now) definition.now }
-    ensures { result ≡ definition_default tree.now (assignment_of env.now) definition.now }
+    requires { depends ≡ dependency tree.now (assignment_of tree.now env.now) definition.now }
+    ensures { result ≡ definition_default tree.now (assignment_of tree.now env.now) definition.now }
 {
     let default = first_active_default(tree, definition, depends, env)?;
     let condition = default_condition_tri(tree, default, depends, env);
@@ -135,10 +140,10 @@ struct Defined {
 /// The same with one more definition, by number; a number without definition gives nothing.
 fn with_definition(tree: &Tree, defined: Defined, number: usize, env: &[Option<Value>]) -> Defined
     ensures default { result.default ≡ option_or defined.default
-        (option_and_then (definition_default tree.now (assignment_of env.now))
+        (option_and_then (definition_default tree.now (assignment_of tree.now env.now))
         (slice_get tree.now.definitions number)) }
     ensures direct { result.direct ≡ greatest defined.direct
-        (option_map_or (dependency tree.now (assignment_of env.now)) (slice_get tree.now.definitions number) No) }
+        (option_map_or (dependency tree.now (assignment_of tree.now env.now)) (slice_get tree.now.definitions number) No) }
 {
     let Some(definition) = tree.definitions().get(number) else {
         return defined;
@@ -158,8 +163,8 @@ fn with_definition(tree: &Tree, defined: Defined, number: usize, env: &[Option<V
 fn definitions_of(tree: &Tree, symbol: &Symbol, env: &[Option<Value>]) -> Defined
     ensures default { result.default
         ≡ slice_get
-        (filter_map (definition_default tree.now (assignment_of env.now)) (definitions_of tree.now symbol.now)) 0 }
-    ensures direct { result.direct ≡ direct tree.now (assignment_of env.now) symbol.now }
+        (filter_map (definition_default tree.now (assignment_of tree.now env.now)) (definitions_of tree.now symbol.now)) 0 }
+    ensures direct { result.direct ≡ direct tree.now (assignment_of tree.now env.now) symbol.now }
 {
     let mut defined = Defined {
         default: None,
@@ -174,7 +179,7 @@ fn definitions_of(tree: &Tree, symbol: &Symbol, env: &[Option<Value>]) -> Define
 /// The dependencies of a definition by number, n where there is none.
 fn numbered_dependency_tri(tree: &Tree, number: usize, env: &[Option<Value>]) -> Tri
     ensures { result
-        ≡ option_map_or (dependency tree.now (assignment_of env.now)) (slice_get tree.now.definitions number) No }
+        ≡ option_map_or (dependency tree.now (assignment_of tree.now env.now)) (slice_get tree.now.definitions number) No }
 {
     match tree.definitions().get(number) {
         Some(definition) => dependency_tri(tree, definition, env),
@@ -184,7 +189,7 @@ fn numbered_dependency_tri(tree: &Tree, number: usize, env: &[Option<Value>]) ->
 
 /// What a `select` or `imply` gives: the least of the value of its symbol and its condition.
 fn reverse_tri(tree: &Tree, reverse: &Reverse, env: &[Option<Value>]) -> Tri
-    ensures { result ≡ reverse_value tree.now (assignment_of env.now) reverse.now }
+    ensures { result ≡ reverse_value tree.now (assignment_of tree.now env.now) reverse.now }
 {
     let value = symbol_tri(tree, env, reverse.by);
     if value.is_no() {
@@ -196,7 +201,7 @@ fn reverse_tri(tree: &Tree, reverse: &Reverse, env: &[Option<Value>]) -> Tri
 
 /// The greatest that some `select` or `imply` lines give.
 fn reverses_tri(tree: &Tree, reverses: &[Reverse], env: &[Option<Value>]) -> Tri
-    ensures { result ≡ reverse_values tree.now (assignment_of env.now) reverses.now }
+    ensures { result ≡ reverse_values tree.now (assignment_of tree.now env.now) reverses.now }
 {
     let mut greatest = Tri::No;
     for reverse in reverses {
@@ -217,16 +222,16 @@ fn user_tri(visibility: Tri, user: Option<&UserVal>) -> Option<Tri>
     }
 }
 
-/// The value of a symbol (kconfig-language.rst, "Menu attributes", and Kconfiglib, "tri_value"), and whether the
-/// `.config` has its line.
-pub(crate) fn symbol_value(
+/// The value of a bool or tristate symbol (kconfig-language.rst, "Menu attributes", and Kconfiglib, "tri_value"), and
+/// whether the `.config` has its line.
+pub(crate) fn tri_value(
     tree: &Tree,
     symbol: &Symbol,
     visibility: Tri,
     user: Option<&UserVal>,
     env: &[Option<Value>],
 ) -> Value
-    ensures { result ≡ symbol_rule tree.now (assignment_of env.now) symbol.now visibility (option_copied user.entry) }
+    ensures { result ≡ tri_rule tree.now (assignment_of tree.now env.now) symbol.now visibility (option_copied user.entry) }
 {
     let defined = definitions_of(tree, symbol, env);
     let default = defined.default.unwrap_or(Tri::No);
@@ -240,4 +245,31 @@ pub(crate) fn symbol_value(
         || (!implied.is_no() && !defined.direct.is_no())
         || !selected.is_no();
     Value::Shown(UserVal::Tri(shown), written)
+}
+
+/// The value of a symbol of this number: of a member of a choice whether it is selected, else by its type. The error is
+/// want of memory for a text.
+pub(crate) fn symbol_value(
+    alloc: Global,
+    tree: &Tree,
+    id: SymId,
+    symbol: &Symbol,
+    visibility: Tri,
+    user: Option<&UserVal>,
+    env: &[Option<Value>],
+) -> Result<Value, AllocError>
+    ensures { IfOk result (λ v. v
+        ≡ symbol_rule tree.now (assignment_of tree.now env.now) id symbol.now visibility (option_copied user.entry)) }
+{
+    if let Some(choice) = symbol.choice() {
+        return Ok(member_value(tree, choice, id, visibility, env));
+    }
+    match symbol.kind() {
+        SymbolType::Bool | SymbolType::Tristate => {
+            Ok(tri_value(tree, symbol, visibility, user, env))
+        }
+        SymbolType::String | SymbolType::Int | SymbolType::Hex => {
+            text_value(alloc, tree, symbol, visibility, user, env)
+        }
+    }
 }

@@ -1,16 +1,18 @@
-ghost use Rattle.std.specs.Prelude.{◌≡◌, ◌<◌, length, None, Some, IfOk};
+ghost use Rattle.std.specs.Prelude.{◌≡◌, ◌<◌, length, replicate, None, Some, IfOk};
 ghost use Rattle.std.specs.Option.{option_copied};
-ghost use Rattle.kc_value.specs.UserValues.{no_values, with_value, user_value};
+ghost use Rattle.kc_value.specs.UserValues.{no_values, with_value, with_chosen, user_value, chosen_in};
 
-use crate::slots::empty_slots;
-use kc_tree::{SymId, Tree, UserVal};
+use crate::slots::{clear_slots, empty_slots};
+use kc_tree::{ChoiceId, SymId, Tree, UserVal};
 use std::alloc::{AllocError, Global};
 use std::marker::Model;
 
-/// The values that a user gave to the symbols of a tree. Contracts see a value or none for each symbol.
+/// The values that a user gave to the symbols of a tree, and the members that he chose. Contracts see a value or none
+/// for each symbol, and a member or none for each choice.
 #[derive(Debug, Drop)]
 pub struct User {
     values: Vec<Option<UserVal>>,
+    chosen: Vec<Option<SymId>>,
 }
 
 impl Model for User {
@@ -18,11 +20,11 @@ impl Model for User {
 
     ghost Value = { UserValues };
 
-    ghost view = { λ u. record { values = u.values.items } };
+    ghost view = { λ u. record { values = u.values.items; chosen = u.chosen.items } };
 }
 
 impl User {
-    /// No values, with room for one of each symbol, so that setting one takes no memory.
+    /// No values and no chosen members, with room for one of each, so that setting one takes no memory.
     ///
     /// The error is want of memory for that room.
     pub fn empty(alloc: Global, tree: &Tree) -> Result<User, AllocError>
@@ -30,6 +32,7 @@ impl User {
     {
         Ok(User {
             values: empty_slots(alloc, tree.symbols().len())?,
+            chosen: empty_slots(alloc, tree.choices().len())?,
         })
     }
 
@@ -48,6 +51,33 @@ impl User {
         ensures { self.new ≡ with_value self.old symbol None }
     {
         self.values[symbol.0 as usize] = None;
+    }
+
+    /// Takes all values and chosen members away.
+    pub fn reset(&mut self)
+        ensures values { self.new.values ≡ replicate (length self.old.values) None }
+        ensures chosen { self.new.chosen ≡ replicate (length self.old.chosen) None }
+    {
+        clear_slots(&mut self.values);
+        clear_slots(&mut self.chosen);
+    }
+
+    /// Chooses a member of a choice of the tree, or none, in place of the one that was chosen; all else stays.
+    pub fn choose(&mut self, choice: ChoiceId, member: Option<SymId>)
+        requires { choice.0 < length self.old.chosen }
+        ensures { self.new ≡ with_chosen self.old choice member }
+    {
+        self.chosen[choice.0 as usize] = member;
+    }
+
+    /// The member that the user chose, none for a choice that the tree doesn't have.
+    pub fn chosen(&self, choice: ChoiceId) -> Option<SymId>
+        ensures { result ≡ chosen_in self.now choice }
+    {
+        match self.chosen.get(choice.0 as usize) {
+            Some(Some(member)) => Some(*member),
+            Some(None) | None => None,
+        }
     }
 
     /// The value that the user gave to a symbol, none for one that the tree doesn't have.

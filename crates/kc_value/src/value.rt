@@ -1,21 +1,34 @@
 ghost use Rattle.std.specs.Prelude.{◌≡◌, IfOk};
-ghost use Rattle.kc_value.specs.Assignment.{as_tri, is_written};
+ghost use Rattle.kc_value.specs.Assignment.{as_tri, as_text, as_member, is_written, tri_letter};
 
 use kc_text::Text;
-use kc_tree::{Tri, UserVal};
+use kc_tree::{SymId, Tri, UserVal};
 use std::alloc::{AllocError, Global};
 
 /// The value of a node, as its rule gives it.
 #[derive(Debug, Drop)]
 pub enum Value {
-    /// That of a visibility.
+    /// That of a visibility or a mode.
     Tri(Tri),
     /// That of a symbol, and whether the `.config` has a line for it.
     Shown(UserVal, bool),
+    /// That of a selection: the member, if one is selected.
+    Member(Option<SymId>),
+}
+
+/// The letter of a tristate value.
+pub fn tri_letter(tri: Tri) -> &'static str
+    ensures { result.now ≡ tri_letter tri }
+{
+    match tri {
+        Tri::No => "n",
+        Tri::Module => "m",
+        Tri::Yes => "y",
+    }
 }
 
 impl Value {
-    /// The tristate value, n for a symbol whose value is a text.
+    /// The tristate value, n for a symbol whose value is a text and for a selection.
     pub fn as_tri(&self) -> Tri
         ensures { result ≡ as_tri self.now }
     {
@@ -23,16 +36,41 @@ impl Value {
             Value::Tri(tri) => *tri,
             Value::Shown(UserVal::Tri(tri), _) => *tri,
             Value::Shown(UserVal::Text(_), _) => Tri::No,
+            Value::Member(_) => Tri::No,
         }
     }
 
-    /// Whether the `.config` has a line for the symbol; a visibility has none.
+    /// The text: the letter of a tristate value, nothing for a selection.
+    pub fn as_text(&self) -> &str
+        ensures { result.now ≡ as_text self.now }
+    {
+        match self {
+            Value::Tri(tri) => tri_letter(*tri),
+            Value::Shown(UserVal::Tri(tri), _) => tri_letter(*tri),
+            Value::Shown(UserVal::Text(text), _) => text.as_str(),
+            Value::Member(_) => "",
+        }
+    }
+
+    /// The member that is selected, none for the value of another node.
+    pub fn as_member(&self) -> Option<SymId>
+        ensures { result ≡ as_member self.now }
+    {
+        match self {
+            Value::Tri(_) => None,
+            Value::Shown(_, _) => None,
+            Value::Member(member) => *member,
+        }
+    }
+
+    /// Whether the `.config` has a line for the symbol; the other nodes have none.
     pub fn is_written(&self) -> bool
         ensures { result ≡ is_written self.now }
     {
         match self {
             Value::Tri(_) => false,
             Value::Shown(_, written) => *written,
+            Value::Member(_) => false,
         }
     }
 }
@@ -48,5 +86,6 @@ pub(crate) fn copy_of(alloc: Global, value: &Value) -> Result<Value, AllocError>
             let text = Text::copy_of(alloc, text.as_str())?;
             Ok(Value::Shown(UserVal::Text(text), *written))
         }
+        Value::Member(member) => Ok(Value::Member(*member)),
     }
 }

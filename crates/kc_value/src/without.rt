@@ -1,49 +1,91 @@
-//! The value that a symbol would have without its own user value.
+//! The value that a node would have without its own user value or chosen member.
 
-ghost use Rattle.std.specs.Prelude.{◌≡◌, IfOk, [], ◌∷◌};
-ghost use Rattle.kc_tree.specs.declared.node.Node.TheVariants.{Val};
+ghost use Rattle.std.specs.Prelude.{◌≡◌, IfOk, [], ◌∷◌, true, false};
+ghost use Rattle.kc_tree.specs.declared.node.Node.TheVariants.{Val, Sel};
 ghost use Rattle.kc_tree.specs.Nodes.{IsNodeOf};
 ghost use Rattle.kc_value.specs.Assignment.{assignment_of};
 ghost use Rattle.kc_value.specs.Rule.{rule};
 ghost use Rattle.kc_value.specs.UserValues.{UserValues, IsUserFor};
-ghost use Rattle.kc_value.specs.Without.{user_without, value_without};
+ghost use Rattle.kc_value.specs.Without.{user_without, value_without, selects_none, IsOwned};
 
+use crate::choice_value::selection_value;
 use crate::expr_value::node_tri;
 use crate::gathering::used_values;
 use crate::resolver::Resolver;
 use crate::symbol_value::symbol_value;
 use crate::value::Value;
-use kc_tree::{Node, SymId, Tree, Tri};
+use kc_tree::{ChoiceId, Node, SymId, Tree, Tri};
 use std::alloc::{AllocError, Global};
 
+/// Whether the node is the selection of an optional choice, which without a chosen member selects none.
+fn selects_none(tree: &Tree, node: Node) -> bool
+    ensures { result ≡ selects_none tree.now node }
+{
+    match node {
+        Node::Vis(_) | Node::Val(_) | Node::Mode(_) => false,
+        Node::Sel(choice) => match tree.choices().get(choice.0 as usize) {
+            Some(choice) => choice.is_optional(),
+            None => false,
+        },
+    }
+}
+
 /// What the rule gives a symbol without a user value, over the values of the nodes that it is computed from.
-fn rule_without(tree: &Tree, symbol: SymId, env: &[Option<Value>]) -> Value
-    ensures { (u : UserValues) → IsUserFor tree.now u
-        → result ≡ rule tree.now (user_without u (Val symbol)) (assignment_of env.now) (Val symbol) }
+fn value_alone(
+    alloc: Global,
+    tree: &Tree,
+    symbol: SymId,
+    env: &[Option<Value>],
+) -> Result<Value, AllocError>
+    ensures { (u : UserValues) → IsUserFor tree.now u → IfOk result (λ v. v
+        ≡ rule tree.now (user_without u (Val symbol)) (assignment_of tree.now env.now) (Val symbol)) }
 {
     match tree.symbols().get(symbol.0 as usize) {
-        Some(found) => symbol_value(tree, found, node_tri(env, Node::Vis(symbol)), None, env),
+        Some(found) => {
+            let visibility = node_tri(tree, env, Node::Vis(symbol));
+            symbol_value(alloc, tree, symbol, found, visibility, None, env)
+        }
+        None => Ok(Value::Tri(Tri::No)),
+    }
+}
+
+/// What the rule gives a selection without a chosen member, over the values of the nodes that it is computed from.
+fn selection_alone(tree: &Tree, choice: ChoiceId, env: &[Option<Value>]) -> Value
+    ensures { (u : UserValues) → IsUserFor tree.now u
+        → result ≡ rule tree.now (user_without u (Sel choice)) (assignment_of tree.now env.now) (Sel choice) }
+{
+    match tree.choices().get(choice.0 as usize) {
+        Some(found) => Value::Member(selection_value(tree, choice, found, None, env)),
         None => Value::Tri(Tri::No),
     }
 }
 
-/// The value that a symbol would have without its own user value, all else as it is. The resolver is asked for the
-/// symbol's value alone, and keeps tree and user values.
+/// The value that a symbol's value or a choice's selection would have without the user's own value for the symbol, or
+/// without a chosen member, all else as it is; an optional choice without a chosen member selects none. The resolver is
+/// asked for the node alone, and keeps tree and user values.
 ///
 /// The error is want of memory.
 pub fn without_user<R: Resolver>(
     alloc: Global,
     resolver: &mut R,
-    symbol: SymId,
+    node: Node,
 ) -> Result<Value, AllocError>
-    requires inside { IsNodeOf (R.tree_of resolver.old) (Val symbol) }
+    requires inside { IsNodeOf (R.tree_of resolver.old) node }
+    requires owned { IsOwned node }
     requires sized { IsUserFor (R.tree_of resolver.old) (R.user_of resolver.old) }
     ensures value { IfOk result
-        (λ v. v ≡ value_without (R.tree_of resolver.old) (R.user_of resolver.old) (Val symbol)) }
+        (λ v. v ≡ value_without (R.tree_of resolver.old) (R.user_of resolver.old) node) }
     ensures tree { R.tree_of resolver.new ≡ R.tree_of resolver.old }
     ensures user { R.user_of resolver.new ≡ R.user_of resolver.old }
-    ensures grew { R.grew resolver.old resolver.new (Val symbol ∷ []) }
+    ensures grew { R.grew resolver.old resolver.new (node ∷ []) }
 {
-    let env = used_values(alloc, resolver, Node::Val(symbol))?;
-    Ok(rule_without(resolver.tree(), symbol, env.as_slice()))
+    if selects_none(resolver.tree(), node) {
+        return Ok(Value::Member(None));
+    }
+    let env = used_values(alloc, resolver, node)?;
+    match node {
+        Node::Val(symbol) => value_alone(alloc, resolver.tree(), symbol, env.as_slice()),
+        Node::Sel(choice) => Ok(selection_alone(resolver.tree(), choice, env.as_slice())),
+        Node::Vis(_) | Node::Mode(_) => unreachable!(),
+    }
 }

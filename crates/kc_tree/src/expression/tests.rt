@@ -102,7 +102,7 @@ fn expressions_and_others(rt: HostRuntime) -> Result<(), Fail> {
     let mut names = Names::with_capacity(alloc, 2)?;
     names.add(alloc, "A")?;
     names.add(alloc, "B")?;
-    let table: [(&str, &str); 21] = [
+    let table: [(&str, &str); 22] = [
         ("A", "#0"),
         ("A || B && C || y", "[any #0 [all #1 C] y]"),
         ("A && B && n", "[all #0 #1 n]"),
@@ -111,7 +111,8 @@ fn expressions_and_others(rt: HostRuntime) -> Result<(), Fail> {
         ("( A || B ) && ! ( ! C )", "[all ([any #0 #1]) !(!C)]"),
         ("5 <= A && B >= 'x", "[all 5<=#0 #1>='x']"),
         ("1 < 2 || 2 > 1 || a != b", "[any 1<2 2>1 a!=b]"),
-        ("'y", "y"),
+        ("'y", "'y'"),
+        ("A = 'm || m", "[any #0='m' m]"),
         ("'A", "'A'"),
         ("$if", "if"),
         ("", "none"),

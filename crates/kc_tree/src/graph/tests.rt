@@ -1,9 +1,9 @@
-ghost use Rattle.std.specs.Prelude.{◌<◌, All, IfOk, IsTrue, length};
+ghost use Rattle.std.specs.Prelude.{◌<◌, ◌≤◌, All, IfOk, IsTrue, length};
 ghost use Rattle.kc_tree.specs.Graph.{IsClosed};
 ghost use Rattle.kc_tree.specs.NodeRows.{numbers_of};
 
 use super::{Graph, OrderFault};
-use crate::id::SymId;
+use crate::id::{ChoiceId, SymId};
 use crate::node::Node;
 use crate::node_rows::NodeRows;
 use std::alloc::{AllocError, Global};
@@ -17,14 +17,20 @@ fn names_own_nodes(rows: &[&[usize]]) -> bool
     rows.iter().all(|row| row.iter().all(|&used| used < count))
 }
 
-fn rows_of(rt: &impl Abort, alloc: Global, rows: &[&[usize]]) -> Result<NodeRows, AllocError>
-    ensures { IfOk result (λ made. IsClosed (numbers_of made)) }
+fn rows_of(
+    rt: &impl Abort,
+    alloc: Global,
+    symbols: usize,
+    rows: &[&[usize]],
+) -> Result<NodeRows, AllocError>
+    requires { symbols ≤ 65535 }
+    ensures { IfOk result (λ made. IsClosed (numbers_of symbols made)) }
 {
     assert!(rt; rows.len() < 10);
     assert!(rt; names_own_nodes(rows));
     let mut made = NodeRows::with_capacity(alloc, rows.len())?;
     for row in rows {
-        made.add_row(row)?;
+        made.add_row(symbols, row)?;
     }
     Ok(made)
 }
@@ -38,8 +44,8 @@ fn orders_and_loops(rt: HostRuntime) -> Result<(), Fail> {
         (&[&[1], &[2], &[3], &[2]], Err(&[2, 3])),
     ];
     for (rows, expected) in table {
-        let made = rows_of(&rt, rt.alloc(), rows)?;
-        match (Graph::of(&made).order(rt.alloc()), expected) {
+        let made = rows_of(&rt, rt.alloc(), 2, rows)?;
+        match (Graph::of(2, &made).order(rt.alloc()), expected) {
             (Ok(order), Ok(nodes)) => assert_eq!(rt; order.as_slice(), nodes),
             (Err(OrderFault::Loop(found)), Err(nodes)) => assert_eq!(rt; found.as_slice(), nodes),
             (Err(OrderFault::NoMemory), _) => return Err(AllocError)?,
@@ -54,10 +60,10 @@ fn users_of_a_diamond(rt: HostRuntime) -> Result<(), Fail> {
     let [first, second, third] = [
         Node::Vis(SymId(0)),
         Node::Val(SymId(0)),
-        Node::Vis(SymId(1)),
+        Node::Mode(ChoiceId(0)),
     ];
-    let rows = rows_of(&rt, rt.alloc(), &[&[1, 2], &[3], &[3], &[]])?;
-    let users = Graph::of(&rows).users(rt.alloc())?;
+    let rows = rows_of(&rt, rt.alloc(), 1, &[&[1, 2], &[3], &[3], &[]])?;
+    let users = Graph::of(1, &rows).users(rt.alloc(), 1)?;
     let expected: [&[Node]; 4] = [&[], &[first], &[first], &[second, third]];
     assert_eq!(rt; users.len(), expected.len());
     for (number, nodes) in expected.into_iter().enumerate() {

@@ -1,13 +1,11 @@
 //! The users of a graph's nodes: they are counted, and each is then put at a place of its row.
 
-ghost use Rattle.std.specs.Prelude.{◌≡◌, ◌+◌, ◌<◌, [], All, IfOk, List, OnOk, drop, length, map, replicate, slice_index, slice_set};
+ghost use Rattle.std.specs.Prelude.{◌≡◌, ◌+◌, ◌<◌, ◌≤◌, [], All, IfOk, List, OnOk, drop, length, replicate, slice_index, slice_set};
 ghost use Rattle.kc_tree.specs.Graph.{row};
-ghost use Rattle.kc_tree.specs.NodeRows.{rows_in, FitsIn};
-ghost use Rattle.kc_tree.specs.Nodes.{number_of};
+ghost use Rattle.kc_tree.specs.NodeRows.{rows_in, FitsIn, IsNumbered};
 ghost use Rattle.kc_tree.specs.Users.{times, uses_in, start_at, end_at, AddsCounts, HasRoom, HasPlace};
 
 use super::Graph;
-use crate::id::SymId;
 use crate::node::Node;
 use crate::node_rows::{NodeRows, Span};
 use std::alloc::{AllocError, Global};
@@ -22,13 +20,16 @@ fn count_use(counts: &mut Vec<u32>, used: usize) -> Result<(), AllocError>
     Ok(())
 }
 
-/// Counts the uses of a row.
-fn count_row(counts: &mut Vec<u32>, uses: &[Node]) -> Result<(), AllocError>
-    requires { All (λ used. number_of used < length counts.old.items) uses.now }
-    ensures { OnOk result (AddsCounts counts.old.items counts.new.items (map number_of uses.now)) }
+/// Counts the uses of the row of a node.
+fn count_row(counts: &mut Vec<u32>, graph: &Graph<'_>, user: usize) -> Result<(), AllocError>
+    requires inside { user < length graph.now }
+    requires size { length counts.old.items ≡ length graph.now }
+    ensures { OnOk result (AddsCounts counts.old.items counts.new.items (row graph.now user)) }
 {
-    for used in uses {
-        count_use(counts, used.number())?;
+    let mut next = 0;
+    while let Some(used) = graph.use_at(user, next) {
+        count_use(counts, used)?;
+        next += 1;
     }
     Ok(())
 }
@@ -40,7 +41,7 @@ pub fn use_counts(alloc: Global, graph: &Graph<'_>) -> Result<Vec<u32>, AllocErr
     let nodes = graph.len();
     let mut counts = vec![in alloc; 0; nodes]?;
     for user in 0..nodes {
-        count_row(&mut counts, graph.row(user))?;
+        count_row(&mut counts, graph, user)?;
     }
     Ok(counts)
 }
@@ -70,13 +71,15 @@ pub struct UserRows {
 impl UserRows {
     ghost use Rattle.kc_tree.specs.Users.{users_in, AddsUser, HasRoomFor};
 
-    /// Empty rows, each with room for so many users.
-    pub fn with_room(alloc: Global, rooms: &[u32]) -> Result<UserRows, AllocError>
+    /// Empty rows, each with room for so many users, in a tree of so many symbols.
+    pub fn with_room(alloc: Global, symbols: usize, rooms: &[u32]) -> Result<UserRows, AllocError>
+        requires { symbols ≤ 65535 }
         ensures room { IfOk result (λ users. HasRoomFor users (slice_index rooms.now)) }
         ensures empty { IfOk result (λ users. rows_in users.nodes.items users.spans.items ≡ replicate (length rooms.now) []) }
+        ensures numbered { IfOk result (λ users. All (IsNumbered symbols) users.nodes.items) }
     {
         let (spans, end) = empty_spans(alloc, rooms)?;
-        let nodes = vec![in alloc; Node::Vis(SymId(0)); end as usize]?;
+        let nodes = vec![in alloc; Node::in_tree(symbols, 0); end as usize]?;
         Ok(UserRows { spans, nodes })
     }
 
@@ -95,17 +98,22 @@ impl UserRows {
         };
     }
 
-    /// Adds a node to the users of each node that it uses.
-    pub fn add_uses(&mut self, graph: &Graph<'_>, user: u32)
+    /// Adds a node to the users of each node that it uses, in a tree of so many symbols.
+    pub fn add_uses(&mut self, graph: &Graph<'_>, symbols: usize, user: u32)
+        requires few { symbols ≤ 65535 }
         requires inside { user < length graph.now }
         requires size { length self.old.spans.items ≡ length graph.now }
         requires room { HasRoomFor self.old (times (uses_in (drop user graph.now))) }
+        requires numbered { All (IsNumbered symbols) self.old.nodes.items }
         ensures room { HasRoomFor self.new (times (uses_in (drop (user + 1) graph.now))) }
-        ensures added { AddsUser (users_in self.old) (users_in self.new) (row graph.now user) user }
+        ensures added { AddsUser (users_in symbols self.old) (users_in symbols self.new) (row graph.now user) user }
+        ensures numbered { All (IsNumbered symbols) self.new.nodes.items }
     {
-        let node = Node::at(user as usize);
-        for used in graph.row(user as usize) {
-            self.place(used.number(), node);
+        let node = Node::in_tree(symbols, user as usize);
+        let mut next = 0;
+        while let Some(used) = graph.use_at(user as usize, next) {
+            self.place(used, node);
+            next += 1;
         }
     }
 

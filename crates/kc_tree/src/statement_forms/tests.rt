@@ -1,4 +1,5 @@
 use super::read_statement;
+use crate::expr::Term;
 use crate::id::SymId;
 use crate::keyword::read_keyword;
 use crate::names::Names;
@@ -48,6 +49,51 @@ fn forms_without_expressions(rt: HostRuntime) -> Result<(), Fail> {
 }
 
 #[test]
+fn forms_of_choices(rt: HostRuntime) -> Result<(), Fail> {
+    let alloc = rt.alloc();
+    let choice = said(alloc, vec![in alloc; word("choice")]?)?;
+    assert!(rt; matches!(choice, Some(Statement::Choice)));
+    let optional = said(alloc, vec![in alloc; word("optional")]?)?;
+    assert!(rt; matches!(optional, Some(Statement::Optional)));
+    let end = said(alloc, vec![in alloc; word("endchoice")]?)?;
+    assert!(rt; matches!(end, Some(Statement::EndChoice)));
+    Ok(())
+}
+
+#[test]
+fn types_with_values(rt: HostRuntime) -> Result<(), Fail> {
+    let alloc = rt.alloc();
+    let text = said(alloc, vec![in alloc; word("string")]?)?;
+    assert!(rt; matches!(text, Some(Statement::Type(SymbolType::String))));
+    let number = said(alloc, vec![in alloc; word("int"), quoted("B")]?)?;
+    assert!(rt; matches!(number, Some(Statement::TypeAndPrompt(SymbolType::Int, _))));
+    let hex = said(alloc, vec![in alloc; word("hex")]?)?;
+    assert!(rt; matches!(hex, Some(Statement::Type(SymbolType::Hex))));
+    Ok(())
+}
+
+/// Whether a statement is a range from a word that names nothing to the symbol `A`.
+fn is_range_to_symbol(statement: &Option<Statement>) -> bool {
+    match statement {
+        Some(Statement::Range(range)) => {
+            matches!(range.low, Term::Undefined(_)) && matches!(range.high, Term::Symbol(SymId(0)))
+        }
+        _ => false,
+    }
+}
+
+#[test]
+fn forms_of_ranges(rt: HostRuntime) -> Result<(), Fail> {
+    let alloc = rt.alloc();
+    let range = said(alloc, vec![in alloc; word("range"), word("1"), word("A")]?)?;
+    assert!(rt; is_range_to_symbol(&range));
+    let turned = said(alloc, vec![in alloc; word("range"), word("A"), word("1")]?)?;
+    assert!(rt; !is_range_to_symbol(&turned));
+    assert!(rt; said(alloc, vec![in alloc; word("range"), word("1")]?)?.is_none());
+    Ok(())
+}
+
+#[test]
 fn lines_without_form(rt: HostRuntime) -> Result<(), Fail> {
     let alloc = rt.alloc();
     assert!(rt; said(alloc, vec![in alloc; word("config"), word("y")]?)?.is_none());
@@ -55,5 +101,6 @@ fn lines_without_form(rt: HostRuntime) -> Result<(), Fail> {
     assert!(rt; said(alloc, vec![in alloc; word("help"), word("A")]?)?.is_none());
     assert!(rt; said(alloc, vec![in alloc; word("depends"), word("A")]?)?.is_none());
     assert!(rt; said(alloc, vec![in alloc; word("option"), word("env")]?)?.is_none());
+    assert!(rt; said(alloc, vec![in alloc; word("choice"), word("A")]?)?.is_none());
     Ok(())
 }

@@ -1,15 +1,18 @@
 //! What the lines of each definition and of each block read, collected once, and the rows of nodes from it.
 
 ghost use Rattle.std.specs.Prelude.{◌≡◌, ◌≤◌, List, [], ◌∷◌, ◌++◌, flat_map, filter_map, length, map, slice_get, slice_index_or, IfOk, OnOk};
+ghost use Rattle.std.specs.Option.{option_map_or};
+ghost use Rattle.kc_tree.specs.TreeValue.{definitions_of};
 ghost use Rattle.kc_tree.specs.declared.node.Node.{Node};
-ghost use Rattle.kc_tree.specs.Nodes.{number_of};
-ghost use Rattle.kc_tree.specs.Uses.{conditions_nodes, definition_nodes, prompt_nodes, reverse_nodes, type_nodes, visibility_nodes, symbol_value_nodes};
-ghost use Rattle.kc_tree.specs.Collected.{Adds, HaveSame, HasNodes, Holds, own_lists, depends_lists, visible_lists, dependency_at, depends_at, visible_at, block_numbers_at, defaults_at, prompt_own_at, prompted_at};
+ghost use Rattle.kc_tree.specs.Nodes.{number_in};
+ghost use Rattle.kc_tree.specs.Uses.{conditions_nodes, definition_nodes, prompt_nodes, reverse_nodes, type_nodes, visibility_nodes, symbol_value_nodes, mode_nodes, choice_prompt_nodes, choice_value_nodes};
+ghost use Rattle.kc_tree.specs.Collected.{Adds, HaveSame, HasNodes, Holds, own_lists, depends_lists, visible_lists, dependency_at, depends_at, visible_at, block_numbers_at, defaults_at, ranges_at, prompt_own_at, prompted_at};
 
 use super::reader::Reader;
 use super::scratch::{Scratch, without_repeats};
+use crate::choice::Choice;
 use crate::expr::Expr;
-use crate::id::SymId;
+use crate::id::{ChoiceId, SymId};
 use crate::node::Node;
 use crate::node_rows::NodeRows;
 use crate::outline::Outline;
@@ -23,9 +26,9 @@ pub struct Cache<'a> {
     own: NodeRows,
     depends: NodeRows,
     visible: NodeRows,
-    ghost own_is: { Holds (own_lists reader.outline.now) own },
-    ghost depends_is: { Holds (depends_lists reader.outline.now) depends },
-    ghost visible_is: { Holds (visible_lists reader.outline.now) visible },
+    ghost own_is: { Holds (length reader.outline.now.symbols) (own_lists reader.outline.now) own },
+    ghost depends_is: { Holds (length reader.outline.now.symbols) (depends_lists reader.outline.now) depends },
+    ghost visible_is: { Holds (length reader.outline.now.symbols) (visible_lists reader.outline.now) visible },
 }
 
 /// Adds a row of what conditions read, each node once.
@@ -36,18 +39,19 @@ fn collect_row(
     conditions: &[Expr],
 ) -> Result<(), AllocError>
     requires { length reader.now.outline.now.symbols ≤ 65535 }
-    ensures { OnOk result ((lists : List (List Node)) → Holds lists rows.old → Holds (lists ++ conditions_nodes reader.now.outline.now conditions.now ∷ []) rows.new) }
+    ensures { OnOk result ((lists : List (List Node)) → Holds (length reader.now.outline.now.symbols) lists rows.old → Holds (length reader.now.outline.now.symbols) (lists ++ conditions_nodes reader.now.outline.now conditions.now ∷ []) rows.new) }
 {
     row.clear();
     reader.add_conditions(row, conditions)?;
     without_repeats(row);
-    rows.add_row(row.as_slice())
+    let outline = reader.outline;
+    rows.add_row(outline.symbols.len(), row.as_slice())
 }
 
 /// What the own lines of each definition read.
 fn own_rows(alloc: Global, reader: &Reader<'_>) -> Result<NodeRows, AllocError>
     requires { length reader.now.outline.now.symbols ≤ 65535 }
-    ensures { IfOk result (λ rows. Holds (own_lists reader.now.outline.now) rows) }
+    ensures { IfOk result (λ rows. Holds (length reader.now.outline.now.symbols) (own_lists reader.now.outline.now) rows) }
 {
     let outline = reader.outline;
     let mut rows = NodeRows::with_capacity(alloc, outline.definitions.len())?;
@@ -61,7 +65,7 @@ fn own_rows(alloc: Global, reader: &Reader<'_>) -> Result<NodeRows, AllocError>
 /// What the lines of each block read that all inside depends on.
 fn depends_rows(alloc: Global, reader: &Reader<'_>) -> Result<NodeRows, AllocError>
     requires { length reader.now.outline.now.symbols ≤ 65535 }
-    ensures { IfOk result (λ rows. Holds (depends_lists reader.now.outline.now) rows) }
+    ensures { IfOk result (λ rows. Holds (length reader.now.outline.now.symbols) (depends_lists reader.now.outline.now) rows) }
 {
     let outline = reader.outline;
     let mut rows = NodeRows::with_capacity(alloc, outline.blocks.len())?;
@@ -75,7 +79,7 @@ fn depends_rows(alloc: Global, reader: &Reader<'_>) -> Result<NodeRows, AllocErr
 /// What the `visible if` lines of each block read.
 fn visible_rows(alloc: Global, reader: &Reader<'_>) -> Result<NodeRows, AllocError>
     requires { length reader.now.outline.now.symbols ≤ 65535 }
-    ensures { IfOk result (λ rows. Holds (visible_lists reader.now.outline.now) rows) }
+    ensures { IfOk result (λ rows. Holds (length reader.now.outline.now.symbols) (visible_lists reader.now.outline.now) rows) }
 {
     let outline = reader.outline;
     let mut rows = NodeRows::with_capacity(alloc, outline.blocks.len())?;
@@ -86,22 +90,29 @@ fn visible_rows(alloc: Global, reader: &Reader<'_>) -> Result<NodeRows, AllocErr
     Ok(rows)
 }
 
-/// Adds the numbers of nodes.
-fn add_nodes(row: &mut Vec<usize>, nodes: &[Node]) -> Result<(), AllocError>
-    ensures { OnOk result (row.new.items ≡ row.old.items ++ map number_of nodes.now) }
+/// Adds the numbers of nodes, in a tree of so many symbols.
+fn add_nodes(row: &mut Vec<usize>, symbols: usize, nodes: &[Node]) -> Result<(), AllocError>
+    requires { symbols ≤ 65535 }
+    ensures { OnOk result (row.new.items ≡ row.old.items ++ map (number_in symbols) nodes.now) }
 {
     for node in nodes {
-        row.push(node.number())?;
+        row.push(node.number_in(symbols))?;
     }
     Ok(())
 }
 
 /// Adds the rows of some numbers.
-fn add_rows(row: &mut Vec<usize>, rows: &NodeRows, numbers: &[usize]) -> Result<(), AllocError>
-    ensures { OnOk result (Adds row.old.items row.new.items (flat_map (λ j. slice_index_or rows.now j []) numbers.now)) }
+fn add_rows(
+    row: &mut Vec<usize>,
+    symbols: usize,
+    rows: &NodeRows,
+    numbers: &[usize],
+) -> Result<(), AllocError>
+    requires { symbols ≤ 65535 }
+    ensures { OnOk result (Adds symbols row.old.items row.new.items (flat_map (λ j. slice_index_or rows.now j []) numbers.now)) }
 {
     for number in numbers {
-        add_nodes(row, rows.row(*number))?;
+        add_nodes(row, symbols, rows.row(*number))?;
     }
     Ok(())
 }
@@ -125,24 +136,45 @@ impl<'a> Cache<'a> {
         })
     }
 
+    /// How many symbols there are.
+    fn symbol_count(&self) -> usize
+        ensures count { result ≡ length self.now.reader.outline.now.symbols }
+        ensures few { result ≤ 65535 }
+    {
+        let outline = self.reader.outline;
+        outline.symbols.len()
+    }
+
+    /// Adds the rows of some numbers, of a table that was collected once.
+    fn add_rows(
+        &self,
+        row: &mut Vec<usize>,
+        rows: &NodeRows,
+        numbers: &[usize],
+    ) -> Result<(), AllocError>
+        ensures { OnOk result (Adds (length self.now.reader.outline.now.symbols) row.old.items row.new.items (flat_map (λ j. slice_index_or rows.now j []) numbers.now)) }
+    {
+        add_rows(row, self.symbol_count(), rows, numbers)
+    }
+
     /// Adds what the definitions depend on, and finds the blocks around them.
     fn add_dependencies(
         &self,
         row: &mut Vec<usize>,
         scratch: &mut Scratch,
     ) -> Result<(), AllocError>
-        ensures added { OnOk result (Adds row.old.items row.new.items (flat_map (dependency_at self.now.reader.outline.now) scratch.old.definitions.items)) }
+        ensures added { OnOk result (Adds (length self.now.reader.outline.now.symbols) row.old.items row.new.items (flat_map (dependency_at self.now.reader.outline.now) scratch.old.definitions.items)) }
         ensures blocks { OnOk result (HaveSame scratch.new.blocks.items (flat_map (block_numbers_at self.now.reader.outline.now) scratch.old.definitions.items)) }
     {
         without_repeats(&mut scratch.definitions);
-        add_rows(row, &self.own, scratch.definitions.as_slice())?;
+        self.add_rows(row, &self.own, scratch.definitions.as_slice())?;
         scratch.find_blocks(self.reader.outline)?;
-        add_rows(row, &self.depends, scratch.blocks.as_slice())
+        self.add_rows(row, &self.depends, scratch.blocks.as_slice())
     }
 
     /// Adds what the defaults of a definition read.
     fn add_defaults_at(&self, row: &mut Vec<usize>, definition: usize) -> Result<(), AllocError>
-        ensures { OnOk result (Adds row.old.items row.new.items (defaults_at self.now.reader.outline.now definition)) }
+        ensures { OnOk result (Adds (length self.now.reader.outline.now.symbols) row.old.items row.new.items (defaults_at self.now.reader.outline.now definition)) }
     {
         let outline = self.reader.outline;
         match outline.definitions.get(definition) {
@@ -151,13 +183,34 @@ impl<'a> Cache<'a> {
         }
     }
 
+    /// Adds what the ranges of a definition read.
+    fn add_ranges_at(&self, row: &mut Vec<usize>, definition: usize) -> Result<(), AllocError>
+        ensures { OnOk result (Adds (length self.now.reader.outline.now.symbols) row.old.items row.new.items (ranges_at self.now.reader.outline.now definition)) }
+    {
+        let outline = self.reader.outline;
+        match outline.definitions.get(definition) {
+            Some(definition) => self.reader.add_ranges(row, definition.ranges()),
+            None => Ok(()),
+        }
+    }
+
+    /// Adds what the ranges of definitions read.
+    fn add_all_ranges(&self, row: &mut Vec<usize>, definitions: &[usize]) -> Result<(), AllocError>
+        ensures { OnOk result (Adds (length self.now.reader.outline.now.symbols) row.old.items row.new.items (flat_map (ranges_at self.now.reader.outline.now) definitions.now)) }
+    {
+        for definition in definitions {
+            self.add_ranges_at(row, *definition)?;
+        }
+        Ok(())
+    }
+
     /// Adds what the defaults of definitions read.
     fn add_all_defaults(
         &self,
         row: &mut Vec<usize>,
         definitions: &[usize],
     ) -> Result<(), AllocError>
-        ensures { OnOk result (Adds row.old.items row.new.items (flat_map (defaults_at self.now.reader.outline.now) definitions.now)) }
+        ensures { OnOk result (Adds (length self.now.reader.outline.now.symbols) row.old.items row.new.items (flat_map (defaults_at self.now.reader.outline.now) definitions.now)) }
     {
         for definition in definitions {
             self.add_defaults_at(row, *definition)?;
@@ -172,9 +225,10 @@ impl<'a> Cache<'a> {
         scratch: &mut Scratch,
         definitions: &[usize],
     ) -> Result<(), AllocError>
-        ensures { OnOk result (Adds row.old.items row.new.items (flat_map (definition_nodes self.now.reader.outline.now) (filter_map (slice_get self.now.reader.outline.now.definitions) definitions.now))) }
+        ensures { OnOk result (Adds (length self.now.reader.outline.now.symbols) row.old.items row.new.items (flat_map (definition_nodes self.now.reader.outline.now) (filter_map (slice_get self.now.reader.outline.now.definitions) definitions.now))) }
     {
         self.add_all_defaults(row, definitions)?;
+        self.add_all_ranges(row, definitions)?;
         scratch.take_definitions(definitions)?;
         self.add_dependencies(row, scratch)
     }
@@ -186,7 +240,7 @@ impl<'a> Cache<'a> {
         scratch: &mut Scratch,
         reverses: &[Reverse],
     ) -> Result<(), AllocError>
-        ensures { OnOk result (Adds row.old.items row.new.items (flat_map (reverse_nodes self.now.reader.outline.now) reverses.now)) }
+        ensures { OnOk result (Adds (length self.now.reader.outline.now.symbols) row.old.items row.new.items (flat_map (reverse_nodes self.now.reader.outline.now) reverses.now)) }
     {
         self.reader.add_sources(row, reverses)?;
         scratch.take_reverses(reverses)?;
@@ -200,7 +254,7 @@ impl<'a> Cache<'a> {
         prompted: &mut Vec<usize>,
         definition: usize,
     ) -> Result<(), AllocError>
-        ensures added { OnOk result (Adds row.old.items row.new.items (prompt_own_at self.now.reader.outline.now definition)) }
+        ensures added { OnOk result (Adds (length self.now.reader.outline.now.symbols) row.old.items row.new.items (prompt_own_at self.now.reader.outline.now definition)) }
         ensures prompted { OnOk result (prompted.new.items ≡ prompted.old.items ++ prompted_at self.now.reader.outline.now definition) }
     {
         let outline = self.reader.outline;
@@ -222,7 +276,7 @@ impl<'a> Cache<'a> {
         prompted: &mut Vec<usize>,
         definitions: &[usize],
     ) -> Result<(), AllocError>
-        ensures added { OnOk result (Adds row.old.items row.new.items (flat_map (prompt_own_at self.now.reader.outline.now) definitions.now)) }
+        ensures added { OnOk result (Adds (length self.now.reader.outline.now.symbols) row.old.items row.new.items (flat_map (prompt_own_at self.now.reader.outline.now) definitions.now)) }
         ensures prompted { OnOk result (prompted.new.items ≡ prompted.old.items ++ flat_map (prompted_at self.now.reader.outline.now) definitions.now) }
     {
         for definition in definitions {
@@ -238,21 +292,31 @@ impl<'a> Cache<'a> {
         scratch: &mut Scratch,
         definitions: &[usize],
     ) -> Result<(), AllocError>
-        ensures { OnOk result (Adds row.old.items row.new.items (flat_map (prompt_nodes self.now.reader.outline.now) (filter_map (slice_get self.now.reader.outline.now.definitions) definitions.now))) }
+        ensures { OnOk result (Adds (length self.now.reader.outline.now.symbols) row.old.items row.new.items (flat_map (prompt_nodes self.now.reader.outline.now) (filter_map (slice_get self.now.reader.outline.now.definitions) definitions.now))) }
     {
         scratch.definitions.clear();
         self.add_all_prompts(row, &mut scratch.definitions, definitions)?;
         self.add_dependencies(row, scratch)?;
-        add_rows(row, &self.visible, scratch.blocks.as_slice())
+        self.add_rows(row, &self.visible, scratch.blocks.as_slice())
     }
 
     /// Adds `MODULES` for a tristate.
     fn add_type(&self, row: &mut Vec<usize>, symbol: &Symbol) -> Result<(), AllocError>
-        ensures { OnOk result (Adds row.old.items row.new.items (type_nodes self.now.reader.outline.now symbol.now)) }
+        ensures { OnOk result (Adds (length self.now.reader.outline.now.symbols) row.old.items row.new.items (type_nodes self.now.reader.outline.now symbol.now)) }
     {
         match symbol.kind() {
             SymbolType::Tristate => self.reader.add_modules(row),
-            SymbolType::Bool => Ok(()),
+            SymbolType::Bool | SymbolType::String | SymbolType::Int | SymbolType::Hex => Ok(()),
+        }
+    }
+
+    /// Adds the mode of the choice that a symbol is a member of, if it is one.
+    fn add_own_mode(&self, row: &mut Vec<usize>, symbol: &Symbol) -> Result<(), AllocError>
+        ensures { OnOk result (Adds (length self.now.reader.outline.now.symbols) row.old.items row.new.items (option_map_or (mode_nodes self.now.reader.outline.now) symbol.now.choice [])) }
+    {
+        match symbol.choice() {
+            Some(choice) => self.reader.add_mode(row, choice),
+            None => Ok(()),
         }
     }
 
@@ -263,11 +327,12 @@ impl<'a> Cache<'a> {
         scratch: &mut Scratch,
         symbol: &Symbol,
     ) -> Result<(), AllocError>
-        ensures { OnOk result (HasNodes (visibility_nodes self.now.reader.outline.now symbol.now) row.new.items) }
+        ensures { OnOk result (HasNodes (length self.now.reader.outline.now.symbols) (visibility_nodes self.now.reader.outline.now symbol.now) row.new.items) }
     {
         row.clear();
         self.add_prompts(row, scratch, symbol.definitions())?;
         self.add_type(row, symbol)?;
+        self.add_own_mode(row, symbol)?;
         without_repeats(row);
         Ok(())
     }
@@ -280,14 +345,72 @@ impl<'a> Cache<'a> {
         id: SymId,
         symbol: &Symbol,
     ) -> Result<(), AllocError>
-        ensures { OnOk result (HasNodes (symbol_value_nodes self.now.reader.outline.now id symbol.now) row.new.items) }
+        ensures { OnOk result (HasNodes (length self.now.reader.outline.now.symbols) (symbol_value_nodes self.now.reader.outline.now id symbol.now) row.new.items) }
     {
         row.clear();
-        row.push(Node::Vis(id).number())?;
+        row.push(Node::Vis(id).number_in(self.symbol_count()))?;
+        match symbol.choice() {
+            Some(choice) => self.reader.add_choice_selection(row, choice)?,
+            None => self.add_free_value(row, scratch, symbol)?,
+        }
+        without_repeats(row);
+        Ok(())
+    }
+
+    /// Adds what the value of a symbol that is no member reads, besides its visibility.
+    fn add_free_value(
+        &self,
+        row: &mut Vec<usize>,
+        scratch: &mut Scratch,
+        symbol: &Symbol,
+    ) -> Result<(), AllocError>
+        ensures { OnOk result (Adds (length self.now.reader.outline.now.symbols) row.old.items row.new.items
+            (flat_map (definition_nodes self.now.reader.outline.now) (definitions_of self.now.reader.outline.now symbol.now)
+            ++ (flat_map (reverse_nodes self.now.reader.outline.now) symbol.now.selected
+            ++ (flat_map (reverse_nodes self.now.reader.outline.now) symbol.now.implied
+            ++ type_nodes self.now.reader.outline.now symbol.now)))) }
+    {
         self.add_definitions(row, scratch, symbol.definitions())?;
         self.add_reverses(row, scratch, symbol.selected())?;
         self.add_reverses(row, scratch, symbol.implied())?;
-        self.add_type(row, symbol)?;
+        self.add_type(row, symbol)
+    }
+
+    /// Makes the row of a choice's mode.
+    pub fn mode_row(
+        &self,
+        row: &mut Vec<usize>,
+        scratch: &mut Scratch,
+        choice: &Choice,
+    ) -> Result<(), AllocError>
+        ensures { OnOk result (HasNodes (length self.now.reader.outline.now.symbols) (choice_prompt_nodes self.now.reader.outline.now choice.now) row.new.items) }
+    {
+        row.clear();
+        let Some(own_prompt) = choice.prompt() else {
+            return Ok(());
+        };
+        self.reader.add_own_condition(row, &own_prompt.condition)?;
+        scratch.find_blocks_from(self.reader.outline, choice.block())?;
+        let blocks = scratch.blocks.as_slice();
+        self.add_rows(row, &self.depends, blocks)?;
+        self.add_rows(row, &self.visible, blocks)?;
+        without_repeats(row);
+        Ok(())
+    }
+
+    /// Makes the row of a choice's selection.
+    pub fn selection_row(
+        &self,
+        row: &mut Vec<usize>,
+        id: ChoiceId,
+        choice: &Choice,
+    ) -> Result<(), AllocError>
+        ensures { OnOk result (HasNodes (length self.now.reader.outline.now.symbols) (choice_value_nodes self.now.reader.outline.now id choice.now) row.new.items) }
+    {
+        row.clear();
+        self.reader.add_mode(row, id)?;
+        self.reader.add_visibilities(row, choice.members())?;
+        self.reader.add_choice_defaults(row, choice.defaults())?;
         without_repeats(row);
         Ok(())
     }

@@ -125,6 +125,18 @@ impl Scratch {
         Ok(())
     }
 
+    /// Finds the blocks from one outwards.
+    pub fn find_blocks_from(
+        &mut self,
+        outline: &Outline,
+        innermost: BlockId,
+    ) -> Result<(), AllocError>
+        ensures { OnOk result (self.new.blocks.items ≡ block_numbers outline.now.blocks 64 (Some innermost)) }
+    {
+        self.blocks.clear();
+        add_blocks_from(outline, &mut self.blocks, Some(innermost))
+    }
+
     /// Finds the blocks around the definitions.
     pub fn find_blocks(&mut self, outline: &Outline) -> Result<(), AllocError>
         ensures { OnOk result (HaveSame self.new.blocks.items (flat_map (block_numbers_at outline.now) self.old.definitions.items)) }

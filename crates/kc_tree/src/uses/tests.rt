@@ -18,6 +18,7 @@ fn plain(alloc: Global, symbol: u32) -> Definition {
         prompt: None,
         has_second_prompt: false,
         defaults: Vec::new(alloc),
+        ranges: Vec::new(alloc),
     }
 }
 
@@ -31,9 +32,11 @@ fn symbol(
     Ok(Symbol {
         kind: Some(kind),
         has_other_type: false,
+        choice: None,
         definitions: vec![in alloc; definition]?,
         selected,
         implied: Vec::new(alloc),
+        has_selections: false,
         has_modules: false,
         is_yes_in_allnoconfig: false,
     })
@@ -72,6 +75,7 @@ fn outline(alloc: Global) -> Result<Outline, AllocError> {
                 condition: None
             },
         ]?,
+        ranges: Vec::new(alloc),
     };
     let select = Reverse {
         by: SymId(0),
@@ -94,6 +98,7 @@ fn outline(alloc: Global) -> Result<Outline, AllocError> {
         ]?,
         definitions: vec![in alloc; first, plain(alloc, 1), plain(alloc, 2), plain(alloc, 3)]?,
         blocks: vec![in alloc; block]?,
+        choices: Vec::new(alloc),
         comments: Vec::new(alloc),
         entries: Vec::new(alloc),
     })
@@ -104,6 +109,7 @@ fn rows_have_what_nodes_read(rt: HostRuntime) -> Result<(), Fail> {
     let alloc = rt.alloc();
     let outline = outline(alloc)?;
     assert!(rt; outline.symbols.len() == 4 && outline.names.len() == 4);
+    assert!(rt; outline.choices.is_empty());
     let rows = used_rows(alloc, &outline)?;
     let expected: [&[usize]; 8] = [
         &[3, 5, 7],
@@ -120,7 +126,7 @@ fn rows_have_what_nodes_read(rt: HostRuntime) -> Result<(), Fail> {
         let row = rows.row(number);
         assert_eq!(rt; row.len(), numbers.len());
         for (node, used) in row.iter().zip(numbers.iter()) {
-            assert_eq!(rt; node.number(), *used);
+            assert_eq!(rt; node.number_in(4), *used);
         }
     }
     Ok(())

@@ -25,6 +25,18 @@ fn faults_of_a_kconfig_are_told(rt: HostRuntime) -> Result<(), Fail> {
         ),
         ("config A\nbool \"a\"\nmodules\n", "kconf: K18 A\n"),
         ("config MODULES\ntristate \"m\"\n", "kconf: K18 MODULES\n"),
+        ("config I\nint \"i\"\ndefault \"x\"\n", "kconf: K15 I\n"),
+        (
+            "config S\nstring \"s\"\nselect A\nconfig A\nbool \"a\"\n",
+            "kconf: K16 S\n",
+        ),
+        (
+            "choice\nconfig P\nbool \"p\"\nendchoice\n",
+            "kconf: Kconfig:1: K17\n",
+        ),
+        ("choice\nmenu \"m\"\n", "kconf: Kconfig:2: K20\n"),
+        ("optional\n", "kconf: Kconfig:1: K06\n"),
+        ("endchoice\n", "kconf: Kconfig:1: K07\n"),
     ];
     for (kconfig, want) in rows {
         let outcome = run_session(rt.alloc(), kconfig.as_bytes(), b"config\n");
@@ -78,6 +90,39 @@ fn loops_are_told_by_their_nodes(rt: HostRuntime) -> Result<(), Fail> {
     assert_eq!(rt; modules.status, 1);
     let errors = std::str::from_utf8(modules.errors.as_slice())?;
     assert!(rt; tells_loop(errors, ["MODULES", "T"].as_slice()), "{errors}");
+    Ok(())
+}
+
+#[test]
+fn loops_of_choices_and_numbers_are_told(rt: HostRuntime) -> Result<(), Fail> {
+    let rows = [
+        (
+            "choice\nprompt \"c\"\nconfig P\nprompt \"p\"\nconfig Q\nbool \"q\"\ndepends on P\nendchoice\n",
+            ["P", "Q", "c"].as_slice(),
+        ),
+        ("config A\nint \"a\"\ndefault A\n", ["A"].as_slice()),
+        ("config A\nint \"a\"\nrange A 5\n", ["A"].as_slice()),
+        ("config A\nhex \"a\"\nrange 1 5 if A\n", ["A"].as_slice()),
+        ("config A\nstring \"a\" if A = \"x\"\n", ["A"].as_slice()),
+        (
+            "config A\nint \"a\"\ndefault 1 if B > 2\nconfig B\nint \"b\"\nrange 0 A\n",
+            ["A", "B"].as_slice(),
+        ),
+        (
+            "choice\nprompt \"c\" if P\nconfig P\nbool \"p\"\nendchoice\n",
+            ["P", "c"].as_slice(),
+        ),
+        (
+            "choice\nprompt \"c\"\ndefault P if P\nconfig P\nbool \"p\"\nendchoice\n",
+            ["P", "c"].as_slice(),
+        ),
+    ];
+    for (kconfig, names) in rows {
+        let outcome = run_session(rt.alloc(), kconfig.as_bytes(), b"config\n");
+        assert_eq!(rt; outcome.status, 1, "at {kconfig:?}");
+        let errors = std::str::from_utf8(outcome.errors.as_slice())?;
+        assert!(rt; tells_loop(errors, names), "at {kconfig:?}: {errors}");
+    }
     Ok(())
 }
 

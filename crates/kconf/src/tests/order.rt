@@ -45,13 +45,6 @@ fn unknown_and_left_out_words_come_first(rt: HostRuntime) -> Result<(), Fail> {
             "config A\nbool \"a\"\nhelp\n  frob\nfrob\n",
             "kconf: Kconfig:5: K04\n",
         ),
-        ("choice\nfrob\n", "kconf: Kconfig:1: K20\n"),
-        ("endchoice\n", "kconf: Kconfig:1: K20\n"),
-        ("string \"s\" if (\n", "kconf: Kconfig:1: K20\n"),
-        ("config A\nint\n", "kconf: Kconfig:2: K20\n"),
-        ("config A\nhex \"h\"\nfrob\n", "kconf: Kconfig:2: K20\n"),
-        ("range A B\n", "kconf: Kconfig:1: K20\n"),
-        ("optional\n", "kconf: Kconfig:1: K20\n"),
         ("rsource \"b\"\n", "kconf: Kconfig:1: K20\n"),
         ("osource b\n", "kconf: Kconfig:1: K20\n"),
         ("orsource\n", "kconf: Kconfig:1: K20\n"),
@@ -63,6 +56,68 @@ fn unknown_and_left_out_words_come_first(rt: HostRuntime) -> Result<(), Fail> {
         ("depends on A if B\n", "kconf: Kconfig:1: K20\n"),
         ("config A\ndepends on A if B\n", "kconf: Kconfig:2: K20\n"),
         ("config A\ndepends on if\n", "kconf: Kconfig:2: K20\n"),
+        ("choice\nfrob\n", "kconf: Kconfig:2: K04\n"),
+        ("config A\nint i\n", "kconf: Kconfig:2: K20\n"),
+        ("config A\nhex \"h\"\nfrob\n", "kconf: Kconfig:3: K04\n"),
+        ("string s\n", "kconf: Kconfig:1: K20\n"),
+        ("hex $(X)\n", "kconf: Kconfig:1: K20\n"),
+        ("config A\nstring if A\n", "kconf: Kconfig:2: K20\n"),
+        ("choice\ndef_int 1\n", "kconf: Kconfig:2: K20\n"),
+    ];
+    for (kconfig, want) in rows {
+        let outcome = run_session(rt.alloc(), kconfig.as_bytes(), b"config\n");
+        assert_eq!(rt;
+            outcome.errors.as_slice(),
+            want.as_bytes(),
+            "at {kconfig:?}"
+        );
+        assert_eq!(rt; outcome.status, 1, "at {kconfig:?}");
+        assert_eq!(rt; outcome.output.as_slice(), b"".as_slice(), "at {kconfig:?}");
+    }
+    Ok(())
+}
+
+#[test]
+fn forms_of_choices_that_are_left_out_come_first(rt: HostRuntime) -> Result<(), Fail> {
+    let rows = [
+        ("choice A\n", "kconf: Kconfig:1: K20\n"),
+        ("choice \"c\"\n", "kconf: Kconfig:1: K20\n"),
+        ("choice if y\n", "kconf: Kconfig:1: K20\n"),
+        ("choice (\n", "kconf: Kconfig:1: K20\n"),
+        ("choice A\nfrob\n", "kconf: Kconfig:1: K20\n"),
+        ("choice\nmenu \"m\"\n", "kconf: Kconfig:2: K20\n"),
+        ("choice\nmenu\n", "kconf: Kconfig:2: K20\n"),
+        ("choice\nmenu m\n", "kconf: Kconfig:2: K20\n"),
+        ("choice\nchoice\n", "kconf: Kconfig:2: K20\n"),
+        ("choice\nchoice A\n", "kconf: Kconfig:2: K20\n"),
+        ("choice\nif y\nmenu \"m\"\n", "kconf: Kconfig:3: K20\n"),
+        ("choice\nif y\nchoice\n", "kconf: Kconfig:3: K20\n"),
+        (
+            "choice\nif y\nendif\nmenu \"m\"\n",
+            "kconf: Kconfig:4: K20\n",
+        ),
+        (
+            "menu \"m\"\nchoice\nconfig P\nchoice\n",
+            "kconf: Kconfig:4: K20\n",
+        ),
+        ("choice\ntristate\n", "kconf: Kconfig:2: K20\n"),
+        ("choice\ntristate \"c\"\n", "kconf: Kconfig:2: K20\n"),
+        ("choice\ntristate \"c\" if\n", "kconf: Kconfig:2: K20\n"),
+        (
+            "choice\ndepends on A\ntristate (\n",
+            "kconf: Kconfig:3: K20\n",
+        ),
+        ("choice\nbool c\n", "kconf: Kconfig:2: K20\n"),
+        ("choice\nbool if A\n", "kconf: Kconfig:2: K20\n"),
+        ("choice\nint c\n", "kconf: Kconfig:2: K20\n"),
+        ("choice\nprompt c\n", "kconf: Kconfig:2: K20\n"),
+        ("choice\ndepends on A if B\n", "kconf: Kconfig:2: K20\n"),
+        ("choice\noption env=\"X\"\n", "kconf: Kconfig:2: K20\n"),
+        ("choice\noption defconfig_list\n", "kconf: Kconfig:2: K20\n"),
+        (
+            "choice\nprompt \"c\"\nconfig P\ntristate \"p\"\nendchoice\nmenu m\n",
+            "kconf: Kconfig:6: K20\n",
+        ),
     ];
     for (kconfig, want) in rows {
         let outcome = run_session(rt.alloc(), kconfig.as_bytes(), b"config\n");
@@ -147,6 +202,46 @@ fn stray_attributes_come_before_forms(rt: HostRuntime) -> Result<(), Fail> {
             "config A\nbool \"a\"\nif y\nimply\n",
             "kconf: Kconfig:4: K06\n",
         ),
+        ("string \"s\" if (\n", "kconf: Kconfig:1: K06\n"),
+        ("range A B\n", "kconf: Kconfig:1: K06\n"),
+        ("range\n", "kconf: Kconfig:1: K06\n"),
+        ("int\n", "kconf: Kconfig:1: K06\n"),
+        ("hex (\n", "kconf: Kconfig:1: K06\n"),
+        ("optional\n", "kconf: Kconfig:1: K06\n"),
+        ("optional x\n", "kconf: Kconfig:1: K06\n"),
+        ("config A\noptional\n", "kconf: Kconfig:2: K06\n"),
+        ("config A\noptional x\n", "kconf: Kconfig:2: K06\n"),
+        ("menu \"m\"\noptional\n", "kconf: Kconfig:2: K06\n"),
+        ("comment \"c\"\noptional\n", "kconf: Kconfig:2: K06\n"),
+        ("if y\noptional\n", "kconf: Kconfig:2: K06\n"),
+        ("choice\nconfig P\noptional\n", "kconf: Kconfig:3: K06\n"),
+        ("choice\nif y\noptional\n", "kconf: Kconfig:3: K06\n"),
+        (
+            "choice\ncomment \"c\"\noptional\n",
+            "kconf: Kconfig:3: K06\n",
+        ),
+        ("choice\nendchoice\noptional\n", "kconf: Kconfig:3: K06\n"),
+        ("choice\nint\n", "kconf: Kconfig:2: K06\n"),
+        ("choice\nstring \"c\"\n", "kconf: Kconfig:2: K06\n"),
+        ("choice\nhex \"c\" if\n", "kconf: Kconfig:2: K06\n"),
+        ("choice\ndef_bool y\n", "kconf: Kconfig:2: K06\n"),
+        ("choice\ndef_tristate y\n", "kconf: Kconfig:2: K06\n"),
+        ("choice\nselect A\n", "kconf: Kconfig:2: K06\n"),
+        ("choice\nimply\n", "kconf: Kconfig:2: K06\n"),
+        ("choice\nrange 1 2\n", "kconf: Kconfig:2: K06\n"),
+        ("choice\nmodules\n", "kconf: Kconfig:2: K06\n"),
+        ("choice\noption allnoconfig_y\n", "kconf: Kconfig:2: K06\n"),
+        ("choice\nvisible if A\n", "kconf: Kconfig:2: K06\n"),
+        ("menu \"m\"\nrange 1 2\n", "kconf: Kconfig:2: K06\n"),
+        ("comment \"c\"\nstring\n", "kconf: Kconfig:2: K06\n"),
+        (
+            "choice\nendchoice\nprompt \"c\"\n",
+            "kconf: Kconfig:3: K06\n",
+        ),
+        (
+            "choice\nmainmenu \"m\"\ndefault A\n",
+            "kconf: Kconfig:3: K06\n",
+        ),
     ];
     for (kconfig, want) in rows {
         let outcome = run_session(rt.alloc(), kconfig.as_bytes(), b"config\n");
@@ -186,6 +281,38 @@ fn a_line_without_form_comes_before_later_lines(rt: HostRuntime) -> Result<(), F
         ("menu \"m\"\nvisible if A if B\n", "kconf: Kconfig:2: K05\n"),
         ("if\nendmenu\n", "kconf: Kconfig:1: K05\n"),
         ("if A =\nendif\n", "kconf: Kconfig:1: K05\n"),
+        ("config A\nrange\n", "kconf: Kconfig:2: K05\n"),
+        ("config A\nrange 1\n", "kconf: Kconfig:2: K05\n"),
+        ("config A\nrange 1 2 3\n", "kconf: Kconfig:2: K05\n"),
+        ("config A\nrange 1 2 if\n", "kconf: Kconfig:2: K05\n"),
+        ("config A\nrange (1) 2\n", "kconf: Kconfig:2: K05\n"),
+        ("config A\nrange 1 2 if A B\n", "kconf: Kconfig:2: K05\n"),
+        ("config A\nrange if 2\n", "kconf: Kconfig:2: K05\n"),
+        ("config A\nrange 1 if B\n", "kconf: Kconfig:2: K05\n"),
+        ("config A\nint \"a\" \"b\"\n", "kconf: Kconfig:2: K05\n"),
+        ("config A\nstring \"a\" if\n", "kconf: Kconfig:2: K05\n"),
+        ("config A\nhex < \"a\"\n", "kconf: Kconfig:2: K05\n"),
+        (
+            "config A\nstring \"a\"\ndefault \"x\" \"y\"\n",
+            "kconf: Kconfig:3: K05\n",
+        ),
+        (
+            "config A\nint \"a\"\ndefault if A\n",
+            "kconf: Kconfig:3: K05\n",
+        ),
+        ("choice\noptional x\n", "kconf: Kconfig:2: K05\n"),
+        ("choice\noptional \"x\"\nfrob\n", "kconf: Kconfig:2: K05\n"),
+        ("choice\ndefault \"A\"\n", "kconf: Kconfig:2: K05\n"),
+        ("choice\ndefault y\n", "kconf: Kconfig:2: K05\n"),
+        ("choice\ndefault A && B\n", "kconf: Kconfig:2: K05\n"),
+        ("choice\ndefault (A)\n", "kconf: Kconfig:2: K05\n"),
+        ("choice\ndefault A if\n", "kconf: Kconfig:2: K05\n"),
+        ("choice\ndefault\n", "kconf: Kconfig:2: K05\n"),
+        ("choice\nbool \"a\" \"b\"\n", "kconf: Kconfig:2: K05\n"),
+        ("choice\nbool \"a\" if\n", "kconf: Kconfig:2: K05\n"),
+        ("choice\nprompt\n", "kconf: Kconfig:2: K05\n"),
+        ("choice\nhelp x\n", "kconf: Kconfig:2: K05\n"),
+        ("choice\ndepends A\n", "kconf: Kconfig:2: K05\n"),
     ];
     for (kconfig, want) in rows {
         let outcome = run_session(rt.alloc(), kconfig.as_bytes(), b"config\n");
@@ -216,6 +343,22 @@ fn blocks_come_before_forms(rt: HostRuntime) -> Result<(), Fail> {
         ("if y\nif\n", "kconf: Kconfig:2: K05\n"),
         (
             "if y\nconfig A\nbool \"a\"\ndefault A\n",
+            "kconf: Kconfig:5: K07\n",
+        ),
+        ("endchoice\n", "kconf: Kconfig:1: K07\n"),
+        ("endchoice x\n", "kconf: Kconfig:1: K07\n"),
+        ("menu \"m\"\nendchoice\n", "kconf: Kconfig:2: K07\n"),
+        ("if y\nendchoice x\n", "kconf: Kconfig:2: K07\n"),
+        ("choice\nendif\n", "kconf: Kconfig:2: K07\n"),
+        ("choice\nendmenu\n", "kconf: Kconfig:2: K07\n"),
+        ("choice\nif y\nendchoice\n", "kconf: Kconfig:3: K07\n"),
+        ("choice\nendchoice\nendchoice\n", "kconf: Kconfig:3: K07\n"),
+        ("choice\nendchoice x\n", "kconf: Kconfig:2: K05\n"),
+        ("choice\n", "kconf: Kconfig:2: K07\n"),
+        ("choice\noptional\n", "kconf: Kconfig:3: K07\n"),
+        ("choice\nconfig P\n", "kconf: Kconfig:3: K07\n"),
+        (
+            "choice\nconfig P\nint \"p\"\ndefault \"x\"\n",
             "kconf: Kconfig:5: K07\n",
         ),
     ];
@@ -296,6 +439,128 @@ fn symbols_come_after_lines(rt: HostRuntime) -> Result<(), Fail> {
             "kconf: Kconfig:4: K07\n",
         ),
         ("config A\nfrob\n", "kconf: Kconfig:2: K04\n"),
+        (
+            "config A\nint \"a\"\ndefault \"x\"\nconfig B\n",
+            "kconf: K12 B\n",
+        ),
+        (
+            "choice\nconfig P\nbool \"p\"\nendchoice\nconfig B\n",
+            "kconf: K12 B\n",
+        ),
+        (
+            "config A\nbool \"a\"\nselect S\nconfig S\nstring\nconfig B\n",
+            "kconf: K12 B\n",
+        ),
+        (
+            "config A\nint \"a\"\ndefault \"x\"\nconfig B\nbool\nint\n",
+            "kconf: K13 B\n",
+        ),
+        ("config A\nstring \"a\"\nhex\n", "kconf: K13 A\n"),
+        ("config A\nint \"a\"\nconfig A\nhex\n", "kconf: K13 A\n"),
+        ("config A\ndef_bool y\nstring \"a\"\n", "kconf: K13 A\n"),
+        (
+            "choice\nconfig P\nbool \"p\"\ntristate\nendchoice\n",
+            "kconf: K13 P\n",
+        ),
+        (
+            "config A\nint \"a\"\ndefault \"x\"\nconfig B\nbool \"b\"\nprompt \"c\"\n",
+            "kconf: K14 B\n",
+        ),
+        (
+            "config A\nstring \"a\"\nprompt \"b\"\nconfig S\nbool\nrange 1 2\n",
+            "kconf: K14 A\n",
+        ),
+        (
+            "choice\nconfig P\nbool \"p\"\nprompt \"q\"\nendchoice\n",
+            "kconf: K14 P\n",
+        ),
+        (
+            "config A\nbool \"a\"\nselect S\nconfig S\nstring \"s\"\nconfig I\nint \"i\"\ndefault \"x\"\n",
+            "kconf: K15 I\n",
+        ),
+        (
+            "choice\nendchoice\nconfig I\nint \"i\"\nrange 1 0x5\n",
+            "kconf: K15 I\n",
+        ),
+        (
+            "config B\nhex \"b\"\ndefault \"g\"\nconfig A\nint \"a\"\ndefault \"x\"\n",
+            "kconf: K15 B\n",
+        ),
+        (
+            "config A\nbool \"a\"\nmodules\nconfig I\nbool \"i\"\nrange 1 2\n",
+            "kconf: K15 I\n",
+        ),
+        (
+            "config A\nint \"a\"\ndefault A\nrange 1x A\n",
+            "kconf: K15 A\n",
+        ),
+        (
+            "choice\nprompt \"c\"\nconfig P\nprompt \"p\"\nrange 1 2\nendchoice\n",
+            "kconf: K15 P\n",
+        ),
+        (
+            "config I\nint \"i\"\ndefault J\nconfig J\nint \"j\"\ndefault 1 || 2\n",
+            "kconf: K15 J\n",
+        ),
+        (
+            "choice\nendchoice\nconfig A\nbool \"a\"\nselect S\nconfig S\nint\n",
+            "kconf: K16 S\n",
+        ),
+        (
+            "config S\nstring \"s\"\nselect A\nconfig A\nbool \"a\"\n",
+            "kconf: K16 S\n",
+        ),
+        (
+            "config S\nhex \"s\"\nimply A\nconfig A\nbool \"a\"\n",
+            "kconf: K16 S\n",
+        ),
+        (
+            "config A\nbool \"a\"\nimply S if n\nconfig S\nint \"s\"\n",
+            "kconf: K16 S\n",
+        ),
+        ("config I\nint \"i\"\nselect U\n", "kconf: K16 I\n"),
+        (
+            "config A\nbool\nselect S\nconfig H\nhex\nimply A\nconfig S\nstring\n",
+            "kconf: K16 H\n",
+        ),
+        (
+            "config A\nbool \"a\"\nmodules\nimply S\nconfig S\nstring\n",
+            "kconf: K16 S\n",
+        ),
+        (
+            "config A\nbool \"a\"\ndefault A\nselect S\nconfig S\nstring\n",
+            "kconf: K16 S\n",
+        ),
+        (
+            "config A\nbool \"a\"\nmodules\nchoice\nendchoice\n",
+            "kconf: Kconfig:4: K17\n",
+        ),
+        (
+            "config MODULES\ntristate \"m\"\nchoice\nprompt \"c\"\nconfig P\nbool\nendchoice\n",
+            "kconf: Kconfig:3: K17\n",
+        ),
+        (
+            "config A\nbool \"a\"\ndefault A\nchoice\nendchoice\n",
+            "kconf: Kconfig:4: K17\n",
+        ),
+        (
+            "choice\nprompt \"c\"\nconfig P\nbool \"p\"\nconfig Q\nbool \"q\"\ndepends on P\nendchoice\nchoice\nendchoice\n",
+            "kconf: Kconfig:9: K17\n",
+        ),
+        ("config MODULES\nint \"m\"\n", "kconf: K18 MODULES\n"),
+        (
+            "config MODULES\nstring \"m\"\nmodules\n",
+            "kconf: K18 MODULES\n",
+        ),
+        ("config S\nstring \"s\"\nmodules\n", "kconf: K18 S\n"),
+        (
+            "config I\nint \"i\"\nrange I 5\noption modules\n",
+            "kconf: K18 I\n",
+        ),
+        (
+            "choice\nprompt \"c\"\nconfig P\nbool \"p\"\nmodules\nendchoice\n",
+            "kconf: K18 P\n",
+        ),
     ];
     for (kconfig, want) in rows {
         let outcome = run_session(rt.alloc(), kconfig.as_bytes(), b"config\n");
@@ -331,6 +596,9 @@ fn limits_of_blocks_come_last(rt: HostRuntime) -> Result<(), Fail> {
         (64, "endmenu\n", "kconf: Kconfig:65: K07\n"),
         (64, "if\n", "kconf: Kconfig:65: K05\n"),
         (64, "menu \"m\"\n", "kconf: Kconfig:65: K01\n"),
+        (64, "choice\n", "kconf: Kconfig:65: K01\n"),
+        (64, "choice A\n", "kconf: Kconfig:65: K20\n"),
+        (64, "endchoice\n", "kconf: Kconfig:65: K07\n"),
         (64, "endif\nif y\nif y\n", "kconf: Kconfig:67: K01\n"),
     ];
     for (count, last, want) in rows {
@@ -346,7 +614,12 @@ fn limits_of_blocks_come_last(rt: HostRuntime) -> Result<(), Fail> {
 fn limits_of_expressions_come_before_forms(rt: HostRuntime) -> Result<(), Fail> {
     let rows = [
         ("frob ", '(', "kconf: Kconfig:1: K04\n"),
-        ("string ", '!', "kconf: Kconfig:1: K20\n"),
+        ("string ", '!', "kconf: Kconfig:1: K06\n"),
+        ("string s ", '!', "kconf: Kconfig:1: K20\n"),
+        ("choice ", '(', "kconf: Kconfig:1: K20\n"),
+        ("endchoice ", '(', "kconf: Kconfig:1: K07\n"),
+        ("choice\noptional ", '!', "kconf: Kconfig:2: K01\n"),
+        ("config A\nrange ", '(', "kconf: Kconfig:2: K01\n"),
         ("bool a ", '(', "kconf: Kconfig:1: K20\n"),
         ("depends on if ", '!', "kconf: Kconfig:1: K20\n"),
         ("default ", '(', "kconf: Kconfig:1: K06\n"),
@@ -374,6 +647,14 @@ fn a_block_belongs_to_its_file(rt: HostRuntime) -> Result<(), Fail> {
     let rows = [
         ("source \"opens\"\nendif\n", "kconf: opens:2: K07\n"),
         ("if y\nsource \"closes\"\n", "kconf: closes:1: K07\n"),
+        ("choice\nsource \"ends\"\n", "kconf: ends:1: K07\n"),
+        ("choice\nsource \"opens\"\n", "kconf: opens:2: K07\n"),
+        ("source \"starts\"\nendchoice\n", "kconf: starts:2: K07\n"),
+        (
+            "choice\nsource \"empty\"\nendchoice\n",
+            "kconf: Kconfig:1: K17\n",
+        ),
+        ("source \"bare\"\n", "kconf: bare:2: K17\n"),
         ("if y\nsource \"empty\"\n", "kconf: Kconfig:3: K07\n"),
         (
             "config A\nsource \"empty\"\ndefault y\n",
@@ -386,6 +667,9 @@ fn a_block_belongs_to_its_file(rt: HostRuntime) -> Result<(), Fail> {
             ("Kconfig", kconfig.as_bytes()),
             ("opens", b"if y\n".as_slice()),
             ("closes", b"endif x\n".as_slice()),
+            ("starts", b"choice\n".as_slice()),
+            ("ends", b"endchoice\n".as_slice()),
+            ("bare", b"\nchoice\nendchoice\n".as_slice()),
             ("empty", b"".as_slice()),
         ];
         let words = ["kconf", "session", "Kconfig", "-"];

@@ -23,22 +23,22 @@ pub returns-in_err-node-clause-grew : goal.returns-in_err-node-clause-grew
 returns-in_err-node-clause-grew g c =
     let laws = g.met.R.Resolver in
     let s = c.args.symbol in
-    laws.grew_wider _ _ (Val s ∷ []) (both s) (Reached-wider _ (Val s ∷ []) (both s) (in_second s)) c.node.follows.holds-at-none.2
+    let first = laws.grew_wider _ _ (Val s ∷ []) (both s) (Reached-wider _ (Val s ∷ []) (both s) (in_second s)) c.shown_text.ensures.grew in
+    let second = laws.grew_wider _ _ (Vis s ∷ []) (both s) (Reached-wider _ (Vis s ∷ []) (both s) (in_first s)) c.node.follows.holds-at-none.2 in
+    laws.grew_wider _ _ (both s ++ both s) (both s) (Reached-wider _ (both s ++ both s) (both s) (in_both s)) (laws.grew_then _ _ _ (both s) (both s) first second)
 
-pub returns-in_err-node-2-clause-grew : goal.returns-in_err-node-2-clause-grew
-returns-in_err-node-2-clause-grew g c =
+pub returns-in_err-value-clause-grew : goal.returns-in_err-value-clause-grew
+returns-in_err-value-clause-grew g c =
     let laws = g.met.R.Resolver in
     let s = c.args.symbol in
-    let first = laws.grew_wider _ _ (Val s ∷ []) (both s) (Reached-wider _ (Val s ∷ []) (both s) (in_second s)) c.node.follows.holds-at-none.2 in
-    let second = laws.grew_wider _ _ (Vis s ∷ []) (both s) (Reached-wider _ (Vis s ∷ []) (both s) (in_first s)) c.node-2.follows.holds-at-none.2 in
-    laws.grew_wider _ _ (both s ++ both s) (both s) (Reached-wider _ (both s ++ both s) (both s) (in_both s)) (laws.grew_then _ _ _ (both s) (both s) first second)
+    laws.grew_wider _ _ (Val s ∷ []) (both s) (Reached-wider _ (Val s ∷ []) (both s) (in_second s)) c.shown_text.ensures.grew
 
 pub returns-in_err-values-clause-grew : goal.returns-in_err-values-clause-grew
 returns-in_err-values-clause-grew g c =
     let laws = g.met.R.Resolver in
     let s = c.args.symbol in
-    let first = laws.grew_wider _ _ (Val s ∷ []) (both s) (Reached-wider _ (Val s ∷ []) (both s) (in_second s)) c.node.follows.holds-at-none.2 in
-    let second = laws.grew_wider _ _ (Vis s ∷ []) (both s) (Reached-wider _ (Vis s ∷ []) (both s) (in_first s)) c.node-2.follows.holds-at-none.2 in
+    let first = laws.grew_wider _ _ (Val s ∷ []) (both s) (Reached-wider _ (Val s ∷ []) (both s) (in_second s)) c.shown_text.ensures.grew in
+    let second = laws.grew_wider _ _ (Vis s ∷ []) (both s) (Reached-wider _ (Vis s ∷ []) (both s) (in_first s)) c.node.follows.holds-at-none.2 in
     let two = laws.grew_wider _ _ (both s ++ both s) (both s) (Reached-wider _ (both s ++ both s) (both s) (in_both s)) (laws.grew_then _ _ _ (both s) (both s) first second) in
     laws.grew_wider _ _ (both s ++ both s) (both s) (Reached-wider _ (both s ++ both s) (both s) (in_both s)) (laws.grew_then _ _ _ (both s) (both s) two c.assignable.ensures.grew)
 
@@ -46,7 +46,7 @@ pub returns-clause-grew : goal.returns-clause-grew
 returns-clause-grew g c =
     let laws = g.met.R.Resolver in
     let s = c.args.symbol in
-    let first = laws.grew_wider _ _ (Val s ∷ []) (both s) (Reached-wider _ (Val s ∷ []) (both s) (in_second s)) c.node.follows.holds-at-none.2 in
-    let second = laws.grew_wider _ _ (Vis s ∷ []) (both s) (Reached-wider _ (Vis s ∷ []) (both s) (in_first s)) c.node-2.follows.holds-at-none.2 in
+    let first = laws.grew_wider _ _ (Val s ∷ []) (both s) (Reached-wider _ (Val s ∷ []) (both s) (in_second s)) c.shown_text.ensures.grew in
+    let second = laws.grew_wider _ _ (Vis s ∷ []) (both s) (Reached-wider _ (Vis s ∷ []) (both s) (in_first s)) c.node.follows.holds-at-none.2 in
     let two = laws.grew_wider _ _ (both s ++ both s) (both s) (Reached-wider _ (both s ++ both s) (both s) (in_both s)) (laws.grew_then _ _ _ (both s) (both s) first second) in
     laws.grew_wider _ _ (both s ++ both s) (both s) (Reached-wider _ (both s ++ both s) (both s) (in_both s)) (laws.grew_then _ _ _ (both s) (both s) two c.assignable.ensures.grew)

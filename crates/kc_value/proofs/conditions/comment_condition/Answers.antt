@@ -11,7 +11,7 @@ use Rattle.kc_value.proofs.conditions.comment_condition.Goals as goal
 pub returns-in-Some : goal.returns-in-Some
 returns-in-Some c = λ a same.
     let t = c.args.tree.now in
-    let b = assignment_of c.args.env.now in
+    let b = assignment_of c.args.tree.now c.args.env.now in
     let i = c.args.comment.0 in
     let x = c.in-Some.comment.now in
     let found : slice_get t.comments i ≡ Some x =

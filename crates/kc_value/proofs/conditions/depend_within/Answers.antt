@@ -10,7 +10,7 @@ use Rattle.kc_value.proofs.conditions.depend_within.Goals as goal
 pub loop-preserved : goal.loop-preserved
 loop-preserved c =
     let t = c.args.tree.now in
-    let a = assignment_of c.args.env.now in
+    let a = assignment_of c.args.tree.now c.args.env.now in
     let left = c.args.limit - (c.loop.counter + 1) in
     let next = blocks_from-next t.blocks (c.args.limit - c.loop.counter) left c.loop.next c.in-Some.block.now (omega arith) (sym c.block_at.ensures ∙ ap (λ o. option_copied o) c.in-Some.is) in
     let invariant = rw next at c.loop.invariant in

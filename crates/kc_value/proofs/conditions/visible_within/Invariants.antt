@@ -7,5 +7,5 @@ use Rattle.kc_value.proofs.conditions.visible_within.Given as goal
 
 abbrev pub invariant-loop : goal.invariant-loop
 invariant-loop l =
-    let value = blocks_visible l.tree (assignment_of l.env) in
+    let value = blocks_visible l.tree (assignment_of l.tree l.env) in
     least l.least (value (blocks_from l.tree.blocks (l.limit - l.counter) l.next)) ≡ value (blocks_from l.tree.blocks l.limit l.fn.innermost)

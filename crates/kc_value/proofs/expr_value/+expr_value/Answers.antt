@@ -8,12 +8,12 @@ use Rattle.kc_value.proofs.expr_value.+expr_value.Goals as goal
 
 pub all_tri-returns : goal.all_tri-returns
 all_tri-returns t c =
-    let a = assignment_of c.args.env.now in
+    let a = assignment_of c.args.tree.now c.args.env.now in
     let e = joined_both c.args.tree.now a (bare_module c.args.tree.now a c.args.in_condition) (map formula c.args.parts.now) (search rules) in
     grind (arith, common_steps, e)
 
 pub any_tri-returns : goal.any_tri-returns
 any_tri-returns t c =
-    let a = assignment_of c.args.env.now in
+    let a = assignment_of c.args.tree.now c.args.env.now in
     let e = joined_either c.args.tree.now a (bare_module c.args.tree.now a c.args.in_condition) (map formula c.args.parts.now) in
     grind (arith, common_steps, e)

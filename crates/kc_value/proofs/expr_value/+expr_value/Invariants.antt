@@ -8,10 +8,10 @@ use Rattle.kc_value.proofs.expr_value.+expr_value.Given as goal
 
 abbrev pub invariant-all_tri-loop-part : goal.invariant-all_tri-loop-part
 invariant-all_tri-loop-part l =
-    let value = formula_value l.tree (assignment_of l.env) (bare_module l.tree (assignment_of l.env) l.in_condition) in
+    let value = formula_value l.tree (assignment_of l.tree l.env) (bare_module l.tree (assignment_of l.tree l.env) l.in_condition) in
     least l.least (least_of (map value (map formula (drop l.part-index l.parts)))) ≡ least_of (map value (map formula l.parts))
 
 abbrev pub invariant-any_tri-loop-part : goal.invariant-any_tri-loop-part
 invariant-any_tri-loop-part l =
-    let value = formula_value l.tree (assignment_of l.env) (bare_module l.tree (assignment_of l.env) l.in_condition) in
+    let value = formula_value l.tree (assignment_of l.tree l.env) (bare_module l.tree (assignment_of l.tree l.env) l.in_condition) in
     greatest l.greatest (greatest_of (map value (map formula (drop l.part-index l.parts)))) ≡ greatest_of (map value (map formula l.parts))

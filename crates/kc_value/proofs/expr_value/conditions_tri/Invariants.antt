@@ -6,5 +6,5 @@ use Rattle.kc_value.proofs.expr_value.conditions_tri.Given as goal
 
 abbrev pub invariant-loop-expr : goal.invariant-loop-expr
 invariant-loop-expr l =
-    least l.least (least_of (map (condition_value l.tree (assignment_of l.env)) (drop l.expr-index l.exprs)))
-    ≡ least_of (map (condition_value l.tree (assignment_of l.env)) l.exprs)
+    least l.least (least_of (map (condition_value l.tree (assignment_of l.tree l.env)) (drop l.expr-index l.exprs)))
+    ≡ least_of (map (condition_value l.tree (assignment_of l.tree l.env)) l.exprs)

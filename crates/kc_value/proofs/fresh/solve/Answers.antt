@@ -4,9 +4,8 @@ use Rattle.std.proofs.Math.ListN.{length-set}
 use Rattle.std.proofs.lemmas.List.{take_all, get_or_default}
 use Rattle.kc_tree.specs.declared.node.Node.{Node}
 use Rattle.kc_tree.specs.declared.node.Node.TheVariants.{Vis}
-use Rattle.kc_tree.specs.Nodes.{number_of}
-use Rattle.kc_tree.proofs.OrderLaws.{number_of-below}
-use Rattle.kc_tree.proofs.NodeNumbers.{same_node}
+use Rattle.kc_tree.specs.Nodes.{IsNodeOf, number_of}
+use Rattle.kc_tree.proofs.NodeNumbers.{same_node, number_below}
 use Rattle.kc_value.specs.Assignment.{assignment_of}
 use Rattle.kc_value.specs.Marks.{IsMarked}
 use Rattle.kc_value.specs.Rule.{rule}
@@ -24,6 +23,9 @@ returns-in_err-marks-clause-solved c = one_solution _ _ c.node_count-count.ensur
 pub returns-in_err-env-clause-solved : goal.returns-in_err-env-clause-solved
 returns-in_err-env-clause-solved c = one_solution _ _ c.node_count-count.ensures.accepted
 
+pub returns-in_err-value-clause-solved : goal.returns-in_err-value-clause-solved
+returns-in_err-value-clause-solved c = one_solution _ _ c.node_count-count.ensures.accepted
+
 pub returns-then-number-clause-solved : goal.returns-then-number-clause-solved
 returns-then-number-clause-solved c = one_solution _ _ c.node_count-count.ensures.accepted
 
@@ -32,8 +34,8 @@ index-requires c =
     let t = c.args.tree.now in
     let o = c.order-next-items in
     let next : Node = get_or o.result.now c.loop-next.next-index any in
-    let below = number_of-below t next (next_node t c.args.user.now o.ensures.accepted o.result.now o.ensures.order c.loop-next.next-index any c.loop-next-test.true) in
-    omega (arith, below, c.number.ensures, c.in_ok-marks.ensures.long, c.in_ok-marks.marks.ok.0)
+    let below = number_below t next (next_node t c.args.user.now o.ensures.accepted o.result.now o.ensures.order c.loop-next.next-index any c.loop-next-test.true) in
+    omega (arith, below, c.number-number.ensures.number, c.in_ok-marks.ensures.long, c.in_ok-marks.marks.ok.0)
 
 pub loop-next-preserved-then-not-index : goal.loop-next-preserved-then-not-index
 loop-next-preserved-then-not-index c =
@@ -44,15 +46,15 @@ loop-next-preserved-then-not-index c =
     let marks = c.in_ok-marks.marks.items in
     let kept = c.loop-next.invariant in
     let next : Node = get_or o.result.now i any in
-    let below = number_of-below t next (next_node t u o.ensures.accepted o.result.now o.ensures.order i any c.loop-next-test.true) in
-    let room : c.number.result < length marks = omega (arith, below, c.number.ensures, c.in_ok-marks.ensures.long) in
-    let flag : c.index.result.now ≡ get_or marks (number_of next) false = c.index.ensures ∙ get_or_default marks c.number.result c.index.result.now false room ∙ ap (λ k. get_or marks k false) c.number.ensures in
-    let unmarked : IsMarked marks next → ⊥ = λ m. true≢false (sym m ∙ sym flag ∙ c.if-not-index.true) in
+    let below = number_below t next (next_node t u o.ensures.accepted o.result.now o.ensures.order i any c.loop-next-test.true) in
+    let room : c.number-number.result < length marks = omega (arith, below, c.number-number.ensures.number, c.in_ok-marks.ensures.long) in
+    let flag : c.index.result.now ≡ get_or marks (number_of t next) false = c.index.ensures ∙ get_or_default marks c.number-number.result c.index.result.now false room ∙ ap (λ k. get_or marks k false) c.number-number.ensures.number in
+    let unmarked : IsMarked t marks next → ⊥ = λ m. true≢false (sym m ∙ sym flag ∙ c.if-not-index.true) in
     record {
       long = kept.long;
       right = right_passed t u o.ensures.accepted o.result.now o.ensures.order i any c.loop-next-test.true marks c.in_ok-marks.ensures.closed unmarked c.loop-next.env.items kept.right;
       not_yet = not_next t u o.ensures.accepted o.result.now o.ensures.order i any c.loop-next-test.true c.args.node kept.not_yet
-          (λ e. unmarked (subst (λ n. IsMarked marks n) (sym (same_node next c.args.node e)) c.in_ok-marks.ensures.asked));
+          (λ e. unmarked (subst (λ n. IsMarked t marks n) (sym (same_node t next c.args.node (next_node t u o.ensures.accepted o.result.now o.ensures.order i any c.loop-next-test.true) c.requires e)) c.in_ok-marks.ensures.asked));
     }
 
 pub returns-then-number-clause-value : goal.returns-then-number-clause-value
@@ -63,10 +65,10 @@ returns-then-number-clause-value c =
     let i = c.loop-next.next-index in
     let marks = c.in_ok-marks.marks.items in
     let next : Node = get_or o.result.now i any in
-    let same : next ≡ c.args.node = same_node next c.args.node (sym c.number-in-loop-next.ensures ∙ c.if-number.true ∙ c.number-in-loop-next-2.ensures) in
-    let marked : IsMarked marks next = subst (λ n. IsMarked marks n) (sym same) c.in_ok-marks.ensures.asked in
-    c.apply_rule-value.ensures
-    ∙ ap (λ env. rule t u (assignment_of env) next) c.as_slice.ensures.value
+    let same : next ≡ c.args.node = same_node t next c.args.node (next_node t u o.ensures.accepted o.result.now o.ensures.order i any c.loop-next-test.true) c.requires (sym c.number-number.ensures.number ∙ c.if-number.true ∙ c.number.ensures.number) in
+    let marked : IsMarked t marks next = subst (λ n. IsMarked t marks n) (sym same) c.in_ok-marks.ensures.asked in
+    c.in_ok-value.ensures
+    ∙ ap (λ env. rule t u (assignment_of t env) next) c.as_slice.ensures.value
     ∙ rule_next t u o.ensures.accepted o.result.now o.ensures.order i any c.loop-next-test.true marks c.in_ok-marks.ensures.closed marked c.loop-next.env.items c.loop-next.invariant.right
     ∙ ap (solution t u) same
 
@@ -75,8 +77,8 @@ index_mut-requires c =
     let t = c.args.tree.now in
     let o = c.order-next-items in
     let next : Node = get_or o.result.now c.loop-next.next-index any in
-    let below = number_of-below t next (next_node t c.args.user.now o.ensures.accepted o.result.now o.ensures.order c.loop-next.next-index any c.loop-next-test.true) in
-    omega (arith, below, c.number-in-loop-next-3.ensures, c.loop-next.invariant.long, c.loop-next.env.ok.0)
+    let below = number_below t next (next_node t c.args.user.now o.ensures.accepted o.result.now o.ensures.order c.loop-next.next-index any c.loop-next-test.true) in
+    omega (arith, below, c.number-number.ensures.number, c.loop-next.invariant.long, c.loop-next.env.ok.0)
 
 pub loop-next-preserved : goal.loop-next-preserved
 loop-next-preserved c =
@@ -88,21 +90,21 @@ loop-next-preserved c =
     let marks = c.in_ok-marks.marks.items in
     let kept = c.loop-next.invariant in
     let next : Node = get_or o.result.now i any in
-    let v = c.apply_rule-value.result in
-    let below = number_of-below t next (next_node t u o.ensures.accepted o.result.now o.ensures.order i any c.loop-next-test.true) in
-    let room : c.number.result < length marks = omega (arith, below, c.number.ensures, c.in_ok-marks.ensures.long) in
-    let flag : c.index.result.now ≡ get_or marks (number_of next) false = c.index.ensures ∙ get_or_default marks c.number.result c.index.result.now false room ∙ ap (λ k. get_or marks k false) c.number.ensures in
-    let marked : IsMarked marks next = sym flag ∙ c.if-not-index.false in
+    let v = c.in_ok-value.value in
+    let below = number_below t next (next_node t u o.ensures.accepted o.result.now o.ensures.order i any c.loop-next-test.true) in
+    let room : c.number-number.result < length marks = omega (arith, below, c.number-number.ensures.number, c.in_ok-marks.ensures.long) in
+    let flag : c.index.result.now ≡ get_or marks (number_of t next) false = c.index.ensures ∙ get_or_default marks c.number-number.result c.index.result.now false room ∙ ap (λ k. get_or marks k false) c.number-number.ensures.number in
+    let marked : IsMarked t marks next = sym flag ∙ c.if-not-index.false in
     let is : v ≡ solution t u next =
-    c.apply_rule-value.ensures
-    ∙ ap (λ e. rule t u (assignment_of e) next) c.as_slice.ensures.value
+    c.in_ok-value.ensures
+    ∙ ap (λ e. rule t u (assignment_of t e) next) c.as_slice.ensures.value
     ∙ rule_next t u o.ensures.accepted o.result.now o.ensures.order i any c.loop-next-test.true marks c.in_ok-marks.ensures.closed marked env kept.right
     in
-    let differs : number_of next ≡ number_of c.args.node → ⊥ = λ e. c.if-number.false (c.number-in-loop-next.ensures ∙ e ∙ sym c.number-in-loop-next-2.ensures) in
+    let differs : number_of t next ≡ number_of t c.args.node → ⊥ = λ e. c.if-number.false (c.number-number.ensures.number ∙ e ∙ sym c.number.ensures.number) in
     record {
-      long = length-set env c.number-in-loop-next-3.result (Some v) ∙ kept.long;
+      long = length-set env c.number-number.result (Some v) ∙ kept.long;
       right = λ m k p.
-          ap (λ n. assignment_of (slice_set env n (Some v)) m) c.number-in-loop-next-3.ensures
+          ap (λ n. assignment_of t (slice_set env n (Some v)) m) c.number-number.ensures.number
           ∙ right_next t u o.ensures.accepted o.result.now o.ensures.order i any c.loop-next-test.true marks c.in_ok-marks.ensures.closed env v kept.long is kept.right m k p;
       not_yet = not_next t u o.ensures.accepted o.result.now o.ensures.order i any c.loop-next-test.true c.args.node kept.not_yet differs;
     }

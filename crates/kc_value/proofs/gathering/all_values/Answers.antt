@@ -1,52 +1,63 @@
-use Rattle.std.proofs.Common.{◌≡◌, ◌<◌, [], ◌∷◌, ◌++◌, ap, ◌∙◌, subst, arith}
-use Rattle.kc_tree.specs.Nodes.{all_nodes, node_count, node_at}
-use Rattle.kc_value.proofs.GatheringLemmas.{once_more_in_all, one_more_value, all_values_right}
+use Rattle.std.proofs.Common.{[], ◌∷◌, ◌++◌, ℕ, length, drop, sym, ap, ◌∙◌, subst, arith}
+use Rattle.kc_tree.specs.Nodes.{IsNodeOf, all_nodes, node_at}
+use Rattle.kc_tree.proofs.NodeNumbers.{at_below}
+use Rattle.kc_value.proofs.GatheringLemmas.{once_more_in_all, one_more_counted, next_of_all, none_of_all, all_values_right}
 use Rattle.kc_value.proofs.gathering.all_values.Goals as goal
+
+pub value_at-requires : goal.value_at-requires
+value_at-requires g c =
+    let t = g.R.Resolver.tree_of c.args.resolver.now in
+    let n = c.in-Some.node in
+    let kept = c.loop-node.invariant in
+    let k : ℕ = length c.loop-node.values.items in
+    let next = next_of_all t k n c.next.new.self (sym c.in-Some.ensures.steps ∙ kept.left) in
+    subst (λ s. IsNodeOf s n) (sym kept.tree) (subst (λ m. IsNodeOf t m) (sym next.1) (at_below t k next.0))
 
 pub returns-in_err-value-clause-grew : goal.returns-in_err-value-clause-grew
 returns-in_err-value-clause-grew g c =
     let laws = g.met.R.Resolver in
     let r = g.R.Resolver in
     let t = r.tree_of c.args.resolver.now in
-    let k = c.loop-number.number in
-    let whole = c.node_count-count.ensures.count ∙ ap node_count c.tree.ensures in
-    let below : k < node_count t = subst (λ j. k < j) whole c.loop-number-test.true in
-    let one = subst (λ n. r.grew c.loop-number.resolver c.value_at.new.resolver (n ∷ [])) c.at.ensures c.value_at.ensures.grew in
-    laws.grew_wider _ _ (all_nodes t ++ node_at k ∷ []) (all_nodes t) (once_more_in_all t k below) (laws.grew_then _ _ _ (all_nodes t) (node_at k ∷ []) c.loop-number.invariant.grew one)
+    let k : ℕ = length c.loop-node.values.items in
+    let next = next_of_all t k c.in-Some.node c.next.new.self (sym c.in-Some.ensures.steps ∙ c.loop-node.invariant.left) in
+    let one = subst (λ n. r.grew c.loop-node.resolver c.value_at.new.resolver (n ∷ [])) next.1 c.value_at.ensures.grew in
+    laws.grew_wider _ _ (all_nodes t ++ node_at t k ∷ []) (all_nodes t) (once_more_in_all t k next.0) (laws.grew_then _ _ _ (all_nodes t) (node_at t k ∷ []) c.loop-node.invariant.grew one)
 
 pub returns-in_err-push-clause-grew : goal.returns-in_err-push-clause-grew
 returns-in_err-push-clause-grew g c =
     let laws = g.met.R.Resolver in
     let r = g.R.Resolver in
     let t = r.tree_of c.args.resolver.now in
-    let k = c.loop-number.number in
-    let whole = c.node_count-count.ensures.count ∙ ap node_count c.tree.ensures in
-    let below : k < node_count t = subst (λ j. k < j) whole c.loop-number-test.true in
-    let one = subst (λ n. r.grew c.loop-number.resolver c.value_at.new.resolver (n ∷ [])) c.at.ensures c.value_at.ensures.grew in
-    laws.grew_wider _ _ (all_nodes t ++ node_at k ∷ []) (all_nodes t) (once_more_in_all t k below) (laws.grew_then _ _ _ (all_nodes t) (node_at k ∷ []) c.loop-number.invariant.grew one)
+    let k : ℕ = length c.loop-node.values.items in
+    let next = next_of_all t k c.in-Some.node c.next.new.self (sym c.in-Some.ensures.steps ∙ c.loop-node.invariant.left) in
+    let one = subst (λ n. r.grew c.loop-node.resolver c.value_at.new.resolver (n ∷ [])) next.1 c.value_at.ensures.grew in
+    laws.grew_wider _ _ (all_nodes t ++ node_at t k ∷ []) (all_nodes t) (once_more_in_all t k next.0) (laws.grew_then _ _ _ (all_nodes t) (node_at t k ∷ []) c.loop-node.invariant.grew one)
 
-pub loop-number-preserved : goal.loop-number-preserved
-loop-number-preserved g c =
+pub loop-node-preserved : goal.loop-node-preserved
+loop-node-preserved g c =
     let laws = g.met.R.Resolver in
     let r = g.R.Resolver in
     let t = r.tree_of c.args.resolver.now in
     let u = r.user_of c.args.resolver.now in
-    let k = c.loop-number.number in
-    let kept = c.loop-number.invariant in
-    let whole = c.node_count-count.ensures.count ∙ ap node_count c.tree.ensures in
-    let below : k < node_count t = subst (λ j. k < j) whole c.loop-number-test.true in
-    let one = subst (λ n. r.grew c.loop-number.resolver c.value_at.new.resolver (n ∷ [])) c.at.ensures c.value_at.ensures.grew in
+    let kept = c.loop-node.invariant in
+    let k : ℕ = length c.loop-node.values.items in
+    let next = next_of_all t k c.in-Some.node c.next.new.self (sym c.in-Some.ensures.steps ∙ kept.left) in
+    let one = subst (λ n. r.grew c.loop-node.resolver c.value_at.new.resolver (n ∷ [])) next.1 c.value_at.ensures.grew in
+    let more = one_more_counted t _ u _ c.in-Some.node _ _ _ kept.tree kept.user next.1 c.in_ok-value.ensures.value kept.values c.in_ok-push.ensures.items in
     record {
       tree = c.value_at.ensures.tree ∙ kept.tree;
       user = c.value_at.ensures.user ∙ kept.user;
-      grew = laws.grew_wider _ _ (all_nodes t ++ node_at k ∷ []) (all_nodes t) (once_more_in_all t k below) (laws.grew_then _ _ _ (all_nodes t) (node_at k ∷ []) kept.grew one);
-      values = one_more_value t _ u _ k _ _ _ _ kept.tree kept.user c.at.ensures c.in_ok-value.ensures.value kept.values c.in_ok-push.ensures.items;
+      grew = laws.grew_wider _ _ (all_nodes t ++ node_at t k ∷ []) (all_nodes t) (once_more_in_all t k next.0) (laws.grew_then _ _ _ (all_nodes t) (node_at t k ∷ []) kept.grew one);
+      within = omega (arith, more.0, next.0);
+      left = next.2 ∙ ap (λ j. drop j (all_nodes t)) (sym more.0);
+      values = more.1;
     }
 
 pub returns-clause-values : goal.returns-clause-values
 returns-clause-values g c =
     let t = g.R.Resolver.tree_of c.args.resolver.now in
     let u = g.R.Resolver.user_of c.args.resolver.now in
-    let whole = c.node_count-count.ensures.count ∙ ap node_count c.tree.ensures in
-    let done : c.loop-number.number ≡ node_count t = omega (arith, whole, c.loop-number-test.false, c.loop-number.auto.number-end) in
-    all_values_right t u c.loop-number.number c.loop-number.values.items done c.loop-number.invariant.values
+    let kept = c.loop-node.invariant in
+    let k : ℕ = length c.loop-node.values.items in
+    let done = none_of_all t k kept.within (sym c.in-None.ensures.steps.0 ∙ kept.left) in
+    all_values_right t u k c.loop-node.values.items done kept.values

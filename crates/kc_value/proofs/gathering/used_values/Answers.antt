@@ -5,11 +5,11 @@ use Rattle.kc_tree.specs.declared.node.Node.{Node}
 use Rattle.kc_tree.specs.declared.node.Node.TheVariants.{Vis}
 use Rattle.kc_tree.specs.Nodes.{IsNodeOf, node_count, number_of}
 use Rattle.kc_tree.specs.Uses.{Uses}
-use Rattle.kc_tree.proofs.OrderLaws.{number_of-below}
+use Rattle.kc_tree.proofs.NodeNumbers.{number_below}
 use Rattle.kc_value.specs.Assignment.{assignment_of}
 use Rattle.kc_value.specs.Solution.{solution}
 use Rattle.kc_value.proofs.FillLemmas.{one_more_right}
-use Rattle.kc_value.proofs.GatheringLemmas.{used_in_one, used_at, used_in_all, used_is_node}
+use Rattle.kc_value.proofs.GatheringLemmas.{used_in_one, used_at, used_in_all, used_is_node, used_are_nodes}
 use Rattle.kc_value.proofs.gathering.used_values.Goals as goal
 
 abbrev any : Node
@@ -37,8 +37,9 @@ index_mut-requires g c =
     let n = c.args.node in
     let next : Node = get_or c.as_slice-next-items.result.now c.loop-next.next-index any in
     let uses : Uses t n next = used_at t _ n _ _ _ c.tree.ensures c.uses.ensures.exact c.in_ok-nodes.ensures.items c.as_slice-next-items.ensures.value c.loop-next.next-index any c.loop-next-test.true in
-    let below : number_of next < node_count t = number_of-below t next (used_is_node t _ n next c.tree.ensures c.uses.ensures.accepted c.requires uses) in
-    omega (arith, below, c.number.ensures, c.loop-next.invariant.long, c.loop-next.values.ok.0)
+    let below : number_of t next < node_count t = number_below t next (used_is_node t _ n next c.tree.ensures c.uses.ensures.accepted c.requires uses) in
+    let number : c.number-number.result ≡ number_of t next = c.number-number.ensures.number ∙ ap (λ x. number_of x next) (c.tree-in-loop-next.ensures ∙ c.value_at.ensures.tree ∙ c.loop-next.invariant.tree) in
+    omega (arith, below, number, c.loop-next.invariant.long, c.loop-next.values.ok.0)
 
 pub loop-next-preserved : goal.loop-next-preserved
 loop-next-preserved g c =
@@ -55,14 +56,16 @@ loop-next-preserved g c =
     let inside : IsNodeOf t next = used_is_node t _ n next c.tree.ensures c.uses.ensures.accepted c.requires uses in
     let v = c.in_ok-value.value in
     let is : v ≡ solution t u next = c.in_ok-value.ensures.value ∙ ap (λ s. solution s (g.R.Resolver.user_of c.loop-next.resolver) next) kept.tree ∙ ap (λ w. solution t w next) kept.user in
+    let number : c.number-number.result ≡ number_of t next = c.number-number.ensures.number ∙ ap (λ x. number_of x next) (c.tree-in-loop-next.ensures ∙ c.value_at.ensures.tree ∙ c.loop-next.invariant.tree) in
+    let nodes_in = used_are_nodes t _ n _ _ _ c.tree.ensures c.uses.ensures.accepted c.requires c.uses.ensures.exact c.in_ok-nodes.ensures.items c.as_slice-next-items.ensures.value in
     record {
       tree = c.value_at.ensures.tree ∙ kept.tree;
       user = c.value_at.ensures.user ∙ kept.user;
       grew = laws.grew_wider _ _ (n ∷ [] ++ next ∷ []) (n ∷ []) (used_in_one t n next uses) (laws.grew_then _ _ _ (n ∷ []) (next ∷ []) kept.grew c.value_at.ensures.grew);
-      long = length-set env c.number.result (Some v) ∙ kept.long;
+      long = length-set env c.number-number.result (Some v) ∙ kept.long;
       right = λ m k.
-          ap (λ j. assignment_of (slice_set env j (Some v)) m) c.number.ensures
-          ∙ one_more_right t u items i any c.loop-next-test.true inside env v kept.long is kept.right m k;
+          ap (λ j. assignment_of t (slice_set env j (Some v)) m) number
+          ∙ one_more_right t u items i any c.loop-next-test.true inside nodes_in env v kept.long is kept.right m k;
     }
 
 pub returns-clause-values : goal.returns-clause-values

@@ -16,5 +16,5 @@ invariant-loop-next g l =
       user : r.user_of l.resolver ≡ u;
       grew : r.grew l.initial.resolver l.resolver (l.fn.node ∷ []);
       long : length l.values.items ≡ node_count t;
-      right : (m : Node) → Contains (take l.next-index l.next-items) m → assignment_of l.values.items m ≡ solution t u m;
+      right : (m : Node) → Contains (take l.next-index l.next-items) m → assignment_of t l.values.items m ≡ solution t u m;
     }

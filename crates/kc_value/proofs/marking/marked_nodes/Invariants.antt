@@ -10,8 +10,8 @@ abbrev pub invariant-loop-left : goal.invariant-loop-left
 invariant-loop-left l = record {
   long : length l.marks.items ≡ node_count l.tree;
   within : l.left ≤ length l.order;
-  asked : IsMarked l.marks.items l.fn.node;
-  closed : (n m : Node) → Contains (drop l.left l.order) n → IsMarked l.marks.items n → Uses l.tree n m → IsMarked l.marks.items m;
+  asked : IsMarked l.tree l.marks.items l.fn.node;
+  closed : (n m : Node) → Contains (drop l.left l.order) n → IsMarked l.tree l.marks.items n → Uses l.tree n m → IsMarked l.tree l.marks.items m;
 }
 
 abbrev pub decreases-loop-left : goal.decreases-loop-left

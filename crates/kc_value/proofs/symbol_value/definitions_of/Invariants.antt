@@ -8,7 +8,7 @@ use Rattle.kc_value.proofs.symbol_value.definitions_of.Given as goal
 
 abbrev pub invariant-loop-number : goal.invariant-loop-number
 invariant-loop-number l =
-    let a = assignment_of l.env in
+    let a = assignment_of l.tree l.env in
     let numbers = l.symbol.definitions in
     let all = filter_map (slice_get l.tree.definitions) numbers in
     let rest = filter_map (slice_get l.tree.definitions) (drop l.number-index numbers) in

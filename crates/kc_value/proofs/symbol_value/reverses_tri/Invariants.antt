@@ -6,5 +6,5 @@ use Rattle.kc_value.proofs.symbol_value.reverses_tri.Given as goal
 
 abbrev pub invariant-loop-reverse : goal.invariant-loop-reverse
 invariant-loop-reverse l =
-    greatest l.greatest (greatest_of (map (reverse_value l.tree (assignment_of l.env)) (drop l.reverse-index l.reverses)))
-    ≡ greatest_of (map (reverse_value l.tree (assignment_of l.env)) l.reverses)
+    greatest l.greatest (greatest_of (map (reverse_value l.tree (assignment_of l.tree l.env)) (drop l.reverse-index l.reverses)))
+    ≡ greatest_of (map (reverse_value l.tree (assignment_of l.tree l.env)) l.reverses)

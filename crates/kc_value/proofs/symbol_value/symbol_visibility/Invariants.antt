@@ -6,7 +6,7 @@ use Rattle.kc_value.proofs.symbol_value.symbol_visibility.Given as goal
 
 abbrev pub invariant-loop-number : goal.invariant-loop-number
 invariant-loop-number l =
-    let value = prompt_value l.tree (assignment_of l.env) in
+    let value = prompt_value l.tree (assignment_of l.tree l.env) in
     let numbers = l.symbol.definitions in
     greatest l.greatest (greatest_of (map value (filter_map (slice_get l.tree.definitions) (drop l.number-index numbers))))
     ≡ greatest_of (map value (filter_map (slice_get l.tree.definitions) numbers))

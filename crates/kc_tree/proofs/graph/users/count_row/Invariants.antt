@@ -1,8 +1,14 @@
-use Rattle.std.proofs.Common.{map, take}
-use Rattle.kc_tree.specs.Nodes.{number_of}
+use Rattle.std.proofs.Common.{◌≤◌, ◌-◌, length, take}
+use Rattle.kc_tree.specs.Graph.{row}
 use Rattle.kc_tree.specs.Users.{AddsCounts}
 use Rattle.kc_tree.proofs.graph.users.count_row.Given as goal
 
 -- the uses so far are counted
 abbrev pub invariant-loop-used : goal.invariant-loop-used
-invariant-loop-used l = AddsCounts l.fn.counts.items l.counts.items (take l.used-index (map number_of l.uses))
+invariant-loop-used l = record {
+  within : l.next ≤ length (row l.graph l.user);
+  counted : AddsCounts l.fn.counts.items l.counts.items (take l.next (row l.graph l.user));
+}
+
+abbrev pub decreases-loop-used : goal.decreases-loop-used
+decreases-loop-used l = length (row l.graph l.user) - l.next

@@ -1,4 +1,4 @@
-use Rattle.std.proofs.Common.{◌≡◌, List, [], ℕ, ◌++◌, length, replicate, take, sym, ap, subst, ◌∙◌, arith}
+use Rattle.std.proofs.Common.{◌≡◌, List, [], ℕ, length, replicate, take, sym, subst, ◌∙◌, arith}
 use Rattle.std.proofs.lemmas.List.{length-replicate, take_all}
 use Rattle.kc_tree.specs.Users.{uses_in, AddsCounts}
 use Rattle.kc_tree.proofs.UseCounts.{AddsCounts-none, AddsCounts-join, uses_in-more}
@@ -10,11 +10,8 @@ loop-user-init c =
     let P : List ℕ → Type 0 = λ counts. AddsCounts (replicate (length c.args.graph.now) 0) counts (uses_in []) in
     subst P (sym zeros) (AddsCounts-none (replicate (length c.args.graph.now) 0))
 
-pub count_row-requires : goal.count_row-requires
-count_row-requires c =
-    let n = length c.args.graph.now in
-    let size : length c.loop-user.counts.items ≡ n = c.loop-user.invariant.size ∙ length-replicate n 0 in
-    λ k d h. let within = c.row.ensures.within k d h in omega arith
+pub count_row-requires-clause-size : goal.count_row-requires-clause-size
+count_row-requires-clause-size c = c.loop-user.invariant.size ∙ length-replicate (length c.args.graph.now) 0
 
 pub loop-user-preserved : goal.loop-user-preserved
 loop-user-preserved c =
@@ -22,7 +19,7 @@ loop-user-preserved c =
     let k = c.loop-user.user in
     let more = uses_in-more g k (omega (arith, c.len-nodes.ensures)) in
     let P : List ℕ → Type 0 = λ us. AddsCounts (replicate (length g) 0) c.count_row.new.counts.items us in
-    subst P (ap (λ us. uses_in (take k g) ++ us) c.row.ensures.nodes ∙ sym more)
+    subst P (sym more)
     (AddsCounts-join (replicate (length g) 0) c.loop-user.counts.items c.count_row.new.counts.items (uses_in (take k g)) _ c.loop-user.invariant c.in_ok-count_row.ensures)
 
 pub returns : goal.returns

@@ -9,6 +9,6 @@ pub returns : goal.returns
 returns c =
     on_ok_weaker c.add.result
     (λ added rs made named is. added
-    ∙ ap (λ t. with_reading t (record { statement = c.args.statement; block = c.args.block; owner = c.args.owner })) is
-    ∙ tree_push c.args.self.now.names rs c.args.statement c.args.block c.args.owner made named)
+    ∙ ap (λ t. with_reading t (record { statement = c.args.statement; block = c.args.block; choice = c.args.choice; owner = c.args.owner })) is
+    ∙ tree_push c.args.self.now.names rs c.args.statement c.args.block c.args.choice c.args.owner made named)
     c.add.ensures

@@ -1,4 +1,4 @@
-use Rattle.std.proofs.Common.{List, [], ℕ, sym, subst, slice_index_or}
+use Rattle.std.proofs.Common.{length, List, [], ℕ, sym, subst, slice_index_or}
 use Rattle.std.specs.List.{flat_map}
 use Rattle.std.proofs.lemmas.Result.{on_ok_weaker}
 use Rattle.kc_tree.specs.Collected.{Adds, HaveSame, block_numbers_at}
@@ -19,14 +19,14 @@ returns-clause-added c =
     let own = λ (j : ℕ). slice_index_or cache.own j [] in
     let depends = λ (j : ℕ). slice_index_or cache.depends j [] in
     on_ok_weaker c.add_rows-2.result
-    (λ (h : Adds c.add_rows.new.row.items c.add_rows-2.new.row.items (flat_map depends bs)).
-    adds_alike _ _ _ _ (adds_then _ _ _ (flat_map own js₂) (flat_map depends bs) c.in_ok-add_rows.ensures h) (dependencies t cache.own cache.depends js js₂ bs cache.own_is cache.depends_is same found))
+    (λ (h : Adds (length t.symbols) c.add_rows.new.row.items c.add_rows-2.new.row.items (flat_map depends bs)).
+    adds_alike (length t.symbols) _ _ _ _ (adds_then (length t.symbols) _ _ _ (flat_map own js₂) (flat_map depends bs) c.in_ok-add_rows.ensures h) (dependencies (length t.symbols) t cache.own cache.depends js js₂ bs cache.own_is cache.depends_is same found))
     c.add_rows-2.ensures
 
 pub returns-clause-blocks : goal.returns-clause-blocks
 returns-clause-blocks c =
     let t = c.args.self.now.reader.outline.now in
     on_ok_weaker c.add_rows-2.result
-    (λ (h : Adds c.add_rows.new.row.items c.add_rows-2.new.row.items _).
+    (λ (h : Adds (length t.symbols) c.add_rows.new.row.items c.add_rows-2.new.row.items _).
     blocks_of_same t c.args.scratch.now.definitions.items c.without_repeats.new.numbers.items c.find_blocks.new.self.blocks.items c.without_repeats.ensures c.in_ok-find_blocks.ensures)
     c.add_rows-2.ensures

@@ -1,4 +1,4 @@
-use Rattle.std.proofs.Common.{◌++◌, List, [], ℕ, ap, sym, subst, ◌∙◌, slice_index_or}
+use Rattle.std.proofs.Common.{length, ◌++◌, List, [], ℕ, ap, sym, subst, ◌∙◌, slice_index_or}
 use Rattle.std.specs.List.{flat_map}
 use Rattle.std.proofs.lemmas.Result.{on_ok_weaker}
 use Rattle.kc_tree.specs.Collected.{Adds, HaveSame, prompt_own_at, prompted_at, dependency_at, block_numbers_at}
@@ -17,9 +17,9 @@ returns c =
     let prompted = c.in_ok-add_all_prompts.ensures.prompted ∙ ap (λ (xs : List ℕ). xs ++ flat_map (prompted_at t) js) c.clear.ensures.items in
     let found = subst (λ (xs : List ℕ). HaveSame xs (flat_map (block_numbers_at t) ps)) (sym c.as_slice.ensures.value) c.in_ok-add_dependencies.ensures.blocks in
     on_ok_weaker c.add_rows.result
-    (λ (h : Adds c.add_dependencies.new.row.items c.add_rows.new.row.items (flat_map visible bs)).
-    adds_alike _ _ _ _
-    (adds_then _ _ _ (flat_map (prompt_own_at t) js) (flat_map (dependency_at t) ps ++ flat_map visible bs) c.in_ok-add_all_prompts.ensures.added
-    (adds_then _ _ _ (flat_map (dependency_at t) ps) (flat_map visible bs) c.in_ok-add_dependencies.ensures.added h))
-    (prompts_alike t cache.visible js ps bs prompted cache.visible_is found))
+    (λ (h : Adds (length t.symbols) c.add_dependencies.new.row.items c.add_rows.new.row.items (flat_map visible bs)).
+    adds_alike (length t.symbols) _ _ _ _
+    (adds_then (length t.symbols) _ _ _ (flat_map (prompt_own_at t) js) (flat_map (dependency_at t) ps ++ flat_map visible bs) c.in_ok-add_all_prompts.ensures.added
+    (adds_then (length t.symbols) _ _ _ (flat_map (dependency_at t) ps) (flat_map visible bs) c.in_ok-add_dependencies.ensures.added h))
+    (prompts_alike (length t.symbols) t cache.visible js ps bs prompted cache.visible_is found))
     c.add_rows.ensures

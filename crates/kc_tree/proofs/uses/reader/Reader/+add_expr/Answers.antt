@@ -1,4 +1,4 @@
-use Rattle.std.proofs.Common.{List, Bool, ◌≡◌, ◌∙◌, ap, subst}
+use Rattle.std.proofs.Common.{List, length, Bool, ◌≡◌, ◌∙◌, ap, subst}
 use Rattle.std.specs.Result.{OnOk, IfOk}
 use Rattle.std.specs.List.{flat_map, list_any}
 use Rattle.kc_tree.specs.declared.expr.Expr.{Expr}
@@ -12,7 +12,7 @@ use Rattle.kc_tree.proofs.uses.reader.Reader.+add_expr.Goals as goal
 pub add_expr-returns-in-All-clause-added : goal.add_expr-returns-in-All-clause-added
 add_expr-returns-in-All-clause-added t c =
     let tree = c.args.self.now.outline.now in
-    let P : List Node → Type 0 = λ ns. OnOk c.add_parts.result (Adds c.args.row.now.items c.add_parts.new.row.items ns) in
+    let P : List Node → Type 0 = λ ns. OnOk c.add_parts.result (Adds (length tree.symbols) c.args.row.now.items c.add_parts.new.row.items ns) in
     subst P (ap (flat_map (value_nodes tree)) c.as_slice.ensures.value ∙ value_parts tree c.args.expr.now c.in-All.parts c.in-All.is) c.add_parts.ensures.added
 
 pub add_expr-returns-in-All-clause-bare : goal.add_expr-returns-in-All-clause-bare

@@ -1,16 +1,19 @@
 use Rattle.std.proofs.Common.{◌≡◌, ◌<◌, Some, None, length, sym, ap, ◌∙◌, subst, true≢false}
 use Rattle.std.specs.List.{slice_get}
 use Rattle.std.proofs.lemmas.Option.{slice_get-get_or}
+use Rattle.std.proofs.lemmas.Result.{IfOk-weaker}
+use Rattle.kc_tree.specs.declared.node.Node.TheVariants.{Val}
 use Rattle.kc_value.specs.Assignment.{assignment_of}
-use Rattle.kc_value.specs.Rule.{symbol_rule}
+use Rattle.kc_value.specs.Rule.{rule, symbol_rule}
+use Rattle.kc_value.specs.UserValues.{with_value}
 use Rattle.kc_value.proofs.ConditionLemmas.{no_place}
 use Rattle.kc_value.proofs.WithoutLemmas.{without_found, without_none}
-use Rattle.kc_value.proofs.without.rule_without.Goals as goal
+use Rattle.kc_value.proofs.without.value_alone.Goals as goal
 
 pub returns-in-Some : goal.returns-in-Some
 returns-in-Some c = λ u sized.
     let t = c.args.tree.now in
-    let a = assignment_of c.args.env.now in
+    let a = assignment_of t c.args.env.now in
     let s = c.args.symbol in
     let x = c.in-Some.found.now in
     let place : s.0 < length c.symbols.result.now = c.in-Some.ensures.lookup.3.0 in
@@ -20,9 +23,9 @@ returns-in-Some c = λ u sized.
     ∙ ap Some (sym c.in-Some.ensures.lookup.1)
     in
     let within : s.0 < length t.symbols = subst (λ xs. s.0 < length xs) c.symbols.ensures.symbols place in
-    c.symbol_value.ensures
-    ∙ ap (λ v. symbol_rule t a x v None) c.node_tri.ensures
-    ∙ without_found t u a s x sized within found
+    let last = ap (λ v. symbol_rule t a s x v None) c.node_tri-visibility.ensures ∙ without_found t u a s x sized within found in
+    IfOk-weaker c.symbol_value.result (λ v. v ≡ symbol_rule t a s x c.node_tri-visibility.result None) (λ v. v ≡ rule t (with_value u s None) a (Val s))
+    (λ v is. is ∙ last) c.symbol_value.ensures
 
 pub returns-in-None : goal.returns-in-None
 returns-in-None c = λ u sized.
@@ -32,4 +35,4 @@ returns-in-None c = λ u sized.
     ap (λ xs. slice_get xs i) (sym c.symbols.ensures.symbols)
     ∙ no_place c.symbols.result.now i (λ h. true≢false (sym (c.in-None.ensures.lookup.2 h)))
     in
-    without_none t u (assignment_of c.args.env.now) c.args.symbol past
+    without_none t u (assignment_of t c.args.env.now) c.args.symbol past

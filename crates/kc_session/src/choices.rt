@@ -1,0 +1,100 @@
+//! The lines of the command `choices`.
+ghost use Rattle.std.specs.Prelude.{◌≡◌, ◌++◌, length, codes, decimal, IfOk, OnOk};
+ghost use Rattle.std.specs.String.{string_bytes};
+ghost use Rattle.kc_tree.specs.declared.node.Node.TheVariants.{Mode};
+ghost use Rattle.kc_tree.specs.Nodes.{IsNodeOf};
+ghost use Rattle.kc_tree.specs.TreeValue.{choice_title};
+ghost use Rattle.kc_files.specs.Quoting.{quoted};
+ghost use Rattle.kc_session.specs.ChoiceLine.{choice_line_of, choices_text_of, member_text};
+
+use kc_files::push_quoted;
+use kc_tree::{ChoiceId, Node, SymId, Tree};
+use kc_value::{Resolver, tri_letter};
+use std::alloc::{AllocError, Global};
+
+/// The prompt of a choice, empty where it has none.
+fn title_of(tree: &Tree, choice: ChoiceId) -> &str
+    ensures { result.now ≡ choice_title tree.now choice }
+{
+    match tree.choices().get(choice.0 as usize) {
+        Some(choice) => match choice.prompt() {
+            Some(prompt) => prompt.text.as_str(),
+            None => "",
+        },
+        None => "",
+    }
+}
+
+/// The name of a member, a dash where there is none.
+fn member_name(tree: &Tree, member: Option<SymId>) -> &str
+    ensures { result.now ≡ member_text tree.now member }
+{
+    match member {
+        Some(member) => tree.name(member),
+        None => "-",
+    }
+}
+
+/// The number and the prompt of a choice.
+fn line_start(alloc: Global, tree: &Tree, choice: ChoiceId) -> Result<String, AllocError>
+    ensures { IfOk result (λ text. string_bytes text
+        ≡ codes "choice " ++ decimal choice.0 ++ codes " " ++ quoted (choice_title tree.now choice)) }
+{
+    let number = choice.0;
+    let mut text = format!(in alloc; "choice {number} ")?;
+    push_quoted(&mut text, title_of(tree, choice))?;
+    Ok(text)
+}
+
+/// The line about a choice.
+#[tactic(auto, unfolding(crate::specs::ChoiceLine::choice_line_of))]
+fn choice_line<R: Resolver>(
+    alloc: Global,
+    resolver: &mut R,
+    choice: ChoiceId,
+) -> Result<String, AllocError>
+    requires inside { IsNodeOf (R.tree_of resolver.old) (Mode choice) }
+    ensures text { IfOk result
+        (λ text. string_bytes text ≡ choice_line_of (R.tree_of resolver.old) (R.user_of resolver.old) choice) }
+    ensures tree { R.tree_of resolver.new ≡ R.tree_of resolver.old }
+    ensures user { R.user_of resolver.new ≡ R.user_of resolver.old }
+{
+    let mode = resolver.node(Node::Mode(choice))?.as_tri();
+    let selected = resolver.node(Node::Sel(choice))?.as_member();
+    let (tree, chosen) = (resolver.tree(), resolver.user().chosen(choice));
+    let mut text = line_start(alloc, tree, choice)?;
+    text.push_str(" mode=")?;
+    text.push_str(tri_letter(mode))?;
+    text.push_str(" sel=")?;
+    text.push_str(member_name(tree, selected))?;
+    text.push_str(" user=")?;
+    text.push_str(member_name(tree, chosen))?;
+    text.push_str("\n")?;
+    Ok(text)
+}
+
+/// How many choices there are.
+fn choice_count(tree: &Tree) -> u32
+    ensures { result ≡ length tree.now.choices }
+{
+    tree.choices().len() as u32
+}
+
+/// The lines about all choices, by number.
+#[tactic(auto, unfolding(crate::specs::ChoiceLine::choices_text_of))]
+pub(crate) fn choices_text<R: Resolver>(
+    alloc: Global,
+    resolver: &mut R,
+) -> Result<String, AllocError>
+    ensures text { IfOk result
+        (λ text. string_bytes text ≡ choices_text_of (R.tree_of resolver.old) (R.user_of resolver.old)) }
+    ensures tree { R.tree_of resolver.new ≡ R.tree_of resolver.old }
+    ensures user { R.user_of resolver.new ≡ R.user_of resolver.old }
+{
+    let mut text = String::new(alloc);
+    for number in 0..choice_count(resolver.tree()) {
+        let line = choice_line(alloc, resolver, ChoiceId(number))?;
+        text.push_str(line.as_str())?;
+    }
+    Ok(text)
+}

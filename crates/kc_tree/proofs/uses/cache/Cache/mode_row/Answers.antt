@@ -1,0 +1,32 @@
+use Rattle.std.proofs.Common.{◌≡◌, ◌∙◌, ◌++◌, ℕ, [], Option, Some, length, sym, ap, subst, slice_index_or}
+use Rattle.std.specs.List.{flat_map}
+use Rattle.std.specs.Option.{option_copied, option_map_or}
+use Rattle.kc_tree.specs.declared.definition.Prompt.{Prompt}
+use Rattle.kc_tree.specs.declared.id.BlockId.{BlockId}
+use Rattle.kc_tree.specs.TreeValue.{blocks_around}
+use Rattle.kc_tree.specs.Uses.{own_condition_nodes, depends_nodes, visible_nodes}
+use Rattle.kc_tree.specs.Collected.{HasNodes, block_numbers}
+use Rattle.kc_tree.proofs.CollectedLaws.{adds_then, adds_alike, has_nodes}
+use Rattle.kc_tree.proofs.DependencyLaws.{choice_prompt_alike}
+use Rattle.kc_tree.proofs.uses.cache.Cache.mode_row.Goals as goal
+
+pub returns : goal.returns
+returns c =
+    let cache = c.args.self.now in
+    let t = cache.reader.outline.now in
+    let s = length t.symbols in
+    let x = c.args.choice.now in
+    let p = c.in-Some.own_prompt.now in
+    let bs = c.as_slice-blocks.result.now in
+    let own = own_condition_nodes t p.condition in
+    let depends = λ (j : ℕ). slice_index_or cache.depends j [] in
+    let visible = λ (j : ℕ). slice_index_or cache.visible j [] in
+    let is : x.prompt ≡ Some p = sym c.prompt.ensures ∙ ap option_copied c.in-Some.is in
+    let found : bs ≡ block_numbers t.blocks 64 (Some x.block) = c.as_slice-blocks.ensures.value ∙ c.in_ok-find_blocks_from.ensures ∙ ap (λ (b : BlockId). block_numbers t.blocks 64 (Some b)) c.block.ensures in
+    let all = adds_alike s _ _ _ _
+    (adds_then s _ _ _ own (flat_map depends bs ++ flat_map visible bs) c.in_ok-add_own_condition.ensures
+    (adds_then s _ _ _ (flat_map depends bs) (flat_map visible bs) c.in_ok-add_rows.ensures c.in_ok-add_rows-2.ensures))
+    (choice_prompt_alike s t cache.depends cache.visible own x.block bs cache.depends_is cache.visible_is found) in
+    let ns = own ++ (depends_nodes t (blocks_around t (Some x.block)) ++ visible_nodes t (blocks_around t (Some x.block))) in
+    let row = has_nodes s _ _ c.without_repeats.new.numbers.items ns c.clear.ensures.items all c.without_repeats.ensures in
+    subst (λ (o : Option Prompt). HasNodes s (option_map_or (λ (q : Prompt). own_condition_nodes t q.condition ++ (depends_nodes t (blocks_around t (Some x.block)) ++ visible_nodes t (blocks_around t (Some x.block)))) o []) c.without_repeats.new.numbers.items) (sym is) row

@@ -1,0 +1,33 @@
+//! The first fault of what lines define.
+
+ghost use Rattle.std.specs.Prelude.{◌≡◌, ◌≤◌, ◌^◌, length};
+ghost use Rattle.kc_tree.specs.OutlineFaults.{outline_fault};
+
+use crate::choice_faults::choice_fault;
+use crate::fault::TreeProblem;
+use crate::id::{ChoiceId, SymId};
+use crate::outline::Outline;
+use crate::symbol_faults::{modules_fault, symbol_fault};
+
+/// A fault of a symbol, or of a choice.
+#[derive(Clone, Copy, Debug, PartialEq, Eq)]
+pub(crate) enum OutlineFault {
+    Symbol(TreeProblem, SymId),
+    Choice(ChoiceId),
+}
+
+/// The first fault, if there is one: of a symbol, else of a choice, else of `modules`.
+pub(crate) fn outline_fault(outline: &Outline) -> Option<OutlineFault>
+    requires few { length outline.now.symbols ≤ 65535 }
+    requires few_choices { length outline.now.choices ≤ 2 ^ 30 }
+    ensures { result ≡ outline_fault outline.now }
+{
+    if let Some((problem, symbol)) = symbol_fault(outline) {
+        return Some(OutlineFault::Symbol(problem, symbol));
+    }
+    if let Some(choice) = choice_fault(outline) {
+        return Some(OutlineFault::Choice(choice));
+    }
+    let (problem, symbol) = modules_fault(outline)?;
+    Some(OutlineFault::Symbol(problem, symbol))
+}

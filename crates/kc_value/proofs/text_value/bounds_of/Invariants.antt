@@ -1,0 +1,11 @@
+use Rattle.std.proofs.Common.{◌≡◌, drop, filter_map, slice_get}
+use Rattle.kc_value.specs.Assignment.{assignment_of}
+use Rattle.kc_value.specs.TextRule.{definition_bounds}
+use Rattle.kc_value.proofs.text_value.bounds_of.Given as goal
+
+abbrev pub invariant-loop-number : goal.invariant-loop-number
+invariant-loop-number l =
+    let bounds = definition_bounds l.tree (assignment_of l.tree l.env) l.kind in
+    let numbers = l.symbol.definitions in
+    slice_get (filter_map bounds (filter_map (slice_get l.tree.definitions) (drop l.number-index numbers))) 0
+    ≡ slice_get (filter_map bounds (filter_map (slice_get l.tree.definitions) numbers)) 0
