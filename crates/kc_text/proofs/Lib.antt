@@ -1,5 +1,6 @@
 pub mod ByteClasses
 pub mod Counting
+pub mod Cutting
 pub mod Cuts
 pub mod Examples
 pub mod Expanding

@@ -1,12 +1,11 @@
 //! Help texts.
 
-ghost use Rattle.std.specs.Prelude.{◌≡◌, ◌+◌, ◌≤◌, ◌==◌, ◌||◌, drop, length, slice_index};
-ghost use Rattle.std.specs.List.{prefix_len};
+ghost use Rattle.std.specs.Prelude.{◌≡◌, ◌+◌, ◌^◌, ◌<◌, ◌≤◌, ◌==◌, ◌||◌, drop, length, slice_index};
 ghost use Rattle.std.specs.Str.Lines.{lines};
-ghost use Rattle.kc_text.specs.Bytes.{behind_blanks, is_blank};
-ghost use Rattle.kc_text.specs.Help.{before_comment, first_indentation, help_len, indentation, is_blank_line, is_help, is_inside, len_inside, passed_lines};
+ghost use Rattle.kc_text.specs.Bytes.{behind_blanks};
+ghost use Rattle.kc_text.specs.Help.{before_comment, column_after, first_indentation, help_len, indentation, is_blank_line, is_help, is_inside, len_inside, passed_lines};
 
-use crate::bytes::{behind_blanks, blank_len, trimmed};
+use crate::bytes::{behind_blanks, blank_len, is_blank, trimmed};
 use crate::physical::first_line;
 
 /// The columns from one tab stop to the next.
@@ -53,28 +52,28 @@ pub(crate) fn is_blank_line(line: &str) -> bool
     blank_len(line) == line.len()
 }
 
-/// The column behind the blanks, so many, at the beginning of a line: a tab goes to the next multiple of 8.
-fn column_behind(blanks: usize, line: &str) -> u128
-    requires { blanks ≡ prefix_len is_blank line.now }
-    ensures { result ≡ indentation line.now }
+/// The column behind a blank at a column: a tab goes to the next multiple of 8.
+fn column_after(column: u128, blank: u8) -> u128
+    requires { column + 8 < 2 ^ 128 }
+    ensures { result ≡ column_after column blank }
 {
-    let (blanks, _) = line.split_at(blanks);
-    let mut column = 0;
-    for byte in blanks.as_bytes() {
-        if *byte == b'\t' {
-            column = (column / TAB + 1) * TAB;
-        } else {
-            column += 1;
-        }
+    if blank == b'\t' {
+        (column / TAB + 1) * TAB
+    } else {
+        column + 1
     }
-    column
 }
 
 /// The column of the first byte of a line that is no blank.
 pub(crate) fn indentation(line: &str) -> u128
     ensures { result ≡ indentation line.now }
 {
-    column_behind(blank_len(line), line)
+    let (blanks, _) = line.split_at(blank_len(line));
+    let mut column = 0;
+    for byte in blanks.as_bytes() {
+        column = column_after(column, *byte);
+    }
+    column
 }
 
 /// How many lines of blanks a text begins with, and the text behind them.
@@ -111,8 +110,14 @@ pub(crate) fn first_indentation(text: &str) -> u128
 fn is_inside(column: u128, line: &str) -> bool
     ensures { result ≡ is_inside column line.now }
 {
-    let blanks = blank_len(line);
-    blanks == line.len() || column <= column_behind(blanks, line)
+    let mut reached = 0;
+    for byte in line.as_bytes() {
+        if !is_blank(*byte) {
+            return column <= reached;
+        }
+        reached = column_after(reached, *byte);
+    }
+    true
 }
 
 /// How many lines that belong to a help text of an indentation a text begins with, and the text behind them: none

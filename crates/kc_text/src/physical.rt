@@ -1,11 +1,7 @@
 //! Lines of a text, each cut off its front in turn.
 
-ghost use Rattle.std.specs.Prelude.{◌≡◌, ◌<◌, ◌≤◌, ◌∷◌, length};
-ghost use Rattle.std.specs.List.{position_or_len};
+ghost use Rattle.std.specs.Prelude.{◌≡◌, ◌<◌, ◌∷◌, length};
 ghost use Rattle.std.specs.Str.Lines.{lines, strip_carriage_return};
-ghost use Rattle.kc_text.specs.Bytes.{is_feed};
-
-use crate::bytes::behind;
 
 /// A line without the carriage return at its end.
 fn before_return(line: &str) -> &str
@@ -18,27 +14,15 @@ fn before_return(line: &str) -> &str
     }
 }
 
-/// How many bytes stand before the first line feed of a text: all of them, where it has none.
-fn line_len(text: &str) -> usize
-    ensures count { result ≡ position_or_len is_feed text.now }
-    ensures within { result ≤ length text.now }
-{
-    text.as_bytes()
-        .iter()
-        .take_while(|byte| **byte != b'\n')
-        .count()
-}
-
 /// The first line of a text, without its end, and the text behind it.
 pub(crate) fn first_line(text: &str) -> (&str, &str)
     requires some { 0 < length text.now }
     ensures lines { lines text.now ≡ result.0.now ∷ lines result.1.now }
     ensures shorter { length result.1.now < length text.now }
 {
-    let (line, end) = text.split_at(line_len(text));
-    if end.is_empty() {
+    match text.split_once('\n') {
+        Some((line, rest)) => (before_return(line), rest),
         // the last line, where no line feed ends it, keeps its carriage return
-        return (line, end);
+        None => (text, ""),
     }
-    (before_return(line), behind(end, 0))
 }

@@ -18,6 +18,7 @@ use crate::place::Place;
 use crate::sources::Sources;
 use crate::state::State;
 use crate::tokens::{owned_tokens, tokens};
+use crate::variables::Variables;
 use crate::vars::Vars;
 use std::alloc::Global;
 
@@ -41,15 +42,19 @@ pub(crate) struct Reader<'a> {
     pub(crate) vars: &'a Vars,
 }
 
-/// The tokens of an item.
-fn item_tokens<'a>(scope: Scope<'_>, text: &Joined<'a>) -> Result<Vec<Token<'a>>, LineFault>
+/// The tokens of an item, which are gathered on a scratch.
+fn item_tokens<'a>(
+    scope: Scope<'_>,
+    text: &Joined<'a>,
+    scratch: &mut Vec<Token<'a>>,
+) -> Result<Vec<Token<'a>>, LineFault>
     requires { length (joined_text text.now) ≤ 65536 }
     ensures { ReadsBy (λ v. v.items) result (line_tokens (names_in scope.entry.variables.now) (texts_in scope.entry.outside.now) (joined_text text.now)) }
 {
     match text {
-        Joined::One(line) => tokens(scope, line),
+        Joined::One(line) => tokens(scope, line, scratch),
         Joined::Many(text) => {
-            let lent = tokens(scope, text.as_str())?;
+            let lent = tokens(scope, text.as_str(), &mut Vec::new(scope.alloc))?;
             Ok(owned_tokens(scope.alloc, lent.as_slice())?)
         }
     }
@@ -126,7 +131,7 @@ fn read_item<'a>(
     if let Some(definition) = definition_of(text.as_str()) {
         return read_definition(reader, place, &definition, state);
     }
-    let tokens = read_tokens(reader, place, &text, state)?;
+    let tokens = read_tokens(reader, place, &text, &state.variables, &mut state.scratch)?;
     match source_path(tokens.as_slice()) {
         Some(wanted) => put_in_place(reader, around, place, wanted, state),
         None => Ok(state.push_statement(place, tokens, help)?),
@@ -148,22 +153,23 @@ fn read_definition<'a>(
     }
 }
 
-/// The tokens of the text of an item at a place.
+/// The tokens of the text of an item at a place, which are gathered on a scratch.
 fn read_tokens<'a>(
     reader: Reader<'a>,
     place: Place<'a>,
     text: &Joined<'a>,
-    state: &State<'a>,
+    variables: &Variables,
+    scratch: &mut Vec<Token<'a>>,
 ) -> Result<Vec<Token<'a>>, TextFault>
     requires { length (joined_text text.now) ≤ 65536 }
-    ensures { GivesBy (λ v. v.items) result (at_place (place_of place.entry) (line_tokens (state_of state.now).names (outside_of reader.entry) (joined_text text.now))) }
+    ensures { GivesBy (λ v. v.items) result (at_place (place_of place.entry) (line_tokens (names_in variables.now) (outside_of reader.entry) (joined_text text.now))) }
 {
     let scope = Scope {
         alloc: reader.alloc,
-        variables: &state.variables,
+        variables,
         outside: reader.vars,
     };
-    match item_tokens(scope, text) {
+    match item_tokens(scope, text, scratch) {
         Ok(tokens) => Ok(tokens),
         Err(fault) => Err(place.fault(reader.alloc, fault)),
     }

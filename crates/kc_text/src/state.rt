@@ -21,6 +21,8 @@ pub(crate) struct State<'a> {
     pub(crate) followed: usize,
     /// How many bytes these put in place.
     pub(crate) placed: usize,
+    /// Where the tokens of a line are gathered.
+    pub(crate) scratch: Vec<Token<'a>>,
 }
 
 impl<'a> State<'a> {
@@ -34,6 +36,7 @@ impl<'a> State<'a> {
             variables: Variables::new(alloc),
             followed: 0,
             placed: 0,
+            scratch: Vec::new(alloc),
         })
     }
 

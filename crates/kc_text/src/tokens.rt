@@ -8,7 +8,6 @@ ghost use Rattle.kc_text.specs.Tokens.{is_reference, line_tokens, token_of};
 ghost use Rattle.kc_text.specs.Lexing.{word as a_word};
 ghost use Rattle.kc_text.specs.Scanning.{piece_of, pieces_of, raw_of};
 
-use crate::bytes::behind_blanks;
 use crate::expansion::{Scope, expanded_text, plain_text};
 use crate::fault::{LineFault, TextProblem};
 use crate::line::Token;
@@ -56,30 +55,22 @@ fn token<'a>(scope: Scope<'_>, raw: RawToken<'a>) -> Result<Token<'a>, LineFault
     }
 }
 
-/// How many tokens to make room for: a comment has none, most lines that end in a quote have two, and others one
-/// for each word, few of them more than five.
-fn usual_count(line: &str) -> usize {
-    let text = behind_blanks(line).as_bytes();
-    if text.is_empty() || text[0] == b'#' {
-        return 0;
-    }
-    if text[text.len() - 1] == b'"' {
-        return 2;
-    }
-    1 + text.iter().filter(|byte| **byte == b' ').count().min(4)
-}
-
-/// The tokens of a line, or its first fault from the left.
-pub(crate) fn tokens<'a>(scope: Scope<'_>, line: &'a str) -> Result<Vec<Token<'a>>, LineFault>
+/// The tokens of a line, or its first fault from the left. They are gathered on a scratch, which is cleared, so that
+/// they take no more memory than they need.
+pub(crate) fn tokens<'a>(
+    scope: Scope<'_>,
+    line: &'a str,
+    scratch: &mut Vec<Token<'a>>,
+) -> Result<Vec<Token<'a>>, LineFault>
     ensures { ReadsBy (λ v. v.items) result (line_tokens (names_in scope.entry.variables.now) (texts_in scope.entry.outside.now) line.now) }
 {
-    let mut tokens = Vec::with_capacity(scope.alloc, usual_count(line))?;
+    scratch.clear();
     let mut rest = line;
     while let Some((raw, after)) = next_token(scope.alloc, rest)? {
-        tokens.push(token(scope, raw)?)?;
+        scratch.push(token(scope, raw)?)?;
         rest = after;
     }
-    Ok(tokens)
+    Ok(scratch.split_off(0)?)
 }
 
 /// Tokens that own their texts.
