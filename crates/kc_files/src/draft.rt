@@ -2,11 +2,11 @@
 
 ghost use Rattle.std.specs.Prelude.{◌≡◌, ◌++◌, codes, OnOk, if◌then◌else◌, []};
 ghost use Rattle.std.specs.String.{string_bytes};
-ghost use Rattle.kc_files.specs.ConfigText.{line_start, line_end, tri_line, text_in, text_line, symbol_line, line_of_symbol, title_of, title_block, end_of, end_line};
+ghost use Rattle.kc_files.specs.ConfigText.{line_start, line_end, tri_line, text_line, symbol_line, line_of_symbol, title_of, title_block, end_of, end_line};
 ghost use Rattle.kc_files.specs.DraftValue.{draft_of, with_piece};
 
 use crate::prefix::Prefix;
-use crate::quoting::push_quoted;
+use crate::quoting::push_text_in;
 use kc_tree::{SymbolType, Tri, UserVal};
 use std::alloc::AllocError;
 use std::marker::Model;
@@ -29,18 +29,6 @@ fn line_end(value: Tri) -> &'static str
         Tri::No => " is not set\n",
         Tri::Module => "=m\n",
         Tri::Yes => "=y\n",
-    }
-}
-
-/// Appends the text of a value: a string in quotes, a number as it is spelt.
-pub fn push_text_in(out: &mut String, kind: SymbolType, value: &str) -> Result<(), AllocError>
-    ensures { OnOk result (string_bytes out.new ≡ string_bytes out.old ++ text_in kind value.now) }
-{
-    match kind {
-        SymbolType::String => push_quoted(out, value),
-        SymbolType::Bool | SymbolType::Tristate | SymbolType::Int | SymbolType::Hex => {
-            out.push_str(value)
-        }
     }
 }
 

@@ -8,6 +8,5 @@ mod quoting;
 mod titles;
 
 pub use config_file::config_text;
-pub use draft::push_text_in;
 pub use prefix::{Prefix, PrefixFault};
-pub use quoting::push_quoted;
+pub use quoting::{push_quoted, push_text_in};

@@ -1,10 +1,12 @@
-//! Texts in quotes.
+//! Texts in quotes, and how the text of a value is written.
 
 ghost use Rattle.std.specs.Prelude.{◌≡◌, ◌++◌, OnOk};
 ghost use Rattle.std.specs.Char.{encode_utf8};
 ghost use Rattle.std.specs.String.{string_bytes};
+ghost use Rattle.kc_files.specs.ConfigText.{text_in};
 ghost use Rattle.kc_files.specs.Quoting.{is_special, escaped, quoted};
 
+use kc_tree::SymbolType;
 use std::alloc::AllocError;
 
 /// Whether a character needs a backslash: it is `"`, or a backslash itself.
@@ -46,4 +48,18 @@ pub fn push_quoted(out: &mut String, text: &str) -> Result<(), AllocError>
     out.push_str("\"")?;
     push_escaped(out, text)?;
     out.push_str("\"")
+}
+
+/// Appends the text of a value: a string in quotes, a number as it is spelt.
+///
+/// The error is want of memory.
+pub fn push_text_in(out: &mut String, kind: SymbolType, value: &str) -> Result<(), AllocError>
+    ensures { OnOk result (string_bytes out.new ≡ string_bytes out.old ++ text_in kind value.now) }
+{
+    match kind {
+        SymbolType::String => push_quoted(out, value),
+        SymbolType::Bool | SymbolType::Tristate | SymbolType::Int | SymbolType::Hex => {
+            out.push_str(value)
+        }
+    }
 }

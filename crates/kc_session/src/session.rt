@@ -197,10 +197,8 @@ impl Session {
     {
         if is_chosen(&self.user, member, choice) {
             self.choose(choice, None);
-            done(self.alloc)
-        } else {
-            done(self.alloc)
         }
+        done(self.alloc)
     }
 
     #[tactic(auto, using(crate::proofs::Outcomes::all_taken))]
