@@ -1,10 +1,10 @@
 -- How what stands at the front of symbols is read, one step of the grammar after another.
 use Rattle.std.proofs.Common.{◌≡◌, ℕ, zero, suc, List, [], ◌∷◌, ◌++◌, replicate, refl, sym, ap, subst, ◌∙◌, ◌+◌, ◌-◌, ◌<◌, ◌≤◌, length, drop, arith}
-use Rattle.std.proofs.lemmas.List.{append_assoc, append-nil, replicate_more, length-map, length-drop}
+use Rattle.std.proofs.lemmas.List.{append_assoc, append-nil, replicate_more, length-append, length-map, length-drop}
 use Rattle.kc_tree.specs.declared.expr.Term.{Term}
 use Rattle.kc_tree.specs.declared.expr.Comparison.{Comparison}
 use Rattle.kc_text.specs.declared.line.Token.{Token}
-use Rattle.kc_tree.specs.Grammar.{symbol_of, IsNoExpression, Symbol, term, compares, bang, opening, closing, Formula, atom, compare, negation, group, both, either, factor, expression, IsAt, spelled}
+use Rattle.kc_tree.specs.Grammar.{symbol_of, Derives, IsNoExpression, Symbol, term, compares, bang, opening, closing, Formula, atom, compare, negation, group, both, either, factor, expression, IsAt, spelled}
 use Rattle.kc_tree.specs.Fronts.{symbols_from, DoesNotBegin, BeginsWithNoTerm, BeginsWithNoComparison, StopsBefore, Begins, IsUnreadable, negations}
 
 -- ---- terms and comparisons
@@ -148,3 +148,27 @@ pub not_whole : (names : List (List ℕ)) (tokens : List Token) (f : Formula) (e
 not_whole names tokens f end b within g d =
     let same = b.only g [] d.level tt (d.is ∙ sym (append-nil (spelled g))) in
     absurd (omega (arith, ap length same.1, length-map (drop end tokens) (symbol_of names), length-drop end tokens))
+
+-- ---- one token alone
+spelled_some : (f : Formula) → 1 ≤ length (spelled f)
+spelled_some (atom x) = omega arith
+spelled_some (compare c x y) = omega arith
+spelled_some (negation f) = omega arith
+spelled_some (group f) = omega arith
+spelled_some (both f g) = simp length-append (omega arith)
+spelled_some (either f g) = simp length-append (omega arith)
+
+-- it is a term where it is an expression
+lone_atom : (s : Symbol) (f : Formula) → s ∷ [] ≡ spelled f → ((x : Term) → s ≡ term x → ⊥) → ⊥
+lone_atom s (atom x) e none = none x (cc)
+lone_atom s (compare c x y) e none = absurd (cc)
+lone_atom s (negation f) e none = absurd (omega (arith, ap length e, spelled_some f))
+lone_atom s (group f) e none = absurd (omega (arith, simp length-append at (ap length e), spelled_some f))
+lone_atom s (both f g) e none = absurd (omega (arith, simp length-append at (ap length e), spelled_some f, spelled_some g))
+lone_atom s (either f g) e none = absurd (omega (arith, simp length-append at (ap length e), spelled_some f, spelled_some g))
+
+pub lone_none : (names : List (List ℕ)) (token : Token) → ((x : Term) → symbol_of names token ≡ term x → ⊥) → IsNoExpression names (token ∷ [])
+lone_none names token none f d = lone_atom (symbol_of names token) f d.is none
+
+pub lone_term_is : (names : List (List ℕ)) (token : Token) (x : Term) → symbol_of names token ≡ term x → Derives names (token ∷ []) (atom x)
+lone_term_is names token x e = record { level = tt; is = ap (λ s. s ∷ []) e }

@@ -20,7 +20,7 @@ use Rattle.kc_tree.specs.declared.symbol.SymbolType.{SymbolType}
 use Rattle.kc_tree.specs.declared.symbol.SymbolType.TheVariants as kind
 use Rattle.kc_tree.specs.declared.statement_forms.selection.Selection.{Selection}
 use Rattle.kc_tree.specs.Forms.{IsReading}
-use Rattle.kc_tree.specs.Statements.{IsPrompt, IsDefault, IsRange, IsWordAndExpression, IsSelection, type_word, default_word, HasFormAfter, HasFormOf, HasForm, HasNoForm}
+use Rattle.kc_tree.specs.Statements.{IsPrompt, IsDefault, IsRange, IsWordAndExpression, IsSelection, alone_statement, type_word, default_word, HasFormAfter, HasFormOf, HasForm, HasNoForm}
 
 -- ---- lines
 pub end_says_so : (names : List (List ℕ)) (l : LineValue) → l.kind ≡ EndLine → HasForm names l statement.EndOfFile
@@ -63,6 +63,13 @@ SaidBehind names keyword.Depends tokens = (e : Expr) × IsWordAndExpression name
 SaidBehind names keyword.Visible tokens = (e : Expr) × IsWordAndExpression names (codes "if") tokens e
 SaidBehind names keyword.Select tokens = (s : Option SymId) × (c : Option Expr) × IsSelection names tokens s c
 SaidBehind names keyword.Imply tokens = (s : Option SymId) × (c : Option Expr) × IsSelection names tokens s c
+SaidBehind names keyword.EndMenu tokens = tokens ≡ []
+SaidBehind names keyword.EndIf tokens = tokens ≡ []
+SaidBehind names keyword.Choice tokens = tokens ≡ []
+SaidBehind names keyword.EndChoice tokens = tokens ≡ []
+SaidBehind names keyword.Optional tokens = tokens ≡ []
+SaidBehind names keyword.Modules tokens = tokens ≡ []
+SaidBehind names keyword.Help tokens = tokens ≡ []
 SaidBehind names k tokens = Unit {0}
 
 behind : (names : List (List ℕ)) (tokens : List Token) (k x : Keyword) → k ≡ x → SaidBehind names x tokens → SaidBehind names k tokens
@@ -79,11 +86,11 @@ unfolding SaidBehind
 said names k tokens statement.EndOfFile h = absurd h
 said names k tokens (statement.Config symbol) h = behind names tokens k keyword.Config h.0 tt
 said names k tokens (statement.Menu title) h = behind names tokens k keyword.Menu h.0 tt
-said names k tokens statement.EndMenu h = behind names tokens k keyword.EndMenu h.0 tt
+said names k tokens statement.EndMenu h = behind names tokens k keyword.EndMenu h.0 h.1
 said names k tokens (statement.If e) h = behind names tokens k keyword.If h.0 tt
-said names k tokens statement.EndIf h = behind names tokens k keyword.EndIf h.0 tt
-said names k tokens statement.Choice h = behind names tokens k keyword.Choice h.0 tt
-said names k tokens statement.EndChoice h = behind names tokens k keyword.EndChoice h.0 tt
+said names k tokens statement.EndIf h = behind names tokens k keyword.EndIf h.0 h.1
+said names k tokens statement.Choice h = behind names tokens k keyword.Choice h.0 h.1
+said names k tokens statement.EndChoice h = behind names tokens k keyword.EndChoice h.0 h.1
 said names k tokens (statement.Comment title) h = behind names tokens k keyword.Comment h.0 tt
 said names k tokens statement.MainMenu h = behind names tokens k keyword.MainMenu h.0 tt
 said names k tokens (statement.Type kind.Bool) h = behind names tokens k keyword.Bool h.0 (inl h.1)
@@ -113,10 +120,10 @@ said names k tokens (statement.VisibleIf e) h = behind names tokens k keyword.Vi
 said names k tokens (statement.Select s c) h = behind names tokens k keyword.Select h.0 (s, c, h.1)
 said names k tokens (statement.Imply s c) h = behind names tokens k keyword.Imply h.0 (s, c, h.1)
 said names k tokens statement.Modules h =
-    elim h [ inl p ↦ behind names tokens k keyword.Modules p.0 tt | inr p ↦ behind names tokens k keyword.Option p.0 tt ]
+    elim h [ inl p ↦ behind names tokens k keyword.Modules p.0 p.1 | inr p ↦ behind names tokens k keyword.Option p.0 tt ]
 said names k tokens statement.AllNoConfigYes h = behind names tokens k keyword.Option h.0 tt
-said names k tokens statement.Optional h = behind names tokens k keyword.Optional h.0 tt
-said names k tokens statement.Help h = behind names tokens k keyword.Help h.0 tt
+said names k tokens statement.Optional h = behind names tokens k keyword.Optional h.0 h.1
+said names k tokens statement.Help h = behind names tokens k keyword.Help h.0 h.1
 
 -- ---- what a part that was read says
 -- the form of a part, once the keyword is known
@@ -184,6 +191,90 @@ some_token : (tokens : List Token) → (length tokens == 0) ≡ false → tokens
 some_token tokens some none =
     let same : true ≡ false = sym (ap (λ (xs : List Token). length xs == 0) none) ∙ some in
     cc
+
+-- ---- words that stand alone
+no_statement : {A : Type 0} (s : Statement) → None ≡ Some s → A
+no_statement s e = absurd (cc)
+
+pub alone_form : (names : List (List ℕ)) (k : Keyword) (tokens : List Token) (s : Statement) → alone_statement k ≡ Some s → tokens ≡ [] → HasFormAfter names k tokens s
+alone_form names keyword.EndMenu tokens s e none =
+    let same : statement.EndMenu ≡ s = cc in
+    subst (HasFormAfter names keyword.EndMenu tokens) same ((refl, none))
+alone_form names keyword.EndIf tokens s e none =
+    let same : statement.EndIf ≡ s = cc in
+    subst (HasFormAfter names keyword.EndIf tokens) same ((refl, none))
+alone_form names keyword.Choice tokens s e none =
+    let same : statement.Choice ≡ s = cc in
+    subst (HasFormAfter names keyword.Choice tokens) same ((refl, none))
+alone_form names keyword.EndChoice tokens s e none =
+    let same : statement.EndChoice ≡ s = cc in
+    subst (HasFormAfter names keyword.EndChoice tokens) same ((refl, none))
+alone_form names keyword.Optional tokens s e none =
+    let same : statement.Optional ≡ s = cc in
+    subst (HasFormAfter names keyword.Optional tokens) same ((refl, none))
+alone_form names keyword.Modules tokens s e none =
+    let same : statement.Modules ≡ s = cc in
+    subst (HasFormAfter names keyword.Modules tokens) same (inl (refl, none))
+alone_form names keyword.Help tokens s e none =
+    let same : statement.Help ≡ s = cc in
+    subst (HasFormAfter names keyword.Help tokens) same ((refl, none))
+alone_form names keyword.Config tokens s e none = no_statement s e
+alone_form names keyword.Menu tokens s e none = no_statement s e
+alone_form names keyword.If tokens s e none = no_statement s e
+alone_form names keyword.Comment tokens s e none = no_statement s e
+alone_form names keyword.MainMenu tokens s e none = no_statement s e
+alone_form names keyword.Source tokens s e none = no_statement s e
+alone_form names keyword.Bool tokens s e none = no_statement s e
+alone_form names keyword.Tristate tokens s e none = no_statement s e
+alone_form names keyword.String tokens s e none = no_statement s e
+alone_form names keyword.Int tokens s e none = no_statement s e
+alone_form names keyword.Hex tokens s e none = no_statement s e
+alone_form names keyword.DefBool tokens s e none = no_statement s e
+alone_form names keyword.DefTristate tokens s e none = no_statement s e
+alone_form names keyword.Prompt tokens s e none = no_statement s e
+alone_form names keyword.Default tokens s e none = no_statement s e
+alone_form names keyword.Range tokens s e none = no_statement s e
+alone_form names keyword.Depends tokens s e none = no_statement s e
+alone_form names keyword.Visible tokens s e none = no_statement s e
+alone_form names keyword.Select tokens s e none = no_statement s e
+alone_form names keyword.Imply tokens s e none = no_statement s e
+alone_form names keyword.Option tokens s e none = no_statement s e
+alone_form names keyword.LeftOut tokens s e none = no_statement s e
+
+nothing_behind : (names : List (List ℕ)) (k : Keyword) (tokens : List Token) (s : Statement) → alone_statement k ≡ Some s → SaidBehind names k tokens → tokens ≡ []
+unfolding SaidBehind
+nothing_behind names keyword.EndMenu tokens s e h = h
+nothing_behind names keyword.EndIf tokens s e h = h
+nothing_behind names keyword.Choice tokens s e h = h
+nothing_behind names keyword.EndChoice tokens s e h = h
+nothing_behind names keyword.Optional tokens s e h = h
+nothing_behind names keyword.Modules tokens s e h = h
+nothing_behind names keyword.Help tokens s e h = h
+nothing_behind names keyword.Config tokens s e h = no_statement s e
+nothing_behind names keyword.Menu tokens s e h = no_statement s e
+nothing_behind names keyword.If tokens s e h = no_statement s e
+nothing_behind names keyword.Comment tokens s e h = no_statement s e
+nothing_behind names keyword.MainMenu tokens s e h = no_statement s e
+nothing_behind names keyword.Source tokens s e h = no_statement s e
+nothing_behind names keyword.Bool tokens s e h = no_statement s e
+nothing_behind names keyword.Tristate tokens s e h = no_statement s e
+nothing_behind names keyword.String tokens s e h = no_statement s e
+nothing_behind names keyword.Int tokens s e h = no_statement s e
+nothing_behind names keyword.Hex tokens s e h = no_statement s e
+nothing_behind names keyword.DefBool tokens s e h = no_statement s e
+nothing_behind names keyword.DefTristate tokens s e h = no_statement s e
+nothing_behind names keyword.Prompt tokens s e h = no_statement s e
+nothing_behind names keyword.Default tokens s e h = no_statement s e
+nothing_behind names keyword.Range tokens s e h = no_statement s e
+nothing_behind names keyword.Depends tokens s e h = no_statement s e
+nothing_behind names keyword.Visible tokens s e h = no_statement s e
+nothing_behind names keyword.Select tokens s e h = no_statement s e
+nothing_behind names keyword.Imply tokens s e h = no_statement s e
+nothing_behind names keyword.Option tokens s e h = no_statement s e
+nothing_behind names keyword.LeftOut tokens s e h = no_statement s e
+
+pub not_alone : (names : List (List ℕ)) (k : Keyword) (tokens : List Token) (s : Statement) → alone_statement k ≡ Some s → (length tokens == 0) ≡ false → (x : Statement) → HasFormAfter names k tokens x → ⊥
+not_alone names k tokens s e some x h = some_token tokens some (nothing_behind names k tokens s e (said names k tokens x h))
 
 pub no_type : (names : List (List ℕ)) (tokens : List Token) (t : SymbolType) (o : Option Prompt) → (length tokens == 0) ≡ false → o ≡ None → IsReading (IsPrompt names tokens) o → (s : Statement) → HasFormAfter names (type_word t) tokens s → ⊥
 unfolding SaidBehind

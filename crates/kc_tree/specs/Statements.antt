@@ -81,6 +81,17 @@ default_word kind.String = None
 default_word kind.Int = None
 default_word kind.Hex = None
 
+-- what a word says that stands alone
+abbrev pub alone_statement : Keyword → Option Statement
+alone_statement keyword.EndMenu = Some statement.EndMenu
+alone_statement keyword.EndIf = Some statement.EndIf
+alone_statement keyword.Choice = Some statement.Choice
+alone_statement keyword.EndChoice = Some statement.EndChoice
+alone_statement keyword.Optional = Some statement.Optional
+alone_statement keyword.Modules = Some statement.Modules
+alone_statement keyword.Help = Some statement.Help
+alone_statement _ = None
+
 -- ---- the forms: the keyword, and the tokens after it
 abbrev pub HasFormAfter : List (List ℕ) → Keyword → List Token → Statement → Type 0
 HasFormAfter names k tokens statement.EndOfFile = ⊥

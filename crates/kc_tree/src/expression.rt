@@ -15,7 +15,7 @@ use kc_text::{Operator, Token};
 use std::alloc::{AllocError, Global};
 
 /// The expression that tokens are, if they are one (kconfig-language.rst, "Menu dependencies"). Words are terms by the
-/// names of the defined symbols.
+/// names of the defined symbols. Most expressions are one token, which is a term or nothing.
 pub(crate) fn read_expression(
     alloc: Global,
     names: &Names,
@@ -24,6 +24,9 @@ pub(crate) fn read_expression(
     requires { length names.now ≤ 65535 }
     ensures { IfOk result (λ e. MatchOption e (IsNoExpression names.now tokens.now) (IsExpression names.now tokens.now)) }
 {
+    if let [token] = tokens {
+        return read_lone(alloc, names, token);
+    }
     let Some((expr, end)) = read_any(alloc, names, tokens, 0)? else {
         return Ok(None);
     };
@@ -32,6 +35,17 @@ pub(crate) fn read_expression(
     } else {
         Ok(Some(expr))
     }
+}
+
+/// The expression that one token is.
+fn read_lone(alloc: Global, names: &Names, token: &Token<'_>) -> Result<Option<Expr>, AllocError>
+    requires { length names.now ≤ 65535 }
+    ensures { IfOk result (λ e. MatchOption e (IsNoExpression names.now (token.now ∷ [])) (IsExpression names.now (token.now ∷ []))) }
+{
+    let Some(term) = term_of(alloc, names, token)? else {
+        return Ok(None);
+    };
+    Ok(Some(Expr::Term(term)))
 }
 
 /// The expression that begins at a place: parts joined by `||`.

@@ -55,20 +55,20 @@ fn new_symbols(alloc: Global, count: usize) -> Result<Vec<Symbol>, AllocError>
 }
 
 impl Outline {
-    /// Of no lines, with a symbol for each name.
+    /// Of no lines, with a symbol for each name, and with room for a definition of each.
     pub(crate) fn new(alloc: Global, names: Names) -> Result<Outline, AllocError>
         requires { length names ≤ 65535 }
         ensures { IfOk result (λ o. o ≡ tree_of names []) }
     {
-        let symbols = new_symbols(alloc, names.len())?;
+        let count = names.len();
         Ok(Outline {
             names,
-            symbols,
-            definitions: Vec::new(alloc),
+            symbols: new_symbols(alloc, count)?,
+            definitions: Vec::with_capacity(alloc, count)?,
             blocks: Vec::new(alloc),
             choices: Vec::new(alloc),
             comments: Vec::new(alloc),
-            entries: Vec::new(alloc),
+            entries: Vec::with_capacity(alloc, count)?,
         })
     }
 

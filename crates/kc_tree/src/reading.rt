@@ -39,6 +39,15 @@ impl From<AllocError> for Stop {
     }
 }
 
+/// Why a line of this statement is not taken. The statement is dropped here, since a function that may drop one makes
+/// room for all of its parts on each call, and most lines are taken.
+fn refused(statement: Statement, stop: Stop) -> Stop
+    ensures { result ≡ stop }
+{
+    drop(statement);
+    stop
+}
+
 /// What a line says, the block and the choice that it stands in, and what owns it. It comes after those that were
 /// seen, and so many follow it.
 fn read_line(
@@ -63,10 +72,12 @@ fn read_line(
         return Err(Stop::Problem(TreeProblem::Malformed));
     };
     if let Some(problem) = late_problem(place, seen, line, keyword, &statement) {
-        return Err(Stop::Problem(problem));
+        return Err(refused(statement, Stop::Problem(problem)));
     }
     let (block, choice) = (place.innermost(), place.choice());
-    place.take(names, seen, line, keyword, &statement)?;
+    if place.take(names, seen, line, keyword, &statement).is_err() {
+        return Err(refused(statement, Stop::NoMemory));
+    }
     Ok((statement, block, choice, place.owner()))
 }
 

@@ -1,28 +1,30 @@
 //! The forms of statements and attributes.
 
-ghost use Rattle.std.specs.Prelude.{◌≡◌, ◌≤◌, ℕ, List, [], Some, length, IfOk, MatchOption};
+ghost use Rattle.std.specs.Prelude.{◌≡◌, ◌≤◌, ℕ, List, Some, length, IfOk, MatchOption};
 ghost use Rattle.kc_tree.specs.Forms.{IsReading};
 ghost use Rattle.kc_tree.specs.Keywords.{first_keyword, keyword_of};
-ghost use Rattle.kc_tree.specs.Statements.{HasForm, HasFormAfter, HasFormOf, HasNoForm, type_word, default_word};
+ghost use Rattle.kc_tree.specs.Statements.{HasForm, HasFormAfter, HasFormOf, HasNoForm, alone_statement, type_word, default_word};
 
 mod condition;
 mod default;
+mod parts;
 mod prompt;
 mod range;
 mod selection;
 
-use crate::expression::read_expression;
 use crate::keyword::Keyword;
 use crate::name::{name_word, symbol_among};
 use crate::names::Names;
 use crate::statement::Statement;
 use crate::symbol::SymbolType;
-use condition::{is_word, read_after_word};
+use condition::is_word;
 use default::read_default;
 use kc_text::{Line, LineKind, Token};
-use prompt::{read_prompt, read_title};
-use range::read_range;
-use selection::{Selection, read_selection};
+use parts::{
+    read_comment, read_default_line, read_depends, read_if, read_imply, read_main_menu, read_menu,
+    read_prompt_line, read_range_line, read_select, read_visible,
+};
+use prompt::read_prompt;
 use std::alloc::{AllocError, Global};
 
 /// What a line of this keyword says, if it has the form of a statement or an attribute.
@@ -62,7 +64,8 @@ fn read_tokens(
     read_form(alloc, names, keyword, rest)
 }
 
-/// What a keyword and the tokens behind it say.
+/// What a keyword and the tokens behind it say. Each keyword has a function of its own, so that a line pays for no
+/// more than its own form.
 fn read_form(
     alloc: Global,
     names: &Names,
@@ -73,18 +76,18 @@ fn read_form(
     ensures { IfOk result (IsReading (HasFormAfter names.now keyword tokens.now)) }
 {
     match keyword {
-        Keyword::Config => Ok(read_config(names, tokens)),
-        Keyword::Menu => Ok(read_title(alloc, tokens)?.map(Statement::Menu)),
-        Keyword::Comment => Ok(read_title(alloc, tokens)?.map(Statement::Comment)),
-        Keyword::MainMenu => Ok(read_title(alloc, tokens)?.map(|_| Statement::MainMenu)),
-        Keyword::EndMenu => Ok(read_alone(tokens, Statement::EndMenu)),
-        Keyword::EndIf => Ok(read_alone(tokens, Statement::EndIf)),
-        Keyword::Choice => Ok(read_alone(tokens, Statement::Choice)),
-        Keyword::EndChoice => Ok(read_alone(tokens, Statement::EndChoice)),
-        Keyword::Optional => Ok(read_alone(tokens, Statement::Optional)),
-        Keyword::Modules => Ok(read_alone(tokens, Statement::Modules)),
-        Keyword::Help => Ok(read_alone(tokens, Statement::Help)),
-        Keyword::If => Ok(read_expression(alloc, names, tokens)?.map(Statement::If)),
+        Keyword::Config => read_config(names, tokens),
+        Keyword::Menu => read_menu(alloc, tokens),
+        Keyword::Comment => read_comment(alloc, tokens),
+        Keyword::MainMenu => read_main_menu(alloc, tokens),
+        Keyword::EndMenu => read_alone(keyword, tokens),
+        Keyword::EndIf => read_alone(keyword, tokens),
+        Keyword::Choice => read_alone(keyword, tokens),
+        Keyword::EndChoice => read_alone(keyword, tokens),
+        Keyword::Optional => read_alone(keyword, tokens),
+        Keyword::Modules => read_alone(keyword, tokens),
+        Keyword::Help => read_alone(keyword, tokens),
+        Keyword::If => read_if(alloc, names, tokens),
         Keyword::Bool => read_type(alloc, names, SymbolType::Bool, tokens),
         Keyword::Tristate => read_type(alloc, names, SymbolType::Tristate, tokens),
         Keyword::String => read_type(alloc, names, SymbolType::String, tokens),
@@ -92,42 +95,58 @@ fn read_form(
         Keyword::Hex => read_type(alloc, names, SymbolType::Hex, tokens),
         Keyword::DefBool => read_typed_default(alloc, names, SymbolType::Bool, tokens),
         Keyword::DefTristate => read_typed_default(alloc, names, SymbolType::Tristate, tokens),
-        Keyword::Prompt => Ok(read_prompt(alloc, names, tokens)?.map(Statement::Prompt)),
-        Keyword::Default => Ok(read_default(alloc, names, tokens)?.map(Statement::Default)),
-        Keyword::Range => Ok(read_range(alloc, names, tokens)?.map(Statement::Range)),
-        Keyword::Depends => Ok(read_after_word(alloc, names, "on", tokens)?.map(
-            Statement::DependsOn,
-        )),
-        Keyword::Visible => Ok(read_after_word(alloc, names, "if", tokens)?.map(
-            Statement::VisibleIf,
-        )),
-        Keyword::Select => Ok(read_selection(alloc, names, tokens)?.map(Selection::into_select)),
-        Keyword::Imply => Ok(read_selection(alloc, names, tokens)?.map(Selection::into_imply)),
-        Keyword::Option => Ok(read_option(tokens)),
+        Keyword::Prompt => read_prompt_line(alloc, names, tokens),
+        Keyword::Default => read_default_line(alloc, names, tokens),
+        Keyword::Range => read_range_line(alloc, names, tokens),
+        Keyword::Depends => read_depends(alloc, names, tokens),
+        Keyword::Visible => read_visible(alloc, names, tokens),
+        Keyword::Select => read_select(alloc, names, tokens),
+        Keyword::Imply => read_imply(alloc, names, tokens),
+        Keyword::Option => read_option(tokens),
         Keyword::Source | Keyword::LeftOut => Ok(None),
     }
 }
 
 /// A symbol's definition.
-fn read_config(names: &Names, tokens: &[Token<'_>]) -> Option<Statement>
+fn read_config(names: &Names, tokens: &[Token<'_>]) -> Result<Option<Statement>, AllocError>
     requires { length names.now ≤ 65535 }
-    ensures { IsReading (HasFormAfter names.now Keyword.Config tokens.now) result }
+    ensures { IfOk result (IsReading (HasFormAfter names.now Keyword.Config tokens.now)) }
 {
     let [token] = tokens else {
-        return None;
+        return Ok(None);
     };
-    let name = name_word(token)?;
-    Some(Statement::Config(symbol_among(names, name.as_str())))
+    let Some(name) = name_word(token) else {
+        return Ok(None);
+    };
+    let symbol = symbol_among(names, name.as_str());
+    Ok(Some(Statement::Config(symbol)))
+}
+
+/// What a keyword says that has nothing behind it.
+fn alone_statement(keyword: Keyword) -> Option<Statement>
+    ensures { result ≡ alone_statement keyword }
+{
+    let statement = match keyword {
+        Keyword::EndMenu => Statement::EndMenu,
+        Keyword::EndIf => Statement::EndIf,
+        Keyword::Choice => Statement::Choice,
+        Keyword::EndChoice => Statement::EndChoice,
+        Keyword::Optional => Statement::Optional,
+        Keyword::Modules => Statement::Modules,
+        Keyword::Help => Statement::Help,
+        _ => return None,
+    };
+    Some(statement)
 }
 
 /// A statement that is its keyword alone.
-fn read_alone(tokens: &[Token<'_>], statement: Statement) -> Option<Statement>
-    ensures { IsReading (λ s. (s ≡ statement) × (tokens.now ≡ [])) result }
+fn read_alone(keyword: Keyword, tokens: &[Token<'_>]) -> Result<Option<Statement>, AllocError>
+    ensures { (names : List (List ℕ)) (s : Statement) → alone_statement keyword ≡ Some s → IfOk result (IsReading (HasFormAfter names keyword tokens.now)) }
 {
     if tokens.is_empty() {
-        Some(statement)
+        Ok(alone_statement(keyword))
     } else {
-        None
+        Ok(None)
     }
 }
 
@@ -167,18 +186,18 @@ fn read_typed_default(
 }
 
 /// The words behind `option`.
-fn read_option(tokens: &[Token<'_>]) -> Option<Statement>
-    ensures { (names : List (List ℕ)) → IsReading (HasFormAfter names Keyword.Option tokens.now) result }
+fn read_option(tokens: &[Token<'_>]) -> Result<Option<Statement>, AllocError>
+    ensures { (names : List (List ℕ)) → IfOk result (IsReading (HasFormAfter names Keyword.Option tokens.now)) }
 {
     let [token] = tokens else {
-        return None;
+        return Ok(None);
     };
     if is_word(token, "modules") {
-        Some(Statement::Modules)
+        Ok(Some(Statement::Modules))
     } else if is_word(token, "allnoconfig_y") {
-        Some(Statement::AllNoConfigYes)
+        Ok(Some(Statement::AllNoConfigYes))
     } else {
-        None
+        Ok(None)
     }
 }
 

@@ -100,8 +100,7 @@ impl Symbol {
     pub(crate) fn take_definition(&mut self, number: usize) -> Result<(), AllocError>
         ensures { OnOk result (self.new ≡ with_definition number self.old) }
     {
-        self.definitions.push(number)?;
-        Ok(())
+        push_one(&mut self.definitions, number)
     }
 
     /// Takes a `select` line that names it.

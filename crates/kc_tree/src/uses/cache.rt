@@ -233,7 +233,7 @@ impl<'a> Cache<'a> {
         self.add_dependencies(row, scratch)
     }
 
-    /// Adds what `select` or `imply` lines read.
+    /// Adds what `select` or `imply` lines read. Few symbols have one.
     fn add_reverses(
         &self,
         row: &mut Vec<usize>,
@@ -242,6 +242,9 @@ impl<'a> Cache<'a> {
     ) -> Result<(), AllocError>
         ensures { OnOk result (Adds (length self.now.reader.outline.now.symbols) row.old.items row.new.items (flat_map (reverse_nodes self.now.reader.outline.now) reverses.now)) }
     {
+        if reverses.is_empty() {
+            return Ok(());
+        }
         self.reader.add_sources(row, reverses)?;
         scratch.take_reverses(reverses)?;
         self.add_dependencies(row, scratch)

@@ -19,10 +19,13 @@ pub struct Scratch {
     pub blocks: Vec<usize>,
 }
 
-/// Puts numbers in rising order, each once.
+/// Puts numbers in rising order, each once. Most lists have one or none, which stay as they are.
 pub fn without_repeats(numbers: &mut Vec<usize>)
     ensures { HaveSame numbers.new.items numbers.old.items }
 {
+    if numbers.len() <= 1 {
+        return;
+    }
     numbers.sort_unstable();
     numbers.dedup();
 }

@@ -1,9 +1,9 @@
 use Rattle.kc_tree.proofs.FrontLaws.{not_derived, not_whole}
 use Rattle.kc_tree.proofs.expression.read_expression.Goals as goal
 
-pub returns-in_default : goal.returns-in_default
-returns-in_default c =
-    let none = rw c.in_default.is at c.in_ok-expr.ensures.front in
+pub returns-in_default-2 : goal.returns-in_default-2
+returns-in_default-2 c =
+    let none = rw c.in_default-2.is at c.in_ok-expr.ensures.front in
     not_derived _ _ none
 
 pub returns-then-end-tokens : goal.returns-then-end-tokens

@@ -1,28 +1,38 @@
-use Rattle.std.proofs.Common.{refl}
+use Rattle.std.proofs.Common.{refl, ap}
 use Rattle.kc_tree.specs.declared.keyword.Keyword.TheVariants as keyword
-use Rattle.kc_tree.proofs.StatementLaws.{prompt_says, default_says, range_says, depends_says, visible_says, select_says, imply_says}
+use Rattle.kc_tree.specs.declared.statement.Statement.TheVariants as statement
+use Rattle.kc_tree.specs.Statements.{alone_statement}
 use Rattle.kc_tree.proofs.statement_forms.read_form.Goals as goal
 
-pub returns-in_ok-read_prompt-in-Prompt : goal.returns-in_ok-read_prompt-in-Prompt
-returns-in_ok-read_prompt-in-Prompt c = prompt_says c.args.names.now c.args.tokens.now c.args.keyword c.in_ok-read_prompt-in-Prompt.field-0 c.map-in-Prompt.result c.in-Prompt.is c.map-in-Prompt.ensures.cases c.in_ok-read_prompt-in-Prompt.ensures
+pub returns-in-Menu : goal.returns-in-Menu
+returns-in-Menu c = rw c.in-Menu.is (c.read_menu.ensures c.args.names.now)
 
-pub returns-in_ok-read_default-in-Default : goal.returns-in_ok-read_default-in-Default
-returns-in_ok-read_default-in-Default c = default_says c.args.names.now c.args.tokens.now c.args.keyword c.in_ok-read_default-in-Default.field-0 c.map-in-Default.result c.in-Default.is c.map-in-Default.ensures.cases c.in_ok-read_default-in-Default.ensures
+pub returns-in-Comment : goal.returns-in-Comment
+returns-in-Comment c = rw c.in-Comment.is (c.read_comment.ensures c.args.names.now)
 
-pub returns-in_ok-read_range-in-Range : goal.returns-in_ok-read_range-in-Range
-returns-in_ok-read_range-in-Range c = range_says c.args.names.now c.args.tokens.now c.args.keyword c.in_ok-read_range-in-Range.field-0 c.map-in-Range.result c.in-Range.is c.map-in-Range.ensures.cases c.in_ok-read_range-in-Range.ensures
+pub returns-in-MainMenu : goal.returns-in-MainMenu
+returns-in-MainMenu c = rw c.in-MainMenu.is (c.read_main_menu.ensures c.args.names.now)
 
-pub returns-in_ok-read_after_word-in-Depends : goal.returns-in_ok-read_after_word-in-Depends
-returns-in_ok-read_after_word-in-Depends c = depends_says c.args.names.now c.args.tokens.now c.args.keyword c.in_ok-read_after_word-in-Depends.field-0 c.map-in-Depends.result c.in-Depends.is c.map-in-Depends.ensures.cases c.in_ok-read_after_word-in-Depends.ensures
+pub returns-in-EndMenu : goal.returns-in-EndMenu
+returns-in-EndMenu c = c.read_alone.ensures c.args.names.now statement.EndMenu (ap alone_statement c.in-EndMenu.is)
 
-pub returns-in_ok-read_after_word-in-Visible : goal.returns-in_ok-read_after_word-in-Visible
-returns-in_ok-read_after_word-in-Visible c = visible_says c.args.names.now c.args.tokens.now c.args.keyword c.in_ok-read_after_word-in-Visible.field-0 c.map-in-Visible.result c.in-Visible.is c.map-in-Visible.ensures.cases c.in_ok-read_after_word-in-Visible.ensures
+pub returns-in-EndIf : goal.returns-in-EndIf
+returns-in-EndIf c = c.read_alone-in-EndIf.ensures c.args.names.now statement.EndIf (ap alone_statement c.in-EndIf.is)
 
-pub returns-in_ok-read_selection-in-Select : goal.returns-in_ok-read_selection-in-Select
-returns-in_ok-read_selection-in-Select c = select_says c.args.names.now c.args.tokens.now c.args.keyword c.in_ok-read_selection-in-Select.field-0 c.map-in-Select.result c.in-Select.is c.map-in-Select.ensures.cases c.in_ok-read_selection-in-Select.ensures
+pub returns-in-Choice : goal.returns-in-Choice
+returns-in-Choice c = c.read_alone-in-Choice.ensures c.args.names.now statement.Choice (ap alone_statement c.in-Choice.is)
 
-pub returns-in_ok-read_selection-in-Imply : goal.returns-in_ok-read_selection-in-Imply
-returns-in_ok-read_selection-in-Imply c = imply_says c.args.names.now c.args.tokens.now c.args.keyword c.in_ok-read_selection-in-Imply.field-0 c.map-in-Imply.result c.in-Imply.is c.map-in-Imply.ensures.cases c.in_ok-read_selection-in-Imply.ensures
+pub returns-in-EndChoice : goal.returns-in-EndChoice
+returns-in-EndChoice c = c.read_alone-in-EndChoice.ensures c.args.names.now statement.EndChoice (ap alone_statement c.in-EndChoice.is)
+
+pub returns-in-Optional : goal.returns-in-Optional
+returns-in-Optional c = c.read_alone-in-Optional.ensures c.args.names.now statement.Optional (ap alone_statement c.in-Optional.is)
+
+pub returns-in-Modules : goal.returns-in-Modules
+returns-in-Modules c = c.read_alone-in-Modules.ensures c.args.names.now statement.Modules (ap alone_statement c.in-Modules.is)
+
+pub returns-in-Help : goal.returns-in-Help
+returns-in-Help c = c.read_alone-in-Help.ensures c.args.names.now statement.Help (ap alone_statement c.in-Help.is)
 
 pub returns-in-Option : goal.returns-in-Option
 returns-in-Option c = rw c.in-Option.is (c.read_option.ensures c.args.names.now)
