@@ -24,8 +24,3 @@ pub use fault::IoFault;
 pub use opening::{OpenFault, open};
 pub use serving::run;
 pub use session::Session;
-
-#[cfg(test)]
-mod serving_tests;
-#[cfg(test)]
-mod tests;

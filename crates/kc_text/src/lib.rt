@@ -31,6 +31,3 @@ pub use lines::logical_lines;
 pub use sources::Sources;
 pub use text::{Text, TextRef, TokenText};
 pub use vars::Vars;
-
-#[cfg(test)]
-mod tests;

@@ -5,9 +5,6 @@ ghost use Rattle.std.specs.Prelude.{◌≡◌, ◌∷◌, [], ◌++◌, ◌+◌,
 ghost use Rattle.kc_tree.specs.Grammar.{IsExpression, IsNoExpression, factor, part, expression, both, either, joined, formula, term, compares, bang, opening, sign_symbol, symbol_of};
 ghost use Rattle.kc_tree.specs.Fronts.{symbols_from, Begins, IsUnreadable, DoesNotBegin, BeginsWithNoTerm, BeginsWithNoComparison, negations};
 
-#[cfg(test)]
-mod tests;
-
 use crate::expr::{Comparison, Expr, Operands, Term};
 use crate::name::{quoted_term, word_term};
 use crate::names::Names;

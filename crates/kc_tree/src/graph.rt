@@ -9,8 +9,6 @@ ghost use Rattle.kc_tree.specs.Graph.{IsClosed, IsConverse, IsOrder, HasNoLoop, 
 ghost use Rattle.kc_tree.specs.NodeRows.{numbers_of, AreNumbered};
 
 mod search;
-#[cfg(test)]
-mod tests;
 mod users;
 
 use crate::node_rows::NodeRows;

@@ -29,8 +29,6 @@ mod statement;
 mod statement_forms;
 mod symbol;
 mod symbol_faults;
-#[cfg(test)]
-mod tests;
 mod tree;
 mod tri;
 mod user_value;

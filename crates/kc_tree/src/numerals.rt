@@ -136,6 +136,3 @@ pub fn numeral(kind: SymbolType, text: &str) -> Option<i128>
         SymbolType::Bool | SymbolType::Tristate | SymbolType::String => None,
     }
 }
-
-#[cfg(test)]
-mod tests;

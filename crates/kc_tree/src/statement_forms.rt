@@ -200,6 +200,3 @@ fn read_option(tokens: &[Token<'_>]) -> Result<Option<Statement>, AllocError>
         Ok(None)
     }
 }
-
-#[cfg(test)]
-mod tests;

@@ -11,8 +11,6 @@ ghost use Rattle.kc_tree.specs.Collected.{Holds, used_lists, used_lists_with};
 mod cache;
 mod reader;
 mod scratch;
-#[cfg(test)]
-mod tests;
 
 use crate::choice::Choice;
 use crate::id::{ChoiceId, SymId};

@@ -32,6 +32,3 @@ pub use resolver::Resolver;
 pub use user::User;
 pub use value::{Value, tri_letter};
 pub use without::without_user;
-
-#[cfg(test)]
-mod comparison_tests;

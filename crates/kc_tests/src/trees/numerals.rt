@@ -1,5 +1,5 @@
-use super::numeral;
-use crate::symbol::SymbolType;
+//! Which texts are numerals, by type.
+use kc_tree::{SymbolType, numeral};
 use std::test::Fail;
 
 #[test]

@@ -4,10 +4,12 @@ mod lines;
 mod sources;
 mod variables;
 
-use crate::{
+use crate::table::{rows, two_fields};
+use kc_text::{
     Line, LineKind, Operator, Sources, TextFault, TextProblem, Token, Vars, logical_lines,
 };
 use std::alloc::{AllocError, Global};
+use std::process::Abort;
 use std::test::Fail;
 
 fn sign_of(operator: Operator) -> &'static str {
@@ -110,6 +112,16 @@ pub(crate) fn shown_of(alloc: Global, files: &[(&str, &str)]) -> Result<String, 
     }
     let out = lines_of(alloc, &sources, &Vars::none(alloc), "K")?;
     Ok(out)
+}
+
+/// Reads each text of a table, and wants the lines or the fault of its second field.
+pub(crate) fn read_table(rt: &impl Abort, alloc: Global, table: &str) -> Result<(), Fail> {
+    for row in rows(alloc, table)? {
+        let (text, want) = two_fields(alloc, row)?;
+        let found = shown(alloc, text.as_str())?;
+        assert_eq!(rt; found.as_str(), want.as_str(), "at {row}");
+    }
+    Ok(())
 }
 
 /// A text as often as this.

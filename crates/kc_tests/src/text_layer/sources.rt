@@ -1,5 +1,5 @@
 //! Files in place of `source` lines.
-use crate::tests::shown_of;
+use crate::text_layer::shown_of;
 use std::test::Fail;
 
 #[test]

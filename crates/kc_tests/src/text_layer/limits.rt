@@ -1,6 +1,6 @@
 //! Each limit at its last value and one past it.
-use crate::tests::{lines_of, repeated, show_fault, shown, shown_of};
-use crate::{Sources, TextFault, Vars};
+use crate::text_layer::{lines_of, repeated, show_fault, shown, shown_of};
+use kc_text::{Sources, TextFault, Vars};
 use std::alloc::{AllocError, Global};
 use std::test::Fail;
 

@@ -1,0 +1,129 @@
+//! Whole streams, where each call fails in turn.
+use crate::streams::failing::{FailingReader, FailingWriter, NEVER};
+use crate::streams::{TWO_BOOLS, replies_to, session_of};
+use kc_session::{IoFault, Session, run};
+use std::alloc::Global;
+use std::test::Fail;
+
+/// Commands with their replies.
+const COMMANDS: [(&str, &str); 4] = [
+    ("set A n\n", "ok\n"),
+    ("config\n", "# CONFIG_A is not set\nok\n"),
+    ("unset A\n", "ok\n"),
+    ("frob\n", "refused 1\n"),
+];
+
+/// What became of a stream.
+#[derive(Drop)]
+struct Served {
+    result: Result<(), IoFault>,
+    taken: Vec<u8>,
+    session: Session,
+}
+
+/// The commands as a stream.
+fn all_commands(alloc: Global) -> Result<String, Fail> {
+    let mut stream = String::new(alloc);
+    for (command, _) in &COMMANDS {
+        stream.push_str(command)?;
+    }
+    Ok(stream)
+}
+
+/// The replies to the first commands.
+fn first_replies(alloc: Global, count: usize) -> Result<String, Fail> {
+    let mut replies = String::new(alloc);
+    for (_, reply) in COMMANDS.iter().take(count) {
+        replies.push_str(reply)?;
+    }
+    Ok(replies)
+}
+
+/// How many line feeds stand in the first bytes of a text.
+fn lines_in(text: &str, count: usize) -> usize {
+    text.bytes().take(count).filter(|b| *b == b'\n').count()
+}
+
+/// Serves a stream in a session of two symbols.
+fn serve_stream(
+    alloc: Global,
+    mut reader: FailingReader,
+    mut writer: FailingWriter,
+) -> Result<Served, Fail> {
+    let mut session = session_of(alloc, TWO_BOOLS)?;
+    let result = run(alloc, &mut reader, &mut writer, &mut session);
+    let FailingWriter { taken, .. } = writer;
+    Ok(Served {
+        result,
+        taken,
+        session,
+    })
+}
+
+#[test]
+fn a_failed_read_leaves_the_replies_to_whole_lines(rt: HostRuntime) -> Result<(), Fail> {
+    let stream = all_commands(rt.alloc())?;
+    for call in 0..stream.len() {
+        let reader = FailingReader::new(stream.as_bytes(), 1, call as u64);
+        let writer = FailingWriter::new(rt.alloc(), 7, NEVER, NEVER);
+        let served = serve_stream(rt.alloc(), reader, writer)?;
+        let want = first_replies(rt.alloc(), lines_in(stream.as_str(), call))?;
+        assert_eq!(rt; served.result, Err(IoFault::Read), "at call {call}");
+        assert_eq!(rt; served.taken.as_slice(), want.as_bytes(), "at call {call}");
+    }
+    Ok(())
+}
+
+#[test]
+fn a_failed_write_leaves_a_beginning(rt: HostRuntime) -> Result<(), Fail> {
+    let stream = all_commands(rt.alloc())?;
+    let whole = first_replies(rt.alloc(), COMMANDS.len())?;
+    for call in 0..whole.len() {
+        let reader = FailingReader::new(stream.as_bytes(), 100, NEVER);
+        let writer = FailingWriter::new(rt.alloc(), 1, call as u64, NEVER);
+        let served = serve_stream(rt.alloc(), reader, writer)?;
+        assert_eq!(rt; served.result, Err(IoFault::Write), "at call {call}");
+        assert_eq!(rt;
+            served.taken.as_slice(),
+            &whole.as_bytes()[..call],
+            "at call {call}"
+        );
+    }
+    Ok(())
+}
+
+#[test]
+fn a_failed_write_leaves_the_effect_of_its_command(rt: HostRuntime) -> Result<(), Fail> {
+    let stream = all_commands(rt.alloc())?;
+    // The byte that can't be written, and the user value of A that `show A` then tells.
+    for (call, want) in [
+        (0, "user=n\nok\n"),
+        (24, "user=n\nok\n"),
+        (28, "user=-\nok\n"),
+        (30, "user=-\nok\n"),
+    ] {
+        let reader = FailingReader::new(stream.as_bytes(), 100, NEVER);
+        let writer = FailingWriter::new(rt.alloc(), 1, call, NEVER);
+        let mut served = serve_stream(rt.alloc(), reader, writer)?;
+        let shown = replies_to(rt.alloc(), "show A\n", &mut served.session)?;
+        assert!(rt;
+            shown.as_slice().ends_with(want.as_bytes()),
+            "at call {call}"
+        );
+    }
+    Ok(())
+}
+
+#[test]
+fn a_failed_flush_leaves_whole_replies(rt: HostRuntime) -> Result<(), Fail> {
+    let stream = all_commands(rt.alloc())?;
+    for call in 0..COMMANDS.len() {
+        let reader = FailingReader::new(stream.as_bytes(), 100, NEVER);
+        let writer = FailingWriter::new(rt.alloc(), 100, NEVER, call as u64);
+        let served = serve_stream(rt.alloc(), reader, writer)?;
+        let want = first_replies(rt.alloc(), call + 1)?;
+        assert_eq!(rt; served.result, Err(IoFault::Write), "at call {call}");
+        assert_eq!(rt; served.taken.as_slice(), want.as_bytes(), "at call {call}");
+    }
+    Ok(())
+}
