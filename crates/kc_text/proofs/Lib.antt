@@ -5,6 +5,7 @@ pub mod Cuts
 pub mod Examples
 pub mod Expanding
 pub mod Files
+pub mod FirstLines
 pub mod HelpLines
 pub mod HelpWords
 pub mod ItemLines

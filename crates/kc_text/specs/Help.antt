@@ -1,9 +1,10 @@
 -- Help texts: kconfig-language.rst, "Menu attributes". What the indentation is, and where a text ends, are as there:
 -- the end is found by the indentation of its first line.
-use Rattle.std.specs.Prelude.{ℕ, ◌+◌, ◌-◌, ◌*◌, ◌/◌, Bool, List, [], ◌∷◌, ◌++◌, length, take, drop, if◌then◌else◌, ◌==◌, ◌||◌, nat_le, flat_map, codes, not, fold, replicate}
-use Rattle.std.specs.List.{prefix_len, suffix_len}
+use Rattle.std.specs.Prelude.{ℕ, ◌+◌, ◌-◌, ◌*◌, ◌/◌, Bool, List, [], ◌∷◌, ◌++◌, length, take, drop, if◌then◌else◌, ◌==◌, ◌||◌, ◌&&◌, nat_le, nat_lt, flat_map, codes, not, fold, replicate}
+use Rattle.std.specs.List.{prefix_len, suffix_len, position_or_len, before_first}
 use Rattle.std.specs.Str.{bytes_eq}
-use Rattle.kc_text.specs.Bytes.{is_blank, behind_blanks, before_blanks, trimmed}
+use Rattle.std.specs.Str.Lines.{strip_carriage_return}
+use Rattle.kc_text.specs.Bytes.{is_blank, is_feed, begins_with, behind_blanks, before_blanks, trimmed}
 
 -- the bytes before the first number sign
 abbrev pub before_comment : List ℕ → List ℕ
@@ -16,6 +17,14 @@ is_help line = bytes_eq (trimmed (before_comment line)) (codes "help") || bytes_
 -- the line has blanks alone
 abbrev pub is_blank_line : List ℕ → Bool
 is_blank_line line = prefix_len is_blank line == length line
+
+-- the bytes begin with the end of a line, or there are none
+abbrev pub begins_with_end : List ℕ → Bool
+begins_with_end bs = length bs == 0 || (begins_with 10 bs || (begins_with 13 bs && begins_with 10 (drop 1 bs)))
+
+-- the first line of a text
+abbrev pub first_of : List ℕ → List ℕ
+first_of bs = if nat_lt (position_or_len is_feed bs) (length bs) then strip_carriage_return (before_first is_feed bs) else bs
 
 -- the column behind a blank: a tab goes to the next multiple of 8
 abbrev pub column_after : ℕ → ℕ → ℕ

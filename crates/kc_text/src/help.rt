@@ -3,7 +3,7 @@
 ghost use Rattle.std.specs.Prelude.{◌≡◌, ◌+◌, ◌^◌, ◌<◌, ◌≤◌, ◌==◌, ◌||◌, drop, length, slice_index};
 ghost use Rattle.std.specs.Str.Lines.{lines};
 ghost use Rattle.kc_text.specs.Bytes.{behind_blanks};
-ghost use Rattle.kc_text.specs.Help.{before_comment, column_after, first_indentation, help_len, indentation, is_blank_line, is_help, is_inside, len_inside, passed_lines};
+ghost use Rattle.kc_text.specs.Help.{before_comment, begins_with_end, column_after, first_indentation, first_of, help_len, indentation, is_blank_line, is_help, is_inside, len_inside, passed_lines};
 
 use crate::bytes::{behind_blanks, blank_len, is_blank, trimmed};
 use crate::physical::first_line;
@@ -76,6 +76,20 @@ pub(crate) fn indentation(line: &str) -> u128
     column
 }
 
+/// Whether a text begins with the end of a line, or is empty.
+fn begins_with_end(text: &str) -> bool
+    ensures { result ≡ begins_with_end text.now }
+{
+    matches!(text.as_bytes(), [] | [b'\n', ..] | [b'\r', b'\n', ..])
+}
+
+/// Whether the first line of a text has blanks alone.
+fn begins_blank_line(text: &str) -> bool
+    ensures { result ≡ is_blank_line (first_of text.now) }
+{
+    begins_with_end(behind_blanks(text))
+}
+
 /// How many lines of blanks a text begins with, and the text behind them.
 pub(crate) fn skip_blank_lines(text: &str) -> (usize, &str)
     ensures count { result.0 ≡ passed_lines (lines text.now) }
@@ -85,10 +99,10 @@ pub(crate) fn skip_blank_lines(text: &str) -> (usize, &str)
     let mut count = 0;
     let mut rest = text;
     while !rest.is_empty() {
-        let (line, behind) = first_line(rest);
-        if !is_blank_line(line) {
+        if !begins_blank_line(rest) {
             return (count, rest);
         }
+        let (_, behind) = first_line(rest);
         count += 1;
         rest = behind;
     }
@@ -99,21 +113,18 @@ pub(crate) fn skip_blank_lines(text: &str) -> (usize, &str)
 pub(crate) fn first_indentation(text: &str) -> u128
     ensures { result ≡ first_indentation (lines text.now) }
 {
-    if text.is_empty() {
-        return 0;
-    }
-    let (line, _) = first_line(text);
-    indentation(line)
+    // blanks end with the line
+    indentation(text)
 }
 
-/// Whether a line belongs to a help text of an indentation.
-fn is_inside(column: u128, line: &str) -> bool
-    ensures { result ≡ is_inside column line.now }
+/// Whether the first line of a text belongs to a help text of an indentation.
+fn is_inside(column: u128, text: &str) -> bool
+    ensures { result ≡ is_inside column (first_of text.now) }
 {
     let mut reached = 0;
-    for byte in line.as_bytes() {
+    for byte in text.as_bytes() {
         if !is_blank(*byte) {
-            return column <= reached;
+            return column <= reached || begins_with_end(behind_blanks(text));
         }
         reached = column_after(reached, *byte);
     }
@@ -133,10 +144,10 @@ pub(crate) fn skip_inside(column: u128, text: &str) -> (usize, &str)
     let mut count = 0;
     let mut rest = text;
     while !rest.is_empty() {
-        let (line, behind) = first_line(rest);
-        if !is_inside(column, line) {
+        if !is_inside(column, rest) {
             return (count, rest);
         }
+        let (_, behind) = first_line(rest);
         count += 1;
         rest = behind;
     }

@@ -1,20 +1,29 @@
-use Rattle.std.proofs.Common.{◌≡◌, ◌∙◌, true, sym, arith, rules}
+use Rattle.std.proofs.Common.{◌≡◌, ◌∙◌, length, ◌<◌, true, ap, sym, arith, rules, tests}
 use Rattle.std.specs.Str.Lines.{lines}
 use Rattle.kc_text.specs.Help.{is_blank_line}
+use Rattle.kc_text.proofs.FirstLines.{first_of-lines, none_pass}
 use Rattle.kc_text.proofs.PhysicalLines.{behind_line, passes_over}
 use Rattle.kc_text.proofs.help.skip_blank_lines.Goals as goal
 
-pub loop-line-preserved : goal.loop-line-preserved
-loop-line-preserved c =
+pub loop-rest-preserved : goal.loop-rest-preserved
+loop-rest-preserved c =
     let test = is_blank_line in
     let all = lines c.args.text.now in
-    let now = lines c.loop-line.rest.now in
+    let now = lines c.loop-rest.rest.now in
     let line = c.first_line.result.0.now in
     let left = lines c.first_line.result.1.now in
-    let passes : test line ≡ true = sym c.is_blank_line.ensures ∙ c.if-not-is_blank_line.false in
+    let passes : test line ≡ true = ap test (sym (first_of-lines c.loop-rest.rest.now line left c.first_line.ensures.lines)) ∙ sym c.begins_blank_line.ensures ∙ c.if-not-begins_blank_line.false in
     record {
       utf8 = search rules;
-      passed = passes_over test all now left c.loop-line.count line c.loop-line.invariant.passed c.loop-line.invariant.behind c.first_line.ensures.lines passes;
-      behind = behind_line test all now left c.loop-line.count line c.loop-line.invariant.passed c.loop-line.invariant.behind c.first_line.ensures.lines;
-      within = omega (arith, c.loop-line.invariant.within, c.first_line.ensures.shorter);
+      passed = passes_over test all now left c.loop-rest.count line c.loop-rest.invariant.passed c.loop-rest.invariant.behind c.first_line.ensures.lines passes;
+      behind = behind_line test all now left c.loop-rest.count line c.loop-rest.invariant.passed c.loop-rest.invariant.behind c.first_line.ensures.lines;
+      within = omega (arith, c.loop-rest.invariant.within, c.first_line.ensures.shorter);
     }
+
+pub returns-then-not-begins_blank_line-clause-count : goal.returns-then-not-begins_blank_line-clause-count
+returns-then-not-begins_blank_line-clause-count c =
+    let test = is_blank_line in
+    let rest = c.loop-rest.rest.now in
+    let some : 0 < length rest = search (rules, tests) in
+    let none = none_pass test rest some (sym c.begins_blank_line.ensures ∙ c.if-not-begins_blank_line.true) in
+    search (rules, none)
