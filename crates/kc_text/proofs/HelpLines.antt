@@ -1,11 +1,9 @@
 -- The lines of a help text.
-use Rattle.std.proofs.Common.{◌≡◌, ◌+◌, ◌*◌, ◌/◌, ◌<◌, ◌≤◌, ◌==◌, ◌||◌, ◌∙◌, ℕ, zero, suc, nat_le, true, false, if◌then◌else◌, List, [], ◌∷◌, length, take, get_or, fold, refl, ap, sym, arith}
+use Rattle.std.proofs.Common.{◌≡◌, ◌+◌, ◌*◌, ◌/◌, ◌<◌, ◌≤◌, ◌==◌, ◌∙◌, ℕ, zero, suc, true, false, if◌then◌else◌, List, [], ◌∷◌, length, take, get_or, fold, refl, ap, sym, arith}
 use Rattle.std.proofs.Math.Nat.{div-mul-le_self}
 use Rattle.std.specs.List.{prefix_len}
-use Rattle.std.proofs.lemmas.Bool.Decides.{nat_tests}
 use Rattle.std.proofs.lemmas.List.Sums.{fold_more, prefix_len-le-length}
-use Rattle.kc_text.specs.Bytes.{is_blank}
-use Rattle.kc_text.specs.Help.{column_after, indentation, is_blank_line, is_inside, len_inside}
+use Rattle.kc_text.specs.Help.{column_after, is_inside, len_inside}
 
 pub take-take : {X : Type 0} (n m : ℕ) (xs : List X) → n ≤ m → take n (take m xs) ≡ take n xs
 take-take zero m xs h = refl
@@ -33,9 +31,3 @@ module _ (line : List ℕ) (i reached : ℕ) (column_is : reached ≡ fold colum
 
   pub column_within : reached ≤ 8 * i → column_after reached (get_or line i 0) ≤ 8 * (i + 1)
   column_within within = omega (arith, within, column_after-le reached (get_or line i 0))
-
-  -- no blank more: the column tells
-  pub inside_by_column : (column : ℕ) → prefix_len is_blank line ≡ i → nat_le column reached ≡ is_inside column line
-  inside_by_column column ends =
-      let other : is_blank_line line ≡ false = grind (arith, nat_tests) in
-      ap (nat_le column) (column_is ∙ ap (λ n. fold column_after 0 (take n line)) (sym ends)) ∙ sym (ap (λ b. b || nat_le column (indentation line)) other)

@@ -113,7 +113,7 @@ pub(crate) fn skip_blank_lines(text: &str) -> (usize, &str)
 pub(crate) fn first_indentation(text: &str) -> u128
     ensures { result ≡ first_indentation (lines text.now) }
 {
-    // blanks end with the line
+    // the blanks before it stand in that line
     indentation(text)
 }
 
