@@ -33,6 +33,7 @@ pub mod PlaceLaws
 pub mod ReachedLaws
 pub mod ReadingLaws
 pub mod ResultLemmas
+pub mod ReservedLaws
 pub mod RoomLaws
 pub mod SearchSteps
 pub mod StatementLaws

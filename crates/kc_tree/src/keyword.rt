@@ -1,7 +1,8 @@
 //! What a line is by its first word.
 
-ghost use Rattle.std.specs.Prelude.{◌≡◌};
-ghost use Rattle.kc_tree.specs.Keywords.{first_keyword, keyword_named, keyword_of, is_attribute_word, is_choice_attribute, is_opener_word, is_closer_word, is_end_of, takes, wants_quotes};
+ghost use Rattle.std.specs.Prelude.{◌≡◌, false};
+ghost use Rattle.std.specs.Option.{option_map_or};
+ghost use Rattle.kc_tree.specs.Keywords.{first_keyword, keyword_named, keyword_of, is_attribute_word, is_choice_attribute, is_config, is_config_word, is_opener_word, is_closer_word, is_end_of, takes, wants_quotes};
 
 use kc_text::{Line, LineKind, Token};
 
@@ -83,6 +84,13 @@ fn keyword_named(word: &str) -> Option<Keyword>
     }
 }
 
+/// Whether a word begins the definition of a symbol.
+fn begins_definition(word: &str) -> bool
+    ensures { result ≡ option_map_or is_config_word (keyword_named word.now) false }
+{
+    word == "config" || word == "menuconfig"
+}
+
 fn first_keyword(tokens: &[Token<'_>]) -> Option<Keyword>
     ensures { result ≡ first_keyword tokens.now }
 {
@@ -101,6 +109,26 @@ pub(crate) fn read_keyword(line: &Line<'_>) -> Option<Keyword>
     match line.kind() {
         LineKind::Statement => first_keyword(line.tokens()),
         LineKind::EndOfFile => None,
+    }
+}
+
+/// Whether the first word of a line is `config` or `menuconfig`.
+fn starts_config(tokens: &[Token<'_>]) -> bool
+    ensures { result ≡ option_map_or is_config_word (first_keyword tokens.now) false }
+{
+    match tokens.first() {
+        Some(Token::Word(word)) => begins_definition(word.as_str()),
+        _ => false,
+    }
+}
+
+/// Whether a line defines a symbol, by its first word. It asks for no other keyword, since each line is asked.
+pub(crate) fn is_config(line: &Line<'_>) -> bool
+    ensures { result ≡ is_config line.now }
+{
+    match line.kind() {
+        LineKind::Statement => starts_config(line.tokens()),
+        LineKind::EndOfFile => false,
     }
 }
 

@@ -8,7 +8,7 @@ ghost use Rattle.kc_tree.specs.TreeValue.{symbol_among};
 
 use crate::expr::Term;
 use crate::id::SymId;
-use crate::keyword::{Keyword, read_keyword};
+use crate::keyword::is_config;
 use crate::names::Names;
 use crate::tri::Tri;
 use kc_text::{Line, Text, TextRef, Token};
@@ -19,6 +19,9 @@ const MOST_SYMBOLS: usize = 65_535;
 
 /// The number of lines that most definitions have at least, by which room for names is made at once.
 const USUAL_LINES: usize = 4;
+
+/// The length of the longest word that could name a symbol and stands for something else: `if`.
+const LONGEST_RESERVED: usize = 2;
 
 /// Whether a word names a symbol: one or more ASCII letters, digits and `_`, and not n, m, y or if.
 pub(crate) fn is_name(word: &str) -> bool
@@ -37,10 +40,11 @@ fn are_name_bytes(bytes: &[u8]) -> bool
 }
 
 /// Whether a word that could name a symbol stands for something else.
+#[tactic(auto, using(crate::proofs::ReservedLaws::long_not_reserved))]
 fn is_reserved(word: &str) -> bool
     ensures { result ≡ is_reserved word.now }
 {
-    word == "n" || word == "m" || word == "y" || word == "if"
+    word.len() <= LONGEST_RESERVED && (word == "n" || word == "m" || word == "y" || word == "if")
 }
 
 /// The word of a token, also one that holds a reference.
@@ -106,9 +110,10 @@ fn defined_name<'a>(line: &'a Line<'_>) -> Option<TextRef<'a>>
     let [_, name] = line.tokens() else {
         return None;
     };
-    match read_keyword(line) {
-        Some(Keyword::Config) => name_word(name),
-        _ => None,
+    if is_config(line) {
+        name_word(name)
+    } else {
+        None
     }
 }
 

@@ -3,19 +3,18 @@
 ghost use Rattle.std.specs.Prelude.{◌≡◌, ◌≤◌, ◌<◌, ◌+◌, ◌^◌, ◌==◌, [], ◌∷◌, ℕ, All, length, reverse, take, IfOk, IfErr, OnOk};
 ghost use Rattle.kc_tree.specs.Accepted.{IsEntryOf};
 ghost use Rattle.kc_tree.specs.Names.{names_of};
-ghost use Rattle.kc_tree.specs.TreeOf.{IsReading, IsOutlineOf};
+ghost use Rattle.kc_tree.specs.TreeOf.{IsOutlineOf};
 ghost use Rattle.kc_tree.specs.PlaceValue.{IsPlaceAfter};
 ghost use Rattle.kc_tree.specs.Faults.{IsReadFault};
-ghost use Rattle.kc_tree.specs.Reader.{reading_of, IsOutlineAfter, IsStop, IsToldFor};
+ghost use Rattle.kc_tree.specs.Reader.{IsOutlineAfter, IsStop, IsToldFor};
 
 use crate::fault::{TreeFault, TreeProblem};
-use crate::id::{BlockId, ChoiceId};
 use crate::keyword::read_keyword;
 use crate::line_faults::{early_problem, late_problem};
 use crate::name::read_names;
 use crate::names::Names;
 use crate::outline::Outline;
-use crate::place::{MOST_CHOICES, Owner, Place};
+use crate::place::{MOST_CHOICES, Place};
 use crate::statement::Statement;
 use crate::statement_forms::read_statement;
 use kc_text::{Line, Text};
@@ -48,39 +47,6 @@ fn refused(statement: Statement, stop: Stop) -> Stop
     stop
 }
 
-/// What a line says, the block and the choice that it stands in, and what owns it. It comes after those that were
-/// seen, and so many follow it.
-fn read_line(
-    alloc: Global,
-    names: &Names,
-    place: &mut Place,
-    seen: &[Line<'_>],
-    line: &Line<'_>,
-    following: usize,
-) -> Result<(Statement, Option<BlockId>, Option<ChoiceId>, Option<Owner>), Stop>
-    requires few { length names.now ≤ 65535 }
-    requires place { IsPlaceAfter names.now (reverse seen.now) place.old }
-    ensures reading { IfOk result (λ r. IsReading names.now (reverse seen.now) (following == 0) line.now (reading_of r)) }
-    ensures place { OnOk result (IsPlaceAfter names.now (line.now ∷ reverse seen.now) place.new) }
-    ensures stop { IfErr result (IsStop names.now (reverse seen.now) (following == 0) line.now) }
-{
-    let keyword = read_keyword(line);
-    if let Some(problem) = early_problem(place, seen, line, keyword, following == 0) {
-        return Err(Stop::Problem(problem));
-    }
-    let Some(statement) = read_statement(alloc, names, line, keyword)? else {
-        return Err(Stop::Problem(TreeProblem::Malformed));
-    };
-    if let Some(problem) = late_problem(place, seen, line, keyword, &statement) {
-        return Err(refused(statement, Stop::Problem(problem)));
-    }
-    let (block, choice) = (place.innermost(), place.choice());
-    if place.take(names, seen, line, keyword, &statement).is_err() {
-        return Err(refused(statement, Stop::NoMemory));
-    }
-    Ok((statement, block, choice, place.owner()))
-}
-
 /// Takes a line after those that were seen. So many lines follow it.
 fn take_line(
     alloc: Global,
@@ -97,15 +63,22 @@ fn take_line(
     ensures place { OnOk result (IsPlaceAfter outline.old.names (line.now ∷ reverse seen.now) place.new) }
     ensures stop { IfErr result (IsStop outline.old.names (reverse seen.now) (following == 0) line.now) }
 {
-    let (statement, block, choice, owner) = read_line(
-        alloc,
-        &outline.names,
-        place,
-        seen,
-        line,
-        following,
-    )?;
-    outline.take(alloc, statement, block, choice, owner)?;
+    let keyword = read_keyword(line);
+    if let Some(problem) = early_problem(place, seen, line, keyword, following == 0) {
+        return Err(Stop::Problem(problem));
+    }
+    let Some(statement) = read_statement(alloc, &outline.names, line, keyword)? else {
+        return Err(Stop::Problem(TreeProblem::Malformed));
+    };
+    if let Some(problem) = late_problem(place, seen, line, keyword, &statement) {
+        return Err(refused(statement, Stop::Problem(problem)));
+    }
+    let (block, choice) = (place.innermost(), place.choice());
+    let taken = place.take(&outline.names, seen, line, keyword, &statement);
+    if taken.is_err() {
+        return Err(refused(statement, Stop::NoMemory));
+    }
+    outline.take(alloc, statement, block, choice, place.owner())?;
     Ok(())
 }
 
