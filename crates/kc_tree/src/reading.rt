@@ -12,7 +12,6 @@ use crate::fault::{TreeFault, TreeProblem};
 use crate::keyword::read_keyword;
 use crate::line_faults::{early_problem, late_problem};
 use crate::name::read_names;
-use crate::names::Names;
 use crate::outline::Outline;
 use crate::place::{MOST_CHOICES, Place};
 use crate::statement::Statement;
