@@ -1,22 +1,15 @@
 -- What is known while lines are read: this project's own.
-use Rattle.std.specs.Prelude.{◌≡◌, ℕ, Bool, List, Option, reverse}
+use Rattle.std.specs.Prelude.{◌≡◌, ℕ, Bool, List, reverse}
 use Rattle.kc_text.specs.LineValue.{LineValue}
 use Rattle.kc_tree.specs.declared.fault.TreeFault.{TreeFault}
 use Rattle.kc_tree.specs.declared.fault.TreeFault.TheVariants as fault
 use Rattle.kc_tree.specs.declared.fault.TreeProblem.{TreeProblem}
-use Rattle.kc_tree.specs.declared.id.BlockId.{BlockId}
-use Rattle.kc_tree.specs.declared.id.ChoiceId.{ChoiceId}
-use Rattle.kc_tree.specs.declared.place.Owner.{Owner}
-use Rattle.kc_tree.specs.declared.statement.Statement.{Statement}
 use Rattle.kc_tree.specs.declared.reading.Stop.{Stop}
 use Rattle.kc_tree.specs.declared.reading.Stop.TheVariants.{Problem, NoMemory}
 use Rattle.kc_tree.specs.LineFaults.{HasProblem}
 use Rattle.kc_tree.specs.TreeOf.{Reading, AreReadingsBefore, tree_of}
 use Rattle.kc_tree.specs.Outline.{AreMade}
 use Rattle.kc_tree.specs.TreeValue.{TreeValue}
-
-abbrev pub reading_of : Statement × Option BlockId × Option ChoiceId × Option Owner → Reading
-reading_of r = record { statement = r.0; block = r.1; choice = r.2; owner = r.3 }
 
 -- the lines before, the last first, are read, and the outline is their tree
 pub record IsOutlineAfter (names : List (List ℕ)) (following : ℕ) (earlier : List LineValue) (t : TreeValue) : Type 0 where
