@@ -147,6 +147,31 @@ fn nodes_text(alloc: Global, tree: &Tree, nodes: &[Node]) -> Result<String, Allo
     Ok(out)
 }
 
+/// How many nodes of a tree are among those.
+fn count_among(tree: &Tree, nodes: &[Node]) -> usize {
+    tree.nodes().filter(|node| nodes.contains(node)).count()
+}
+
+/// Wants a node of a tree to use what its row has, and nothing twice.
+fn uses_its_row(
+    rt: &impl Abort,
+    alloc: Global,
+    tree: &Tree,
+    node: Node,
+    row: &str,
+) -> Result<(), Fail> {
+    let (name, want) = two_fields(alloc, row)?;
+    assert_eq!(rt; node_text(alloc, tree, node)?.as_str(), name.as_str());
+    let used = uses(rt, tree, node);
+    assert_eq!(rt;
+        nodes_text(alloc, tree, used)?.as_str(),
+        want.as_str(),
+        "at {row}"
+    );
+    assert_eq!(rt; used.len(), count_among(tree, used), "at {row}");
+    Ok(())
+}
+
 #[test]
 fn nodes_use_what_they_read(rt: HostRuntime) -> Result<(), Fail> {
     let alloc = rt.alloc();
@@ -154,20 +179,7 @@ fn nodes_use_what_they_read(rt: HostRuntime) -> Result<(), Fail> {
     let rows = rows(alloc, USES)?;
     assert_eq!(rt; rows.len(), tree.node_count());
     for (row, node) in rows.iter().zip(tree.nodes()) {
-        let (name, want) = two_fields(alloc, row)?;
-        assert_eq!(rt; node_text(alloc, &tree, node)?.as_str(), name.as_str());
-        let used = uses(&rt, &tree, node);
-        assert_eq!(rt;
-            nodes_text(alloc, &tree, used)?.as_str(),
-            want.as_str(),
-            "at {row}"
-        );
-        // None stands there twice.
-        assert_eq!(rt;
-            used.len(),
-            tree.nodes().filter(|node| used.contains(node)).count(),
-            "at {row}"
-        );
+        uses_its_row(&rt, alloc, &tree, node, row)?;
     }
     Ok(())
 }
