@@ -35,12 +35,12 @@ pub(crate) fn replies_to_pieces(
     stream: &str,
     piece: usize,
     session: &mut Session,
-) -> Result<Vec<u8>, Fail> {
+) -> Result<String, Fail> {
     let mut reader = FailingReader::new(stream.as_bytes(), piece, NEVER);
     let mut writer = FailingWriter::new(alloc, 5, NEVER, NEVER);
     run(alloc, &mut reader, &mut writer, session)?;
     let FailingWriter { taken, .. } = writer;
-    Ok(taken)
+    Ok(String::from_utf8(taken)?)
 }
 
 /// The replies of a session to a stream.
@@ -48,6 +48,6 @@ pub(crate) fn replies_to(
     alloc: Global,
     stream: &str,
     session: &mut Session,
-) -> Result<Vec<u8>, Fail> {
+) -> Result<String, Fail> {
     replies_to_pieces(alloc, stream, 3, session)
 }

@@ -32,6 +32,15 @@ fn counts_of(alloc: Global, tree: &Tree) -> Result<String, AllocError> {
     format!(in alloc; "{symbols} {definitions} {blocks} {comments} {entries} {nodes}")
 }
 
+/// The counts of the tree of a text, or its fault as the program tells it.
+fn outcome_of(alloc: Global, text: &str) -> Result<String, Fail> {
+    let outcome = match parsed(alloc, text)? {
+        Ok(tree) => counts_of(alloc, &tree)?,
+        Err(fault) => format!(in alloc; "{fault}")?,
+    };
+    Ok(outcome)
+}
+
 /// Texts with the counts of their trees, or with their faults as the program tells them.
 const TEXTS: &str = r#"
  | 0 0 0 0 0 0
@@ -54,10 +63,7 @@ fn reads_trees_and_first_faults(rt: HostRuntime) -> Result<(), Fail> {
     let alloc = rt.alloc();
     for row in rows(alloc, TEXTS)? {
         let (text, want) = two_fields(alloc, row)?;
-        let found = match parsed(alloc, text.as_str())? {
-            Ok(tree) => counts_of(alloc, &tree)?,
-            Err(fault) => format!(in alloc; "{fault}")?,
-        };
+        let found = outcome_of(alloc, text.as_str())?;
         assert_eq!(rt; found.as_str(), want.as_str(), "at {row}");
     }
     Ok(())

@@ -106,10 +106,7 @@ fn a_failed_write_leaves_the_effect_of_its_command(rt: HostRuntime) -> Result<()
         let writer = FailingWriter::new(rt.alloc(), 1, call, NEVER);
         let mut served = serve_stream(rt.alloc(), reader, writer)?;
         let shown = replies_to(rt.alloc(), "show A\n", &mut served.session)?;
-        assert!(rt;
-            shown.as_slice().ends_with(want.as_bytes()),
-            "at call {call}"
-        );
+        assert!(rt; shown.as_str().ends_with(want), "at call {call}: {shown}");
     }
     Ok(())
 }

@@ -28,10 +28,10 @@ fn serve_row(rt: &impl Abort, alloc: Global, row: &str, piece: usize) -> Result<
     let (stream, want, config) = three_fields(alloc, row)?;
     let mut session = session_of(alloc, TWO_STRINGS)?;
     let found = replies_to_pieces(alloc, stream.as_str(), piece, &mut session)?;
-    assert_eq!(rt; found.as_slice(), want.as_bytes(), "at {row}");
+    assert_eq!(rt; found.as_str(), want.as_str(), "at {row}");
     let left = replies_to(alloc, "config\n", &mut session)?;
     let config = format!(in alloc; "{config}ok\n")?;
-    assert_eq!(rt; left.as_slice(), config.as_bytes(), "at {row}");
+    assert_eq!(rt; left.as_str(), config.as_str(), "at {row}");
     Ok(())
 }
 
@@ -71,10 +71,7 @@ fn a_line_is_too_long_past_its_limit(rt: HostRuntime) -> Result<(), Fail> {
         let found = replies_to_pieces(alloc, stream.as_str(), 1000, &mut session)?;
         let want = if is_taken { taken.as_str() } else { refused };
         // Not the texts themselves, which are long.
-        assert!(rt;
-            found.as_slice() == want.as_bytes(),
-            "at {bytes} and {end:?}"
-        );
+        assert!(rt; found.as_str() == want, "at {bytes} and {end:?}");
     }
     Ok(())
 }
@@ -90,10 +87,7 @@ fn a_failed_read_ends_the_stream(rt: HostRuntime) -> Result<(), Fail> {
     assert_eq!(rt; result, Err(IoFault::Read));
     assert_eq!(rt; writer.taken.as_slice(), b"ok\n".as_slice());
     let left = replies_to(alloc, "config\n", &mut session)?;
-    assert_eq!(rt;
-        left.as_slice(),
-        b"CONFIG_S=\"a\"\nCONFIG_T=\"\"\nok\n".as_slice()
-    );
+    assert_eq!(rt; left.as_str(), "CONFIG_S=\"a\"\nCONFIG_T=\"\"\nok\n");
     Ok(())
 }
 

@@ -12,7 +12,7 @@ fn serve_table(rt: &impl Abort, alloc: Global, kconfig: &str, table: &str) -> Re
     for row in rows(alloc, table)? {
         let (stream, want) = two_fields(alloc, row)?;
         let found = replies_to(alloc, stream.as_str(), &mut session)?;
-        assert_eq!(rt; found.as_slice(), want.as_bytes(), "at {row}");
+        assert_eq!(rt; found.as_str(), want.as_str(), "at {row}");
     }
     Ok(())
 }
@@ -36,7 +36,7 @@ fn values_follow_the_user_and_the_dependencies(rt: HostRuntime) -> Result<(), Fa
 fn an_empty_stream_has_no_reply(rt: HostRuntime) -> Result<(), Fail> {
     let mut session = session_of(rt.alloc(), TWO_BOOLS)?;
     let found = replies_to(rt.alloc(), "", &mut session)?;
-    assert_eq!(rt; found.as_slice(), b"".as_slice());
+    assert_eq!(rt; found.as_str(), "");
     Ok(())
 }
 

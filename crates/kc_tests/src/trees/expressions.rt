@@ -44,19 +44,25 @@ fn shown(alloc: Global, tree: &Tree) -> Result<String, AllocError> {
     Ok(out)
 }
 
+/// How the tree keeps an expression, or the fault of its line.
+fn kept_as(alloc: Global, expression: &str) -> Result<String, Fail> {
+    // Behind `if`, since a line `depends on` with the word `if` is left out (K20), whatever else is wrong.
+    let text = format!(in alloc;
+        "IF = if\nconfig A\nbool\nconfig B\nbool\nif {expression}\nendif\n"
+    )?;
+    let kept = match parsed(alloc, text.as_str())? {
+        Ok(tree) => shown(alloc, &tree)?,
+        Err(fault) => format!(in alloc; "{fault}")?,
+    };
+    Ok(kept)
+}
+
 #[test]
 fn expressions_and_others(rt: HostRuntime) -> Result<(), Fail> {
     let alloc = rt.alloc();
     for row in rows(alloc, EXPRESSIONS)? {
-        let (written, want) = two_fields(alloc, row)?;
-        // Behind `if`, since a line `depends on` with the word `if` is left out (K20), whatever else is wrong.
-        let text = format!(in alloc;
-            "IF = if\nconfig A\nbool\nconfig B\nbool\nif {written}\nendif\n"
-        )?;
-        let found = match parsed(alloc, text.as_str())? {
-            Ok(tree) => shown(alloc, &tree)?,
-            Err(fault) => format!(in alloc; "{fault}")?,
-        };
+        let (expression, want) = two_fields(alloc, row)?;
+        let found = kept_as(alloc, expression.as_str())?;
         assert_eq!(rt; found.as_str(), want.as_str(), "at {row}");
     }
     Ok(())

@@ -107,15 +107,21 @@ fn shown(alloc: Global, tree: &Tree) -> Result<String, AllocError> {
     Ok(out)
 }
 
+/// What the tree of a text has, or its fault.
+fn outcome_of(alloc: Global, text: &str) -> Result<String, Fail> {
+    let outcome = match parsed(alloc, text)? {
+        Ok(tree) => shown(alloc, &tree)?,
+        Err(fault) => format!(in alloc; "{fault}")?,
+    };
+    Ok(outcome)
+}
+
 #[test]
 fn lines_have_their_forms(rt: HostRuntime) -> Result<(), Fail> {
     let alloc = rt.alloc();
     for row in rows(alloc, FORMS)? {
         let (text, want) = two_fields(alloc, row)?;
-        let found = match parsed(alloc, text.as_str())? {
-            Ok(tree) => shown(alloc, &tree)?,
-            Err(fault) => format!(in alloc; "{fault}")?,
-        };
+        let found = outcome_of(alloc, text.as_str())?;
         assert_eq!(rt; found.as_str(), want.as_str(), "at {row}");
     }
     Ok(())

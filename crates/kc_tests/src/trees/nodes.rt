@@ -68,23 +68,34 @@ fn is_among_users(rt: &impl Abort, tree: &Tree, node: Node) -> bool {
     tree.nodes().all(|other| used.contains(&other) == used_by(rt, tree, other).contains(&node))
 }
 
+/// How many nodes a tree has, or what is wrong with their order or their uses.
+fn order_of(rt: &impl Abort, alloc: Global, tree: &Tree) -> Result<String, Fail> {
+    if !has_each_node_once(tree) {
+        return Ok(String::from_str(alloc, "not each node once")?);
+    }
+    if !comes_after_uses(rt, alloc, tree)? {
+        return Ok(String::from_str(alloc, "a node before what it uses")?);
+    }
+    if !tree.nodes().all(|node| is_among_users(rt, tree, node)) {
+        return Ok(String::from_str(alloc, "a use from one side")?);
+    }
+    let count = tree.node_count();
+    Ok(format!(in alloc; "{count}")?)
+}
+
+/// What [`order_of`] says of the tree of a text.
+fn order_in(rt: &impl Abort, alloc: Global, text: &str) -> Result<String, Fail> {
+    let tree = parsed(alloc, text)??;
+    order_of(rt, alloc, &tree)
+}
+
 #[test]
 fn nodes_stand_in_order(rt: HostRuntime) -> Result<(), Fail> {
     let alloc = rt.alloc();
     for row in rows(alloc, TREES)? {
-        let (text, count) = two_fields(alloc, row)?;
-        let tree = parsed(alloc, text.as_str())??;
-        let nodes = tree.node_count();
-        assert_eq!(rt;
-            format!(in alloc; "{nodes}")?.as_str(),
-            count.as_str(),
-            "at {row}"
-        );
-        assert!(rt; has_each_node_once(&tree), "at {row}");
-        assert!(rt; comes_after_uses(&rt, alloc, &tree)?, "at {row}");
-        for node in tree.nodes() {
-            assert!(rt; is_among_users(&rt, &tree, node), "at {row}");
-        }
+        let (text, want) = two_fields(alloc, row)?;
+        let found = order_in(&rt, alloc, text.as_str())?;
+        assert_eq!(rt; found.as_str(), want.as_str(), "at {row}");
     }
     Ok(())
 }
@@ -132,24 +143,30 @@ fn node_text(alloc: Global, tree: &Tree, node: Node) -> Result<String, AllocErro
     format!(in alloc; "{word} {name}")
 }
 
-/// Nodes in the order of their numbers, as `vis A, val B`, and as `-` where there are none.
+/// Those of a tree's nodes that are among some, in the order of their numbers.
+fn sorted(alloc: Global, tree: &Tree, nodes: &[Node]) -> Result<Vec<Node>, Fail> {
+    let mut sorted = Vec::new(alloc);
+    for node in tree.nodes() {
+        if nodes.contains(&node) {
+            sorted.push(node)?;
+        }
+    }
+    Ok(sorted)
+}
+
+/// Nodes as `vis A, val B`, and as `-` where there are none.
 fn nodes_text(alloc: Global, tree: &Tree, nodes: &[Node]) -> Result<String, AllocError> {
     if nodes.is_empty() {
         return String::from_str(alloc, "-");
     }
     let mut out = String::new(alloc);
-    for node in tree.nodes().filter(|node| nodes.contains(node)) {
+    for node in nodes {
         if !out.is_empty() {
             out.push_str(", ")?;
         }
-        out.push_str(node_text(alloc, tree, node)?.as_str())?;
+        out.push_str(node_text(alloc, tree, *node)?.as_str())?;
     }
     Ok(out)
-}
-
-/// How many nodes of a tree are among those.
-fn count_among(tree: &Tree, nodes: &[Node]) -> usize {
-    tree.nodes().filter(|node| nodes.contains(node)).count()
 }
 
 /// Wants a node of a tree to use what its row has, and nothing twice.
@@ -161,25 +178,29 @@ fn uses_its_row(
     row: &str,
 ) -> Result<(), Fail> {
     let (name, want) = two_fields(alloc, row)?;
-    assert_eq!(rt; node_text(alloc, tree, node)?.as_str(), name.as_str());
+    let found = node_text(alloc, tree, node)?;
+    assert_eq!(rt; found.as_str(), name.as_str());
     let used = uses(rt, tree, node);
-    assert_eq!(rt;
-        nodes_text(alloc, tree, used)?.as_str(),
-        want.as_str(),
-        "at {row}"
-    );
-    assert_eq!(rt; used.len(), count_among(tree, used), "at {row}");
+    let sorted = sorted(alloc, tree, used)?;
+    assert_eq!(rt; used.len(), sorted.len(), "at {row}");
+    let found = nodes_text(alloc, tree, sorted.as_slice())?;
+    assert_eq!(rt; found.as_str(), want.as_str(), "at {row}");
+    Ok(())
+}
+
+/// Wants the nodes of a tree to use what the rows have, one for each.
+fn use_their_rows(rt: &impl Abort, alloc: Global, tree: &Tree, rows: &[&str]) -> Result<(), Fail> {
+    assert_eq!(rt; rows.len(), tree.node_count());
+    for (row, node) in rows.iter().zip(tree.nodes()) {
+        uses_its_row(rt, alloc, tree, node, row)?;
+    }
     Ok(())
 }
 
 #[test]
 fn nodes_use_what_they_read(rt: HostRuntime) -> Result<(), Fail> {
     let alloc = rt.alloc();
-    let tree = parsed(alloc, TREE)??;
     let rows = rows(alloc, USES)?;
-    assert_eq!(rt; rows.len(), tree.node_count());
-    for (row, node) in rows.iter().zip(tree.nodes()) {
-        uses_its_row(&rt, alloc, &tree, node, row)?;
-    }
-    Ok(())
+    let tree = parsed(alloc, TREE)??;
+    use_their_rows(&rt, alloc, &tree, rows.as_slice())
 }
