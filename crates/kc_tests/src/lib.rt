@@ -6,7 +6,11 @@
 #[cfg(test)]
 mod comparisons;
 #[cfg(test)]
+mod faults;
+#[cfg(test)]
 mod prefixes;
+#[cfg(test)]
+mod sessions;
 #[cfg(test)]
 mod streams;
 #[cfg(test)]

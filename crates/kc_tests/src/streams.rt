@@ -6,7 +6,7 @@ mod replies;
 
 use crate::streams::failing::{FailingReader, FailingWriter, NEVER};
 use kc_files::Prefix;
-use kc_session::{Session, open, run};
+use kc_session::{OpenFault, Session, open, run};
 use kc_text::{Sources, Vars};
 use std::alloc::Global;
 use std::test::Fail;
@@ -21,12 +21,17 @@ config B
     depends on A
 "#;
 
-/// A session of a Kconfig, without user values.
-pub(crate) fn session_of(alloc: Global, kconfig: &str) -> Result<Session, Fail> {
+/// What opening a Kconfig gives, without user values.
+pub(crate) fn opened(alloc: Global, kconfig: &str) -> Result<Result<Session, OpenFault>, Fail> {
     let mut sources = Sources::new(alloc);
     sources.add("Kconfig", kconfig)?;
     let prefix = Prefix::new(alloc, "CONFIG_")?;
-    Ok(open(alloc, &sources, &Vars::none(alloc), "Kconfig", &prefix)?)
+    Ok(open(alloc, &sources, &Vars::none(alloc), "Kconfig", &prefix))
+}
+
+/// A session of a Kconfig, without user values.
+pub(crate) fn session_of(alloc: Global, kconfig: &str) -> Result<Session, Fail> {
+    Ok(opened(alloc, kconfig)??)
 }
 
 /// The replies of a session to a stream that comes in pieces of so many bytes.

@@ -1,0 +1,47 @@
+//! Expressions at the limit of their depth.
+use crate::faults::fault_of;
+use crate::sessions::replies_of;
+use crate::text_layer::repeated;
+use std::alloc::{AllocError, Global};
+use std::test::Fail;
+
+/// `A`, and `B` with a default of so many signs before `A` and after it.
+fn deep_default(
+    alloc: Global,
+    count: usize,
+    before: &str,
+    after: &str,
+) -> Result<String, AllocError> {
+    let before = repeated(alloc, before, count)?;
+    let after = repeated(alloc, after, count)?;
+    format!(in alloc; "config A\nbool \"a\"\nconfig B\ndef_bool {before}A{after}\n")
+}
+
+#[test]
+fn an_expression_may_be_64_deep(rt: HostRuntime) -> Result<(), Fail> {
+    let alloc = rt.alloc();
+    let want =
+        "B type=bool value=n vis=n can=- user=-\nok\nok\nB type=bool value=y vis=n can=- user=-\nok\n";
+    for (before, after) in [("!", ""), ("(", ")")] {
+        let kconfig = deep_default(alloc, 64, before, after)?;
+        let found = replies_of(alloc, kconfig.as_str(), "show B\nset A y\nshow B\n")?;
+        assert_eq!(rt; found.as_str(), want, "at {before:?}");
+    }
+    Ok(())
+}
+
+#[test]
+fn an_expression_may_not_be_deeper(rt: HostRuntime) -> Result<(), Fail> {
+    let alloc = rt.alloc();
+    for (count, before, after, want) in [
+        (65, "!", "", "Kconfig:4: K01"),
+        (65, "(", "", "Kconfig:4: K01"),
+        (65, "(", ")", "Kconfig:4: K01"),
+        (64, "(", "", "Kconfig:4: K05"),
+    ] {
+        let kconfig = deep_default(alloc, count, before, after)?;
+        let found = fault_of(alloc, kconfig.as_str())?;
+        assert_eq!(rt; found.as_str(), want, "at {count} {before:?}");
+    }
+    Ok(())
+}
