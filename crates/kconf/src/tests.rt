@@ -1,14 +1,7 @@
 //! The program over files and streams in memory.
-mod choices;
 mod commands;
-mod comparisons;
 mod faults;
 mod files;
-mod order;
-mod pages;
-mod ranges;
-mod texts;
-mod values;
 mod variables;
 mod words;
 

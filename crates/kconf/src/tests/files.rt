@@ -3,6 +3,7 @@ use crate::folder::{Folder, FolderFault};
 use crate::tests::{MemoryFolder, Outcome, run_in, run_program};
 use std::alloc::{AllocError, Global};
 use std::cell::Cell;
+use std::process::Abort;
 use std::test::Fail;
 
 const SESSION: [&str; 4] = ["kconf", "session", "Kconfig", "-"];
@@ -54,8 +55,20 @@ fn sourced_files_are_read(rt: HostRuntime) -> Result<(), Fail> {
     Ok(())
 }
 
+// Wants a fault of a top file among the other files.
+fn tells_fault(rt: &impl Abort, alloc: Global, kconfig: &str, want: &str) {
+    let outcome = run_files(alloc, kconfig);
+    assert_eq!(rt;
+        outcome.errors.as_slice(),
+        want.as_bytes(),
+        "at {kconfig:?}"
+    );
+    assert_eq!(rt; outcome.status, 1, "at {kconfig:?}");
+    assert_eq!(rt; outcome.output.as_slice(), b"".as_slice(), "at {kconfig:?}");
+}
+
 #[test]
-fn the_first_fault_of_files_is_told(rt: HostRuntime) -> Result<(), Fail> {
+fn faults_of_sourced_files_are_told(rt: HostRuntime) {
     let rows = [
         ("source \"missing\"\n", "kconf: missing: cannot read\n"),
         ("source \"$(NAME)/b\"\n", "kconf: /b: cannot read\n"),
@@ -66,47 +79,84 @@ fn the_first_fault_of_files_is_told(rt: HostRuntime) -> Result<(), Fail> {
             "kconf: bad character:1: K02\n",
         ),
         (
-            "source \"missing\"\nsource \"bad\"\n",
-            "kconf: missing: cannot read\n",
-        ),
-        (
-            "source \"bad\"\nsource \"missing\"\n",
-            "kconf: bad: not UTF-8\n",
-        ),
-        (
-            "source \"b\"\nsource \"missing\"\n",
-            "kconf: missing: cannot read\n",
-        ),
-        (
-            "source \"names missing\"\nsource \"bad\"\n",
-            "kconf: missing: cannot read\n",
-        ),
-        (
-            "source \"bad character\"\nsource \"bad\"\n",
-            "kconf: bad character:1: K02\n",
-        ),
-        ("default @\nsource \"missing\"\n", "kconf: Kconfig:1: K02\n"),
-        (
-            "frob\nsource \"missing\"\n",
-            "kconf: missing: cannot read\n",
-        ),
-        (
             "source \"b\"\nsource \"Kconfig\"\n",
             "kconf: Kconfig:2: K09\n",
         ),
         ("source \"itself\"\n", "kconf: itself:2: K09\n"),
     ];
     for (kconfig, want) in rows {
-        let outcome = run_files(rt.alloc(), kconfig);
-        assert_eq!(rt;
-            outcome.errors.as_slice(),
-            want.as_bytes(),
-            "at {kconfig:?}"
-        );
-        assert_eq!(rt; outcome.status, 1, "at {kconfig:?}");
-        assert_eq!(rt; outcome.output.as_slice(), b"".as_slice(), "at {kconfig:?}");
+        tells_fault(&rt, rt.alloc(), kconfig, want);
     }
-    Ok(())
+}
+
+#[test]
+fn the_first_fault_of_files_is_told(rt: HostRuntime) {
+    let missing = "kconf: missing: cannot read\n";
+    let rows = [
+        ("source \"missing\"\nsource \"bad\"\n", missing),
+        (
+            "source \"bad\"\nsource \"missing\"\n",
+            "kconf: bad: not UTF-8\n",
+        ),
+        ("source \"b\"\nsource \"missing\"\n", missing),
+        ("source \"names missing\"\nsource \"bad\"\n", missing),
+        (
+            "source \"bad character\"\nsource \"bad\"\n",
+            "kconf: bad character:1: K02\n",
+        ),
+        ("default @\nsource \"missing\"\n", "kconf: Kconfig:1: K02\n"),
+        ("frob\nsource \"missing\"\n", missing),
+        ("bool a\nsource \"missing\"\n", missing),
+    ];
+    for (kconfig, want) in rows {
+        tells_fault(&rt, rt.alloc(), kconfig, want);
+    }
+}
+
+// Runs `session Kconfig -` on the text of the top file and on files that open blocks, close them or do both, and
+// wants a fault, or none where it is empty.
+fn tells_block(rt: &impl Abort, alloc: Global, kconfig: &str, want: &str) {
+    let files = [
+        ("Kconfig", kconfig.as_bytes()),
+        ("opens", b"if y\n".as_slice()),
+        ("closes", b"endif x\n".as_slice()),
+        ("starts", b"choice\n".as_slice()),
+        ("ends", b"endchoice\n".as_slice()),
+        ("bare", b"\nchoice\nendchoice\n".as_slice()),
+        ("empty", b"".as_slice()),
+    ];
+    let outcome = run_program(alloc, SESSION.as_slice(), files.as_slice(), b"");
+    assert_eq!(rt;
+        outcome.errors.as_slice(),
+        want.as_bytes(),
+        "at {kconfig:?}"
+    );
+    assert_eq!(rt; outcome.status == 0, want.is_empty(), "at {kconfig:?}");
+}
+
+#[test]
+fn a_block_belongs_to_its_file(rt: HostRuntime) {
+    let rows = [
+        ("source \"opens\"\nendif\n", "kconf: opens:2: K07\n"),
+        ("if y\nsource \"closes\"\n", "kconf: closes:1: K07\n"),
+        ("choice\nsource \"ends\"\n", "kconf: ends:1: K07\n"),
+        ("choice\nsource \"opens\"\n", "kconf: opens:2: K07\n"),
+        ("source \"starts\"\nendchoice\n", "kconf: starts:2: K07\n"),
+        (
+            "choice\nsource \"empty\"\nendchoice\n",
+            "kconf: Kconfig:1: K17\n",
+        ),
+        ("source \"bare\"\n", "kconf: bare:2: K17\n"),
+        ("if y\nsource \"empty\"\n", "kconf: Kconfig:3: K07\n"),
+        (
+            "config A\nsource \"empty\"\ndefault y\n",
+            "kconf: Kconfig:3: K06\n",
+        ),
+        ("if y\nsource \"empty\"\nendif\n", ""),
+    ];
+    for (kconfig, want) in rows {
+        tells_block(&rt, rt.alloc(), kconfig, want);
+    }
 }
 
 #[test]
