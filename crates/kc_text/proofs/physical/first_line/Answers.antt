@@ -1,17 +1,34 @@
-use Rattle.std.proofs.Common.{◌∷◌, ◌∙◌, ap, sym, arith}
+use Rattle.std.proofs.Common.{◌∙◌, ◌∷◌, ◌<◌, not, IsCharBoundary, length, take, drop, slice_index, ap, subst, sym, arith, drop-drop}
+use Rattle.std.specs.List.{position_or_len}
 use Rattle.std.specs.Str.Lines.{lines, strip_carriage_return}
-use Rattle.kc_text.proofs.Cutting.{parts_at, not_cut}
-use Rattle.kc_text.proofs.PhysicalLines.{lines-cut, lines-one}
+use Rattle.std.proofs.lemmas.List.Sums.{prefix_len-le-length}
+use Rattle.kc_text.specs.Bytes.{is_feed}
+use Rattle.kc_text.proofs.Runs.{boundary_before_stop}
+use Rattle.kc_text.proofs.PhysicalLines.{lines-cut, lines-one, feed_is_ascii, stops_at_feed}
 use Rattle.kc_text.proofs.physical.first_line.Goals as goal
 
-pub returns-in-Some-clause-lines : goal.returns-in-Some-clause-lines
-returns-in-Some-clause-lines c =
-    let text = c.args.text.now in
-    let cut = parts_at 10 text c.split_once.result (omega arith) c.split_once.ensures.byte c.in-Some.line c.in-Some.rest c.in-Some.is in
-    let line = c.before_return.ensures ∙ ap strip_carriage_return cut.0 in
-    lines-cut text cut.2 ∙ (λ i. sym line i ∷ lines (sym cut.1 i))
+pub returns-then-len-text-clause-lines : goal.returns-then-len-text-clause-lines
+returns-then-len-text-clause-lines c =
+    lines-one c.args.text.now (sym c.line_len-len.ensures ∙ c.if-len-text.true) c.requires.some
 
-pub returns-in-None-clause-lines : goal.returns-in-None-clause-lines
-returns-in-None-clause-lines c =
+pub split_at-requires : goal.split_at-requires
+split_at-requires c =
     let text = c.args.text.now in
-    lines-one text (not_cut 10 text c.split_once.result (omega arith) c.split_once.ensures.byte c.in-None.is) c.requires.some
+    subst (IsCharBoundary text) (sym c.line_len-len.ensures) (boundary_before_stop (λ b. not (is_feed b)) feed_is_ascii text)
+
+pub behind-requires-clause-ascii : goal.behind-requires-clause-ascii
+behind-requires-clause-ascii c =
+    let text = c.args.text.now in
+    let len = c.line_len-len.ensures in
+    let inside : position_or_len is_feed text < length text = omega (arith, len, c.if-len-text.false, prefix_len-le-length (λ b. not (is_feed b)) text) in
+    let back = c.split_at.ensures.back ∙ ap (λ n. drop n text) len in
+    subst (λ bs. slice_index bs 0 < 128) (sym back) (stops_at_feed text inside)
+
+pub returns-clause-lines : goal.returns-clause-lines
+returns-clause-lines c =
+    let text = c.args.text.now in
+    let len = c.line_len-len.ensures in
+    let inside : position_or_len is_feed text < length text = omega (arith, len, c.if-len-text.false, prefix_len-le-length (λ b. not (is_feed b)) text) in
+    let line = c.before_return.ensures ∙ ap strip_carriage_return (c.split_at.ensures.front ∙ ap (λ n. take n text) len) in
+    let rest = c.behind.ensures ∙ ap (drop 1) (c.split_at.ensures.back ∙ ap (λ n. drop n text) len) ∙ drop-drop 1 (position_or_len is_feed text) text in
+    lines-cut text inside ∙ (λ i. sym line i ∷ lines (sym rest i))
