@@ -6,6 +6,7 @@ ghost use Rattle.kc_tree.specs.Parsed.{IsTreeOf, IsFaultOf};
 ghost use Rattle.kc_session.specs.Opened.{IsOpened, IsOpenFault, IsTreeFaultOf};
 
 use crate::session::Session;
+use bumpalo::Bump;
 use kc_files::Prefix;
 use kc_text::{Line, Sources, TextFault, Vars, logical_lines};
 use kc_tree::{Tree, TreeFault};
@@ -22,9 +23,10 @@ pub enum OpenFault {
     NoMemory,
 }
 
-/// The logical lines of the top file.
+/// The logical lines of the top file, whose tokens the arena keeps.
 fn read_lines<'a>(
     alloc: Global,
+    arena: &'a Bump,
     sources: &'a Sources,
     vars: &'a Vars,
     top: &str,
@@ -32,7 +34,7 @@ fn read_lines<'a>(
     ensures lines { IfOk result (λ lines. logical_lines_of sources.now (texts_in vars.now) top.now ≡ Ok lines.items) }
     ensures fault { IfErr result (IsOpenFault sources.now vars.now top.now) }
 {
-    match logical_lines(alloc, sources, vars, top) {
+    match logical_lines(alloc, arena, sources, vars, top) {
         Ok(lines) => Ok(lines),
         Err(TextFault::NoMemory) => Err(OpenFault::NoMemory),
         Err(fault) => Err(OpenFault::Text(fault)),
@@ -69,7 +71,8 @@ pub fn open(
     ensures opened { IfOk result (IsOpened sources.now vars.now top.now prefix.now) }
     ensures fault { IfErr result (IsOpenFault sources.now vars.now top.now) }
 {
-    let lines = read_lines(alloc, sources, vars, top)?;
+    let arena = Bump::new(alloc);
+    let lines = read_lines(alloc, &arena, sources, vars, top)?;
     let tree = read_tree(alloc, lines.as_slice())?;
     let Ok(prefix) = prefix.copy(alloc) else {
         return Err(OpenFault::NoMemory);

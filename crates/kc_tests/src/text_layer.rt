@@ -5,6 +5,7 @@ mod sources;
 mod variables;
 
 use crate::table::{rows, two_fields};
+use bumpalo::Bump;
 use kc_text::{
     Line, LineKind, Operator, Sources, TextFault, TextProblem, Token, Vars, logical_lines,
 };
@@ -87,7 +88,7 @@ pub(crate) fn lines_of(
     vars: &Vars,
     path: &str,
 ) -> Result<String, AllocError> {
-    match logical_lines(alloc, sources, vars, path) {
+    match logical_lines(alloc, &Bump::new(alloc), sources, vars, path) {
         Ok(lines) => {
             let mut out = String::new(alloc);
             for line in &lines {

@@ -7,6 +7,7 @@ mod numerals;
 mod showing;
 
 use crate::table::{rows, two_fields};
+use bumpalo::Bump;
 use kc_text::{Sources, TextFault, Vars, logical_lines};
 use kc_tree::{Tree, TreeFault};
 use std::alloc::{AllocError, Global};
@@ -17,7 +18,8 @@ pub(crate) fn parsed(alloc: Global, text: &str) -> Result<Result<Tree, TreeFault
     let mut sources = Sources::new(alloc);
     sources.add("K", text)?;
     let vars = Vars::none(alloc);
-    let lines = logical_lines(alloc, &sources, &vars, "K")?;
+    let arena = Bump::new(alloc);
+    let lines = logical_lines(alloc, &arena, &sources, &vars, "K")?;
     Ok(Tree::parse(alloc, lines.as_slice()))
 }
 

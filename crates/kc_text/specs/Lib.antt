@@ -11,7 +11,6 @@ pub mod Reading
 pub mod References
 pub mod Scanning
 pub mod Sources
-pub mod TokenBytes
 pub mod Tokens
 pub mod VariableList
 pub mod Vars

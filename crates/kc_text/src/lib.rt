@@ -29,5 +29,5 @@ pub use help_text::HelpText;
 pub use line::{Line, LineKind, Operator, Token};
 pub use lines::logical_lines;
 pub use sources::Sources;
-pub use text::{Text, TextRef, TokenText};
+pub use text::{Text, TextRef};
 pub use vars::Vars;

@@ -1,7 +1,7 @@
 ghost use Rattle.std.specs.Prelude.{◌≡◌, None, MatchOption, Some};
 
 use crate::help_text::HelpText;
-use crate::text::{TextRef, TokenText};
+use crate::text::TextRef;
 use std::marker::Model;
 
 /// An operator of an expression.
@@ -35,13 +35,44 @@ pub enum Operator {
 #[derive(Debug, Drop)]
 pub enum Token<'a> {
     /// A word without references: letters, digits, `_`, `.`, `/` and `-`.
-    Word(TokenText<'a>),
+    Word(TextRef<'a>),
     /// A word that holds a reference, as its expanded text, which may be empty or have blanks. It is never a
     /// keyword.
-    Expanded(TokenText<'a>),
+    Expanded(TextRef<'a>),
     /// A text in quotes, without them, expanded.
-    Quoted(TokenText<'a>),
+    Quoted(TextRef<'a>),
     Operator(Operator),
+}
+
+/// The tokens of a line, lent by the arena that keeps them. Contracts see their list.
+#[derive(Debug, Drop)]
+pub(crate) struct LineTokens<'a> {
+    tokens: &'a [Token<'a>],
+}
+
+impl<'a> Model for LineTokens<'a> {
+    ghost use Rattle.std.specs.Prelude.{List};
+    ghost use Rattle.kc_text.specs.declared.line.Token.{Token};
+
+    ghost Value = { List Token };
+
+    ghost view = { λ t. t.tokens.now };
+}
+
+impl<'a> LineTokens<'a> {
+    /// These tokens.
+    pub(crate) fn new(tokens: &'a [Token<'a>]) -> LineTokens<'a>
+        ensures { result ≡ tokens.entry.now }
+    {
+        LineTokens { tokens }
+    }
+
+    /// The tokens.
+    pub(crate) fn as_slice(&self) -> &[Token<'a>]
+        ensures { result.now ≡ self.now }
+    {
+        self.tokens
+    }
 }
 
 /// What a logical line stands for.
@@ -60,7 +91,7 @@ pub struct Line<'a> {
     number: usize,
     run: usize,
     kind: LineKind,
-    tokens: Vec<Token<'a>>,
+    tokens: LineTokens<'a>,
     help: Option<HelpText<'a>>,
 }
 
@@ -69,20 +100,20 @@ impl<'a> Model for Line<'a> {
 
     ghost Value = { LineValue };
 
-    ghost view = { λ l. record { path = l.path; number = l.number; run = l.run; kind = l.kind; tokens = l.tokens.items; help = l.help } };
+    ghost view = { λ l. record { path = l.path; number = l.number; run = l.run; kind = l.kind; tokens = l.tokens; help = l.help } };
 }
 
 impl<'a> Line<'a> {
     /// A line with tokens, or an end of file without.
-    pub fn new(
+    pub(crate) fn new(
         path: TextRef<'a>,
         number: usize,
         run: usize,
         kind: LineKind,
-        tokens: Vec<Token<'a>>,
+        tokens: LineTokens<'a>,
         help: Option<HelpText<'a>>,
     ) -> Line<'a>
-        ensures { result ≡ record { path = path.entry; number = number; run = run; kind = kind; tokens = tokens.entry.items; help = help.entry } }
+        ensures { result ≡ record { path = path.entry; number = number; run = run; kind = kind; tokens = tokens.entry; help = help.entry } }
     {
         Line {
             path,

@@ -9,6 +9,7 @@ use crate::line::Line;
 use crate::reading::{Reader, read_top};
 use crate::sources::Sources;
 use crate::vars::Vars;
+use bumpalo::Bump;
 use std::alloc::Global;
 
 /// The logical lines of a top file and of all files that it sources, each with its tokens.
@@ -23,8 +24,11 @@ use std::alloc::Global;
 /// a variable (K10), a variable that its own expansion needs (K11). On one line the length comes first, then
 /// faults go from left to right. A top file that is not among the sources is K08 at line 0. `NoMemory` comes where
 /// memory is refused.
+///
+/// The arena keeps the tokens, so it has to be there as long as the lines.
 pub fn logical_lines<'a>(
     alloc: Global,
+    arena: &'a Bump,
     sources: &'a Sources,
     vars: &'a Vars,
     top: &str,
@@ -34,6 +38,7 @@ pub fn logical_lines<'a>(
     read_top(
         Reader {
             alloc,
+            arena,
             sources,
             vars,
         },

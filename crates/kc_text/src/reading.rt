@@ -13,13 +13,14 @@ use crate::definition::{Definition, definition_of};
 use crate::expansion::Scope;
 use crate::fault::{LineFault, TextFault, TextProblem};
 use crate::items::{Item, Joined, first_item};
-use crate::line::{Line, Token};
+use crate::line::{Line, LineTokens, Token};
 use crate::place::Place;
 use crate::sources::Sources;
 use crate::state::State;
-use crate::tokens::{owned_tokens, tokens};
+use crate::tokens::tokens;
 use crate::variables::Variables;
 use crate::vars::Vars;
+use bumpalo::Bump;
 use std::alloc::Global;
 
 /// The most bytes of a logical line.
@@ -38,24 +39,26 @@ const MAX_OPEN: usize = 64;
 #[derive(Clone, Copy)]
 pub(crate) struct Reader<'a> {
     pub(crate) alloc: Global,
+    /// What keeps the tokens.
+    pub(crate) arena: &'a Bump,
     pub(crate) sources: &'a Sources,
     pub(crate) vars: &'a Vars,
 }
 
-/// The tokens of an item, which are gathered on a scratch.
+/// The tokens of an item. The arena keeps them, and a text that was joined.
 fn item_tokens<'a>(
     scope: Scope<'_>,
+    arena: &'a Bump,
     text: &Joined<'a>,
-    scratch: &mut Vec<Token<'a>>,
-) -> Result<Vec<Token<'a>>, LineFault>
+) -> Result<LineTokens<'a>, LineFault>
     requires { length (joined_text text.now) ≤ 65536 }
-    ensures { ReadsBy (λ v. v.items) result (line_tokens (names_in scope.entry.variables.now) (texts_in scope.entry.outside.now) (joined_text text.now)) }
+    ensures { ReadsBy (λ v. v) result (line_tokens (names_in scope.entry.variables.now) (texts_in scope.entry.outside.now) (joined_text text.now)) }
 {
     match text {
-        Joined::One(line) => tokens(scope, line, scratch),
+        Joined::One(line) => tokens(scope, arena, line),
         Joined::Many(text) => {
-            let lent = tokens(scope, text.as_str(), &mut Vec::new(scope.alloc))?;
-            Ok(owned_tokens(scope.alloc, lent.as_slice())?)
+            let line = arena.try_alloc_str(text.as_str())?;
+            tokens(scope, arena, line)
         }
     }
 }
@@ -102,7 +105,7 @@ fn read_file<'a>(
         rest = behind;
     }
     let end = Place { path, run, number };
-    state.push_end(reader.alloc, end)?;
+    state.push_end(end)?;
     Ok(())
 }
 
@@ -131,7 +134,7 @@ fn read_item<'a>(
     if let Some(definition) = definition_of(text.as_str()) {
         return read_definition(reader, place, &definition, state);
     }
-    let tokens = read_tokens(reader, place, &text, &state.variables, &mut state.scratch)?;
+    let tokens = read_tokens(reader, place, &text, &state.variables)?;
     match source_path(tokens.as_slice()) {
         Some(wanted) => put_in_place(reader, around, place, wanted, state),
         None => Ok(state.push_statement(place, tokens, help)?),
@@ -153,23 +156,22 @@ fn read_definition<'a>(
     }
 }
 
-/// The tokens of the text of an item at a place, which are gathered on a scratch.
+/// The tokens of the text of an item at a place.
 fn read_tokens<'a>(
     reader: Reader<'a>,
     place: Place<'a>,
     text: &Joined<'a>,
     variables: &Variables,
-    scratch: &mut Vec<Token<'a>>,
-) -> Result<Vec<Token<'a>>, TextFault>
+) -> Result<LineTokens<'a>, TextFault>
     requires { length (joined_text text.now) ≤ 65536 }
-    ensures { GivesBy (λ v. v.items) result (at_place (place_of place.entry) (line_tokens (names_in variables.now) (outside_of reader.entry) (joined_text text.now))) }
+    ensures { GivesBy (λ v. v) result (at_place (place_of place.entry) (line_tokens (names_in variables.now) (outside_of reader.entry) (joined_text text.now))) }
 {
     let scope = Scope {
         alloc: reader.alloc,
         variables,
         outside: reader.vars,
     };
-    match item_tokens(scope, text, scratch) {
+    match item_tokens(scope, reader.arena, text) {
         Ok(tokens) => Ok(tokens),
         Err(fault) => Err(place.fault(reader.alloc, fault)),
     }

@@ -3,7 +3,7 @@ ghost use Rattle.kc_text.specs.Reading.{end_of_file, nothing_read, statement, wi
 ghost use Rattle.kc_text.specs.Scanning.{place_of, state_of};
 
 use crate::help_text::HelpText;
-use crate::line::{Line, LineKind, Token};
+use crate::line::{Line, LineKind, LineTokens};
 use crate::place::Place;
 use crate::text::TextRef;
 use crate::variables::Variables;
@@ -21,8 +21,6 @@ pub(crate) struct State<'a> {
     pub(crate) followed: usize,
     /// How many bytes these put in place.
     pub(crate) placed: usize,
-    /// Where the tokens of a line are gathered.
-    pub(crate) scratch: Vec<Token<'a>>,
 }
 
 impl<'a> State<'a> {
@@ -36,7 +34,6 @@ impl<'a> State<'a> {
             variables: Variables::new(alloc),
             followed: 0,
             placed: 0,
-            scratch: Vec::new(alloc),
         })
     }
 
@@ -44,12 +41,12 @@ impl<'a> State<'a> {
     pub(crate) fn push_statement(
         &mut self,
         place: Place<'a>,
-        tokens: Vec<Token<'a>>,
+        tokens: LineTokens<'a>,
         help: Option<HelpText<'a>>,
     ) -> Result<(), AllocError>
-        ensures { OnOk result (state_of self.new ≡ with_lines (statement (place_of place.entry) tokens.entry.items help.entry) (state_of self.old)) }
+        ensures { OnOk result (state_of self.new ≡ with_lines (statement (place_of place.entry) tokens.entry help.entry) (state_of self.old)) }
     {
-        if tokens.is_empty() {
+        if tokens.as_slice().is_empty() {
             return Ok(());
         }
         let path = TextRef::new(place.path);
@@ -66,17 +63,16 @@ impl<'a> State<'a> {
     }
 
     /// Puts the end of a file behind the lines.
-    pub(crate) fn push_end(&mut self, alloc: Global, place: Place<'a>) -> Result<(), AllocError>
+    pub(crate) fn push_end(&mut self, place: Place<'a>) -> Result<(), AllocError>
         ensures { OnOk result (state_of self.new ≡ with_lines (end_of_file (place_of place.entry) ∷ []) (state_of self.old)) }
     {
         let path = TextRef::new(place.path);
-        let tokens = Vec::new(alloc);
         let line = Line::new(
             path,
             place.number,
             place.run,
             LineKind::EndOfFile,
-            tokens,
+            LineTokens::new(&[]),
             None,
         );
         self.lines.push(line)?;

@@ -59,7 +59,8 @@ impl fmt::Display for Text {
     }
 }
 
-/// A text that is lent by what owns it, such as the path of a line. Contracts see its bytes.
+/// A text that is lent by what owns it: the path of a line by the sources, the text of a token by them or by the arena.
+/// Contracts see its bytes.
 #[derive(Drop, Debug)]
 pub struct TextRef<'a> {
     text: &'a str,
@@ -84,66 +85,5 @@ impl<'a> TextRef<'a> {
         ensures { result.now ≡ self.now }
     {
         self.text
-    }
-}
-
-/// The text of a token: lent by the sources, or owned where a reference, a backslash or joined lines changed it.
-/// Contracts see its bytes.
-#[derive(Drop, Debug)]
-pub struct TokenText<'a> {
-    content: Content<'a>,
-}
-
-/// A text that is lent or owned. Few texts are owned, so they stand elsewhere.
-#[derive(Drop, Debug)]
-enum Content<'a> {
-    Lent(&'a str),
-    Owned(Box<Text>),
-}
-
-impl<'a> Model for TokenText<'a> {
-    ghost use Rattle.std.specs.Prelude.{List, ℕ};
-    ghost use Rattle.kc_text.specs.TokenBytes.{bytes_in};
-
-    ghost Value = { List ℕ };
-
-    ghost view = { λ t. bytes_in t.content };
-}
-
-impl<'a> TokenText<'a> {
-    /// The text that is lent, which takes no memory.
-    pub fn new(text: &'a str) -> TokenText<'a>
-        ensures { result ≡ text.entry.now }
-    {
-        TokenText {
-            content: Content::Lent(text),
-        }
-    }
-
-    /// The text of a string.
-    pub fn owned(alloc: Global, content: String) -> Result<TokenText<'a>, AllocError>
-        ensures { IfOk result (λ t. t ≡ string_bytes content) }
-    {
-        let text = Box::new(alloc, Text::new(content))?;
-        Ok(TokenText {
-            content: Content::Owned(text),
-        })
-    }
-
-    /// A copy that owns its text.
-    pub(crate) fn owned_copy<'b>(&self, alloc: Global) -> Result<TokenText<'b>, AllocError>
-        ensures { IfOk result (λ t. t ≡ self.now) }
-    {
-        TokenText::owned(alloc, String::from_str(alloc, self.as_str())?)
-    }
-
-    /// The text.
-    pub fn as_str(&self) -> &str
-        ensures { result.now ≡ self.now }
-    {
-        match &self.content {
-            Content::Lent(text) => text,
-            Content::Owned(text) => text.as_str(),
-        }
     }
 }

@@ -10,11 +10,16 @@ ghost use Rattle.kc_text.specs.Scanning.{piece_of, pieces_of, raw_of};
 
 use crate::expansion::{Scope, expanded_text, plain_text};
 use crate::fault::{LineFault, TextProblem};
-use crate::line::Token;
+use crate::line::{LineTokens, Token};
 use crate::reference::Piece;
 use crate::scan::{RawToken, next_token};
-use crate::text::TokenText;
-use std::alloc::{AllocError, Global};
+use crate::text::TextRef;
+use bumpalo::Bump;
+use bumpalo::collections::into_bump_slice;
+use std::alloc::AllocError;
+
+/// How many tokens most lines have, at most.
+const USUAL_TOKENS: usize = 2;
 
 /// Whether a part is a reference.
 fn is_reference(piece: &Piece<'_>) -> bool
@@ -23,11 +28,18 @@ fn is_reference(piece: &Piece<'_>) -> bool
     matches!(piece, Piece::Reference(_))
 }
 
+/// A text that the arena keeps.
+fn kept<'a>(arena: &'a Bump, text: &str) -> Result<TextRef<'a>, AllocError>
+    ensures { IfOk result (λ t. t ≡ text.now) }
+{
+    Ok(TextRef::new(arena.try_alloc_str(text)?))
+}
+
 /// The word of parts: one that holds a reference is never a keyword, whatever its text.
-fn word<'a>(scope: Scope<'_>, pieces: &[Piece<'_>]) -> Result<Token<'a>, LineFault>
+fn word<'a>(scope: Scope<'_>, arena: &'a Bump, pieces: &[Piece<'_>]) -> Result<Token<'a>, LineFault>
     ensures { ReadsBy (λ t. t) result (token_of (names_in scope.entry.variables.now) (texts_in scope.entry.outside.now) (a_word (pieces_of pieces.now))) }
 {
-    let text = TokenText::owned(scope.alloc, expanded_text(scope, pieces)?)?;
+    let text = kept(arena, expanded_text(scope, pieces)?.as_str())?;
     if pieces.iter().any(is_reference) {
         return Ok(Token::Expanded(text));
     }
@@ -35,17 +47,17 @@ fn word<'a>(scope: Scope<'_>, pieces: &[Piece<'_>]) -> Result<Token<'a>, LineFau
 }
 
 /// The token that was found, or the fault in its place.
-fn token<'a>(scope: Scope<'_>, raw: RawToken<'a>) -> Result<Token<'a>, LineFault>
+fn token<'a>(scope: Scope<'_>, arena: &'a Bump, raw: RawToken<'a>) -> Result<Token<'a>, LineFault>
     ensures { ReadsBy (λ t. t) result (token_of (names_in scope.entry.variables.now) (texts_in scope.entry.outside.now) (raw_of raw.entry)) }
 {
     match raw {
-        RawToken::Word(text) => Ok(Token::Word(TokenText::new(plain_text(text)?))),
-        RawToken::Quoted(text) => Ok(Token::Quoted(TokenText::new(plain_text(text)?))),
+        RawToken::Word(text) => Ok(Token::Word(TextRef::new(plain_text(text)?))),
+        RawToken::Quoted(text) => Ok(Token::Quoted(TextRef::new(plain_text(text)?))),
         RawToken::Operator(operator) => Ok(Token::Operator(operator)),
-        RawToken::Spliced(pieces) => word(scope, pieces.as_slice()),
+        RawToken::Spliced(pieces) => word(scope, arena, pieces.as_slice()),
         RawToken::QuotedParts(pieces) => {
             let text = expanded_text(scope, pieces.as_slice())?;
-            Ok(Token::Quoted(TokenText::owned(scope.alloc, text)?))
+            Ok(Token::Quoted(kept(arena, text.as_str())?))
         }
         RawToken::Unclosed(pieces) => {
             let _ = expanded_text(scope, pieces.as_slice())?;
@@ -55,45 +67,19 @@ fn token<'a>(scope: Scope<'_>, raw: RawToken<'a>) -> Result<Token<'a>, LineFault
     }
 }
 
-/// The tokens of a line, or its first fault from the left. They are gathered on a scratch, which is cleared, so that
-/// they take no more memory than they need.
+/// The tokens of a line, which the arena keeps, or its first fault from the left.
 pub(crate) fn tokens<'a>(
     scope: Scope<'_>,
+    arena: &'a Bump,
     line: &'a str,
-    scratch: &mut Vec<Token<'a>>,
-) -> Result<Vec<Token<'a>>, LineFault>
-    ensures { ReadsBy (λ v. v.items) result (line_tokens (names_in scope.entry.variables.now) (texts_in scope.entry.outside.now) line.now) }
+) -> Result<LineTokens<'a>, LineFault>
+    ensures { ReadsBy (λ v. v) result (line_tokens (names_in scope.entry.variables.now) (texts_in scope.entry.outside.now) line.now) }
 {
-    scratch.clear();
+    let mut found = Vec::with_capacity(arena, USUAL_TOKENS)?;
     let mut rest = line;
     while let Some((raw, after)) = next_token(scope.alloc, rest)? {
-        scratch.push(token(scope, raw)?)?;
+        found.push(token(scope, arena, raw)?)?;
         rest = after;
     }
-    Ok(scratch.split_off(0)?)
-}
-
-/// Tokens that own their texts.
-pub(crate) fn owned_tokens<'a>(
-    alloc: Global,
-    tokens: &[Token<'_>],
-) -> Result<Vec<Token<'a>>, AllocError>
-    ensures { IfOk result (λ v. v.items ≡ tokens.now) }
-{
-    let mut owned = Vec::new(alloc);
-    for token in tokens {
-        owned.push(owned_token(alloc, token)?)?;
-    }
-    Ok(owned)
-}
-
-fn owned_token<'a>(alloc: Global, token: &Token<'_>) -> Result<Token<'a>, AllocError>
-    ensures { IfOk result (λ t. t ≡ token.now) }
-{
-    match token {
-        Token::Word(text) => Ok(Token::Word(text.owned_copy(alloc)?)),
-        Token::Expanded(text) => Ok(Token::Expanded(text.owned_copy(alloc)?)),
-        Token::Quoted(text) => Ok(Token::Quoted(text.owned_copy(alloc)?)),
-        Token::Operator(operator) => Ok(Token::Operator(*operator)),
-    }
+    Ok(LineTokens::new(into_bump_slice(found)))
 }

@@ -3,8 +3,12 @@
 //! A text is looked at by itself: a line in a help text counts too, and one with a reference does not. So the paths
 //! found are a guess at the files that will be wanted, which saves reading all lines again for each file.
 
+use memchr::memmem;
 use std::alloc::{AllocError, Global};
 use std::collections::BTreeSet;
+
+/// The word that a `source` line begins with.
+const SOURCE: &str = "source";
 
 /// The paths that wait to be read, each once.
 #[derive(Drop)]
@@ -42,26 +46,26 @@ impl Waiting {
 
     /// Has the paths wait that a text names, but for those that were seen before.
     pub(crate) fn add_named(&mut self, text: &str) -> Result<(), AllocError> {
-        let mut before = "";
-        for part in text.split('"') {
-            if ends_with_source(before) && is_plain_path(part) && self.pass(part)? {
-                self.paths.push(String::from_str(self.alloc, part)?)?;
+        for place in memmem::find_iter(text.as_bytes(), SOURCE.as_bytes()) {
+            let Some(path) = path_named(text, place) else {
+                continue;
+            };
+            if self.pass(path)? {
+                self.paths.push(String::from_str(self.alloc, path)?)?;
             }
-            before = part;
         }
         Ok(())
     }
 }
 
-/// Whether a text ends with a line of which `source` is all so far, with blanks around it.
-fn ends_with_source(text: &str) -> bool {
-    match without_blanks(text).strip_suffix("source") {
-        Some(before) => {
-            let before = without_blanks(before);
-            before.is_empty() || before.ends_with('\n')
-        }
-        None => false,
-    }
+/// The path that the `source` at a place of a text names, where the line has nothing else before its end quote.
+fn path_named(text: &str, place: usize) -> Option<&str> {
+    let before = without_blanks(text.get(..place)?);
+    let named = text.get(place..)?.strip_prefix(SOURCE)?;
+    let quoted = named.trim_start_matches([' ', '\t']).strip_prefix('"')?;
+    let (path, _) = quoted.split_once('"')?;
+    let begins_line = before.is_empty() || before.ends_with('\n');
+    (begins_line && is_plain_path(path)).then_some(path)
 }
 
 /// Whether a text in quotes is a path as it stands: on one line, with no backslash and no dollar.
