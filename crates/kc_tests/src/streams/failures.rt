@@ -1,17 +1,21 @@
 //! Whole streams, where each call fails in turn.
 use crate::streams::failing::{FailingReader, FailingWriter, NEVER};
 use crate::streams::{TWO_BOOLS, replies_to, session_of};
+use crate::table::{rows, two_fields};
 use kc_session::{IoFault, Session, run};
 use std::alloc::Global;
 use std::test::Fail;
 
 /// Commands with their replies.
-const COMMANDS: [(&str, &str); 4] = [
-    ("set A n\n", "ok\n"),
-    ("config\n", "# CONFIG_A is not set\nok\n"),
-    ("unset A\n", "ok\n"),
-    ("frob\n", "refused 1\n"),
-];
+const COMMANDS: &str = r#"
+set A n\n | ok\n
+config\n | # CONFIG_A is not set\nok\n
+unset A\n | ok\n
+frob\n | refused 1\n
+"#;
+
+/// How many commands these are.
+const COUNT: usize = 4;
 
 /// What became of a stream.
 #[derive(Drop)]
@@ -24,8 +28,9 @@ struct Served {
 /// The commands as a stream.
 fn all_commands(alloc: Global) -> Result<String, Fail> {
     let mut stream = String::new(alloc);
-    for (command, _) in &COMMANDS {
-        stream.push_str(command)?;
+    for row in rows(alloc, COMMANDS)? {
+        let (command, _) = two_fields(alloc, row)?;
+        stream.push_str(command.as_str())?;
     }
     Ok(stream)
 }
@@ -33,8 +38,9 @@ fn all_commands(alloc: Global) -> Result<String, Fail> {
 /// The replies to the first commands.
 fn first_replies(alloc: Global, count: usize) -> Result<String, Fail> {
     let mut replies = String::new(alloc);
-    for (_, reply) in COMMANDS.iter().take(count) {
-        replies.push_str(reply)?;
+    for row in rows(alloc, COMMANDS)?.iter().take(count) {
+        let (_, reply) = two_fields(alloc, row)?;
+        replies.push_str(reply.as_str())?;
     }
     Ok(replies)
 }
@@ -77,7 +83,7 @@ fn a_failed_read_leaves_the_replies_to_whole_lines(rt: HostRuntime) -> Result<()
 #[test]
 fn a_failed_write_leaves_a_beginning(rt: HostRuntime) -> Result<(), Fail> {
     let stream = all_commands(rt.alloc())?;
-    let whole = first_replies(rt.alloc(), COMMANDS.len())?;
+    let whole = first_replies(rt.alloc(), COUNT)?;
     for call in 0..whole.len() {
         let reader = FailingReader::new(stream.as_bytes(), 100, NEVER);
         let writer = FailingWriter::new(rt.alloc(), 1, call as u64, NEVER);
@@ -114,7 +120,7 @@ fn a_failed_write_leaves_the_effect_of_its_command(rt: HostRuntime) -> Result<()
 #[test]
 fn a_failed_flush_leaves_whole_replies(rt: HostRuntime) -> Result<(), Fail> {
     let stream = all_commands(rt.alloc())?;
-    for call in 0..COMMANDS.len() {
+    for call in 0..COUNT {
         let reader = FailingReader::new(stream.as_bytes(), 100, NEVER);
         let writer = FailingWriter::new(rt.alloc(), 100, NEVER, call as u64);
         let served = serve_stream(rt.alloc(), reader, writer)?;
