@@ -1,5 +1,5 @@
 -- Commands with their replies, computed from the definitions. What each reply is was worked out by hand.
-use Rattle.std.proofs.Common.{◌≡◌, ℕ, false, List, [], ◌∷◌, Option, Some, None, refl}
+use Rattle.std.proofs.Common.{◌≡◌, ℕ, false, [], ◌∷◌, Option, Some, None, refl}
 use Rattle.std.specs.Prelude.{codes}
 use Rattle.kc_tree.specs.declared.definition.Prompt.{Prompt}
 use Rattle.kc_tree.specs.declared.id.SymId.{SymId}

@@ -1,5 +1,5 @@
 -- What is wrong with a choice: this project's own list, after kconfig-language.rst, "choices".
-use Rattle.std.specs.Prelude.{ℕ, ◌==◌, Bool, false, not, ◌||◌, Option, Some, None, is_some, option_map, length, find, slice_get}
+use Rattle.std.specs.Prelude.{◌==◌, Bool, false, not, ◌||◌, Option, Some, None, is_some, option_map, length, find, slice_get}
 use Rattle.std.specs.Option.{option_map_or}
 use Rattle.std.specs.List.{list_any, range_with_len}
 use Rattle.kc_tree.specs.declared.id.SymId.{SymId}

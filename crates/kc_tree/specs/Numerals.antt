@@ -1,5 +1,5 @@
 -- Which texts are numerals of a type: this project's own, after the types of kconfig-language.rst.
-use Rattle.std.specs.Prelude.{ℕ, ◌-◌, ◌^◌, Bool, ◌&&◌, ◌||◌, List, Option, Some, None, if◌then◌else◌, nat_le, length, take, drop, option_map, codes, ℤ, pos, neg_ℤ}
+use Rattle.std.specs.Prelude.{ℕ, ◌-◌, ◌^◌, ◌&&◌, ◌||◌, List, Option, Some, None, if◌then◌else◌, nat_le, length, take, drop, option_map, codes, ℤ, pos, neg_ℤ}
 use Rattle.std.specs.Char.{is_ascii_digit, is_ascii_hexdigit}
 use Rattle.std.specs.List.{list_all}
 use Rattle.std.specs.Str.{bytes_eq}

@@ -1,11 +1,11 @@
 -- The value without a user value or a chosen member is the rule without it.
-use Rattle.std.proofs.Common.{◌≡◌, ◌<◌, Bool, true, false, List, Option, Some, None, length, if◌then◌else◌, get_or-set_same, sym, ap, ◌∙◌, subst, arith}
+use Rattle.std.proofs.Common.{◌≡◌, ◌<◌, true, false, List, Option, Some, None, length, if◌then◌else◌, get_or-set_same, sym, ap, ◌∙◌, subst, arith}
 use Rattle.std.specs.List.{slice_get}
 use Rattle.std.specs.Option.{option_map_or}
 use Rattle.kc_tree.specs.declared.id.SymId.{SymId}
 use Rattle.kc_tree.specs.declared.id.ChoiceId.{ChoiceId}
 use Rattle.kc_tree.specs.declared.node.Node.{Node}
-use Rattle.kc_tree.specs.declared.node.Node.TheVariants.{Vis, Val, Mode, Sel}
+use Rattle.kc_tree.specs.declared.node.Node.TheVariants.{Vis, Val, Sel}
 use Rattle.kc_tree.specs.declared.tri.Tri.TheVariants.{No}
 use Rattle.kc_tree.specs.TreeValue.{TreeValue, SymbolValue, ChoiceValue}
 use Rattle.kc_tree.specs.Uses.{Uses}

@@ -1,4 +1,4 @@
-use Rattle.std.proofs.Common.{◌≡◌, ◌==◌, ℕ, Bool, true, false, not, Some, None, length, get_or, subst, sym, refl, arith}
+use Rattle.std.proofs.Common.{◌≡◌, Bool, true, false, length, subst, sym, refl, arith}
 use Rattle.std.proofs.lemmas.List.Sums.{position_or_len_is}
 use Rattle.memchr.specs.Find.{IsFirstByte, is_byte}
 use Rattle.kc_text.specs.Bytes.{is_feed}

@@ -1,4 +1,4 @@
-use Rattle.std.proofs.Common.{◌≡◌, ◌-◌, suc, true, ap, sym, ◌∙◌, arith}
+use Rattle.std.proofs.Common.{◌≡◌, ◌-◌, suc, true, sym, ◌∙◌, arith}
 use Rattle.kc_tree.specs.Keywords.{is_choice}
 use Rattle.kc_tree.proofs.ChoiceLines.{counted}
 use Rattle.kc_tree.proofs.link.choice_line.Goals as goal

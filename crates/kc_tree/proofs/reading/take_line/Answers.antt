@@ -1,4 +1,4 @@
-use Rattle.std.proofs.Common.{rules, reverse, ◌==◌, ◌∷◌}
+use Rattle.std.proofs.Common.{rules, reverse, ◌==◌}
 use Rattle.kc_tree.specs.TreeOf.{Reading, IsReading}
 use Rattle.kc_tree.proofs.OwnerLaws.{next_outline}
 use Rattle.kc_tree.proofs.reading.take_line.Goals as goal

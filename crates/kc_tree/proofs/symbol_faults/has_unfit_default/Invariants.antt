@@ -1,7 +1,6 @@
 use Rattle.std.proofs.Common.{◌≡◌, false, take, slice_get}
 use Rattle.std.specs.List.{list_any}
 use Rattle.std.specs.Option.{option_map_or}
-use Rattle.kc_tree.specs.TreeValue.{kind_of}
 use Rattle.kc_tree.specs.SymbolFaults.{has_unfit}
 use Rattle.kc_tree.proofs.symbol_faults.has_unfit_default.Given as goal
 

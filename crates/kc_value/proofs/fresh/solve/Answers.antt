@@ -4,7 +4,7 @@ use Rattle.std.proofs.Math.ListN.{length-set}
 use Rattle.std.proofs.lemmas.List.{take_all, get_or_default}
 use Rattle.kc_tree.specs.declared.node.Node.{Node}
 use Rattle.kc_tree.specs.declared.node.Node.TheVariants.{Vis}
-use Rattle.kc_tree.specs.Nodes.{IsNodeOf, number_of}
+use Rattle.kc_tree.specs.Nodes.{number_of}
 use Rattle.kc_tree.proofs.NodeNumbers.{same_node, number_below}
 use Rattle.kc_value.specs.Assignment.{assignment_of}
 use Rattle.kc_value.specs.Marks.{IsMarked}

@@ -1,6 +1,6 @@
-use Rattle.std.proofs.Common.{◌≡◌, ◌+◌, ◌<◌, ◌≤◌, ℕ, List, Option, None, length, slice_set, ap, sym, ◌∙◌, subst, arith}
+use Rattle.std.proofs.Common.{◌<◌, None, length, slice_set, ap, ◌∙◌, arith}
 use Rattle.std.proofs.lemmas.List.{length-set}
-use Rattle.kc_value.proofs.SlotLemmas.{cleared, cleared_next, cleared_all}
+use Rattle.kc_value.proofs.SlotLemmas.{cleared_next}
 use Rattle.kc_value.proofs.slots.clear_slots.Goals as goal
 
 pub loop-place-preserved : goal.loop-place-preserved
