@@ -1,20 +1,37 @@
 //! Replies to commands, in sessions that go on from row to row.
 use crate::streams::{TWO_BOOLS, replies_to, session_of};
 use crate::table::{rows, two_fields};
+use kc_session::Session;
 use std::alloc::Global;
 use std::process::Abort;
 use std::test::Fail;
 
-/// Serves the stream of each row of a table in turn, in one session of this Kconfig, and wants the replies of its second
-/// field.
-fn serve_table(rt: &impl Abort, alloc: Global, kconfig: &str, table: &str) -> Result<(), Fail> {
-    let mut session = session_of(alloc, kconfig)?;
-    for row in rows(alloc, table)? {
-        let (stream, want) = two_fields(alloc, row)?;
-        let found = replies_to(alloc, stream.as_str(), &mut session)?;
-        assert_eq!(rt; found.as_str(), want.as_str(), "at {row}");
+/// Serves the stream of a row in a session, and wants the replies of its second field.
+fn serve_row(rt: &impl Abort, alloc: Global, session: &mut Session, row: &str) -> Result<(), Fail> {
+    let (stream, want) = two_fields(alloc, row)?;
+    let found = replies_to(alloc, stream.as_str(), session)?;
+    assert_eq!(rt; found.as_str(), want.as_str(), "at {row}");
+    Ok(())
+}
+
+/// Serves the rows in turn in a session.
+fn serve_rows(
+    rt: &impl Abort,
+    alloc: Global,
+    session: &mut Session,
+    rows: &[&str],
+) -> Result<(), Fail> {
+    for row in rows {
+        serve_row(rt, alloc, session, row)?;
     }
     Ok(())
+}
+
+/// Serves the rows of a table in turn, in one session of this Kconfig.
+fn serve_table(rt: &impl Abort, alloc: Global, kconfig: &str, table: &str) -> Result<(), Fail> {
+    let rows = rows(alloc, table)?;
+    let mut session = session_of(alloc, kconfig)?;
+    serve_rows(rt, alloc, &mut session, rows.as_slice())
 }
 
 const OF_TWO_BOOLS: &str = r#"
