@@ -173,7 +173,7 @@ impl Symbol {
         self.implied.as_slice()
     }
 
-    /// Whether the command `allno` gives it y, by `option allnoconfig_y`.
+    /// Whether a line `option allnoconfig_y` names it. No command uses it yet.
     pub fn is_yes_in_allnoconfig(&self) -> bool
         ensures { result ≡ self.now.is_yes_in_allnoconfig }
     {
