@@ -40,10 +40,11 @@ enum Reading {
 ///
 /// What `open` answers depends on the variables and on the texts of the paths that it looks up alone, so files that
 /// are read ahead change nothing, whether they are wanted later or not. They only take part in the limits on all
-/// files together: where these have no room for a file, all is read again without reading ahead.
+/// files together, and of memory: where there is no room for a file, or memory is refused, all is read again without
+/// reading ahead.
 pub fn open_kconfig<F: Folder>(alloc: Global, kconfig: &Kconfig<'_, F>) -> Result<Session, Fault> {
     match open_reading(alloc, kconfig, Reading::Ahead) {
-        Err(Fault::Full(_)) => open_reading(alloc, kconfig, Reading::Wanted),
+        Err(Fault::Full(_) | Fault::NoMemory) => open_reading(alloc, kconfig, Reading::Wanted),
         answer => answer,
     }
 }

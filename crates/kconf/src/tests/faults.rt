@@ -15,6 +15,7 @@ fn faults_of_a_kconfig_are_told(rt: HostRuntime) -> Result<(), Fail> {
     let rows = [
         ("config A\nbool \"a\n", "kconf: Kconfig:2: K03\n"),
         ("frob\n", "kconf: Kconfig:1: K04\n"),
+        ("menu \"m\"\n", "kconf: Kconfig:2: K07\n"),
         ("config A\n", "kconf: K12 A\n"),
         (
             "choice\nconfig P\nbool \"p\"\nendchoice\n",

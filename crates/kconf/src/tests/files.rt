@@ -179,11 +179,11 @@ fn files_that_are_only_named_need_not_be_there(rt: HostRuntime) -> Result<(), Fa
     Ok(())
 }
 
-// Counts the reads of files in memory, which may be read ahead or not.
+// Counts the reads of files in memory. Those that are read ahead may be refused.
 #[derive(Drop)]
 struct CountingFolder<'a> {
     files: MemoryFolder<'a>,
-    is_plain: bool,
+    refusal: Option<FolderFault>,
     reads: Cell<usize>,
 }
 
@@ -194,16 +194,15 @@ impl Folder for CountingFolder<'_> {
     }
 
     fn read_plain(&self, alloc: Global, path: &str) -> Result<Vec<u8>, FolderFault> {
-        if self.is_plain {
-            self.read_bytes(alloc, path)
-        } else {
-            Err(FolderFault::CannotRead)
+        match self.refusal {
+            None => self.read_bytes(alloc, path),
+            Some(fault) => Err(fault),
         }
     }
 }
 
 #[test]
-fn each_file_is_read_once(rt: HostRuntime) -> Result<(), Fail> {
+fn each_file_is_read_as_it_is_wanted(rt: HostRuntime) -> Result<(), Fail> {
     let top =
         b"config A\nbool \"a\"\nhelp\n source \"d\"\nsource \"$(NAME)b\"\nsource \"c\"\nsource \"b\"\n".as_slice();
     let files = [
@@ -212,12 +211,17 @@ fn each_file_is_read_once(rt: HostRuntime) -> Result<(), Fail> {
         ("c", b"# source \"d\"\n".as_slice()),
         ("d", b"".as_slice()),
     ];
-    for (is_plain, want) in [(true, 4), (false, 3)] {
+    for (refusal, want) in [
+        (None, 4),
+        (Some(FolderFault::CannotRead), 3),
+        // All is read again.
+        (Some(FolderFault::NoMemory), 4),
+    ] {
         let folder = CountingFolder {
             files: MemoryFolder {
                 files: files.as_slice(),
             },
-            is_plain,
+            refusal,
             reads: Cell::new(0),
         };
         let outcome = run_in(rt.alloc(), SESSION.as_slice(), &folder, b"config\n");
