@@ -6,6 +6,7 @@ mod pages;
 mod ranges;
 mod setting;
 mod texts;
+mod titles;
 mod values;
 
 use crate::streams::{replies_to, session_of};

@@ -1,4 +1,5 @@
 //! Trees of whole texts, and their first faults.
+mod cut;
 mod expressions;
 mod forms;
 mod loops;

@@ -23,6 +23,9 @@ $(X)config A\n | Kconfig:1: K04
 && A (\n | Kconfig:1: K04
 config A\nfrob\nbool "a" if\n | Kconfig:2: K04
 config A\nbool "a"\nhelp\n  frob\nfrob\n | Kconfig:5: K04
+on\n | Kconfig:1: K04
+allnoconfig_y\n | Kconfig:1: K04
+config A\nbool "a"\nallnoconfig_y\n | Kconfig:3: K04
 rsource "b"\n | Kconfig:1: K20
 osource b\n | Kconfig:1: K20
 orsource\n | Kconfig:1: K20
@@ -174,6 +177,7 @@ config if\n | Kconfig:1: K05
 config "A"\nfrob\n | Kconfig:1: K05
 menuconfig A B\ndefault y\n | Kconfig:1: K05
 config A\noption foo\n | Kconfig:2: K05
+config A\noption "env"\n | Kconfig:2: K05
 config A\noption\n | Kconfig:2: K05
 config A\noption modules x\n | Kconfig:2: K05
 config A\nmodules x\n | Kconfig:2: K05

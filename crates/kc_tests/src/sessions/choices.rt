@@ -33,6 +33,10 @@ config D\nbool "d"\nchoice\nprompt "c"\ndefault Q if D\nconfig P\nbool "p"\nconf
 choice\nprompt "c"\ndefault Q\nconfig P\nbool "p"\nconfig Q\nbool "q" if X\nendchoice\n | choices\n | choice 0 "c" mode=y sel=P user=-\nok\n
 choice\nprompt "c"\nconfig P\nbool "p" if X\nconfig Q\nbool "q"\nendchoice\n | choices\nconfig\n | choice 0 "c" mode=y sel=Q user=-\nok\nCONFIG_Q=y\nok\n
 choice\nprompt "c"\ndefault P\nconfig P\nbool "p" if X\nconfig Q\nbool "q"\ndepends on X\nendchoice\n | choices\nconfig\nset Q y\nchoices\n | choice 0 "c" mode=y sel=- user=-\nok\nok\nok\nchoice 0 "c" mode=y sel=- user=Q\nok\n
+// A member's own defaults, and what other members select and imply, are no uses: here is no loop.
+choice\nprompt "c"\nconfig P\nbool "p"\ndefault Q\nconfig Q\nbool "q"\ndefault Q\ndefault y if P\nendchoice\n | choices\nconfig\n | choice 0 "c" mode=y sel=P user=-\nok\nCONFIG_P=y\n# CONFIG_Q is not set\nok\n
+choice\nprompt "c"\nconfig P\nbool "p"\nselect Q\nconfig Q\nbool "q"\nselect P\nendchoice\n | choices\nconfig\nset Q y\nchoices\n | choice 0 "c" mode=y sel=P user=-\nok\nCONFIG_P=y\n# CONFIG_Q is not set\nok\nok\nchoice 0 "c" mode=y sel=Q user=Q\nok\n
+choice\nprompt "c"\nconfig P\nbool "p"\nimply Q\nconfig Q\nbool "q"\nimply P if Q\nendchoice\n | choices\nconfig\nset Q y\nchoices\n | choice 0 "c" mode=y sel=P user=-\nok\nCONFIG_P=y\n# CONFIG_Q is not set\nok\nok\nchoice 0 "c" mode=y sel=Q user=Q\nok\n
 choice\nprompt "c"\nconfig P\nbool "p"\nconfig Q\nbool "q"\ndefault y\nendchoice\n | choices\nshow Q\n | choice 0 "c" mode=y sel=P user=-\nok\nQ type=bool value=n vis=y can=y user=-\nok\n
 config X\nbool "x"\nselect Q\nchoice\nprompt "c"\nconfig P\nbool "p"\nconfig Q\nbool "q"\nendchoice\n | set X y\nchoices\nshow Q\n | ok\nchoice 0 "c" mode=y sel=P user=-\nok\nQ type=bool value=n vis=y can=y user=-\nok\n
 config X\ndef_bool y\nselect Q\nimply Q\nchoice\nprompt "c" if Y\nconfig P\nbool "p"\nconfig Q\nbool "q"\ndefault y\nendchoice\n | show Q\nconfig\n | Q type=bool value=n vis=n can=- user=-\nok\nCONFIG_X=y\nok\n

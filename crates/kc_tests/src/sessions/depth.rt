@@ -31,6 +31,25 @@ fn an_expression_may_be_64_deep(rt: HostRuntime) -> Result<(), Fail> {
 }
 
 #[test]
+fn signs_in_parentheses_count_anew(rt: HostRuntime) -> Result<(), Fail> {
+    let alloc = rt.alloc();
+    let signs = repeated(alloc, "!", 64)?;
+    let kconfig = format!(in alloc;
+        "config A\nbool \"a\"\nconfig B\ndef_bool {signs}({signs}A)\nconfig C\ndef_bool !({signs}A)\n"
+    )?;
+    let found = replies_of(
+        alloc,
+        kconfig.as_str(),
+        "show B\nshow C\nset A y\nshow B\nshow C\n",
+    )?;
+    assert_eq!(rt;
+        found.as_str(),
+        "B type=bool value=n vis=n can=- user=-\nok\nC type=bool value=y vis=n can=- user=-\nok\nok\nB type=bool value=y vis=n can=- user=-\nok\nC type=bool value=n vis=n can=- user=-\nok\n"
+    );
+    Ok(())
+}
+
+#[test]
 fn an_expression_may_not_be_deeper(rt: HostRuntime) -> Result<(), Fail> {
     let alloc = rt.alloc();
     for (count, before, after, want) in [

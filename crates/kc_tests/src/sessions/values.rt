@@ -7,6 +7,9 @@ const BLOCKS: &str = r#"
 config A\nbool "a"\ndepends on X\nconfig A\ndefault y\n | show A\nconfig\n | A type=bool value=y vis=n can=- user=-\nok\nCONFIG_A=y\nok\n
 menu "m"\nvisible if X\nconfig A\nbool "a"\ndefault y\nendmenu\n | config\n | CONFIG_A=y\nok\n
 if X\nconfig A\nbool "a"\nendif\n | config\n | ok\n
+config X\nbool "x"\nconfig Y\nbool "y"\nconfig A\nbool "a" if X\nconfig A\nprompt "b" if Y\n | show A\nset X y\nshow A\nset X n\nset Y y\nshow A\n | A type=bool value=n vis=n can=- user=-\nok\nok\nA type=bool value=n vis=y can=n,y user=-\nok\nok\nok\nA type=bool value=n vis=y can=n,y user=-\nok\n
+// `option allnoconfig_y` changes nothing here.
+config A\nbool "a"\ndefault y\noption allnoconfig_y\nconfig B\nbool "b"\ndefault y\n | show A\nshow B\n | A type=bool value=y vis=y can=n,y user=-\nok\nB type=bool value=y vis=y can=n,y user=-\nok\n
 config A\nbool "a"\nmenu "M"\nconfig B\nbool "b"\nendmenu\nconfig C\nbool "c"\n | config\n | # CONFIG_A is not set\n\n#\n# M\n#\n# CONFIG_B is not set\n# end of M\n\n# CONFIG_C is not set\nok\n
 "#;
 
@@ -49,6 +52,22 @@ config MODULES\nbool "modules"\nmodules\nconfig T\ntristate "t"\n | set MODULES 
 #[test]
 fn a_tristate_goes_by_modules(rt: HostRuntime) -> Result<(), Fail> {
     serve_table(&rt, rt.alloc(), TRISTATES)
+}
+
+/// The term m alone in conditions of all kinds, without modules and with them: in quotes it is the same.
+const MODULES_ALONE: &str = r#"
+config MODULES\nbool "modules"\nmodules\nconfig T\ntristate "t"\ndepends on "m"\n | show T\nset MODULES y\nshow T\n | T type=tristate value=n vis=n can=- user=-\nok\nok\nT type=tristate value=n vis=m can=n,m user=-\nok\n
+config MODULES\nbool "modules"\nmodules\nconfig T\ntristate "t" if m\n | show T\nset MODULES y\nshow T\n | T type=tristate value=n vis=n can=- user=-\nok\nok\nT type=tristate value=n vis=m can=n,m user=-\nok\n
+config MODULES\nbool "modules"\nmodules\nconfig T\ntristate "t" if "m"\n | show T\nset MODULES y\nshow T\n | T type=tristate value=n vis=n can=- user=-\nok\nok\nT type=tristate value=n vis=m can=n,m user=-\nok\n
+config MODULES\nbool "modules"\nmodules\nif m\nconfig T\ntristate "t"\nendif\n | show T\nset MODULES y\nshow T\n | T type=tristate value=n vis=n can=- user=-\nok\nok\nT type=tristate value=n vis=m can=n,m user=-\nok\n
+config MODULES\nbool "modules"\nmodules\nif 'm'\nconfig T\ntristate "t"\nendif\n | show T\nset MODULES y\nshow T\n | T type=tristate value=n vis=n can=- user=-\nok\nok\nT type=tristate value=n vis=m can=n,m user=-\nok\n
+config MODULES\nbool "modules"\nmodules\nconfig T\ntristate "t"\ndefault y if m\n | show T\nset MODULES y\nshow T\n | T type=tristate value=n vis=y can=n,y user=-\nok\nok\nT type=tristate value=m vis=y can=n,m,y user=-\nok\n
+config MODULES\nbool "modules"\nmodules\nconfig T\ntristate "t"\ndefault y if "m"\n | show T\nset MODULES y\nshow T\n | T type=tristate value=n vis=y can=n,y user=-\nok\nok\nT type=tristate value=m vis=y can=n,m,y user=-\nok\n
+"#;
+
+#[test]
+fn the_term_m_alone_asks_for_modules(rt: HostRuntime) -> Result<(), Fail> {
+    serve_table(&rt, rt.alloc(), MODULES_ALONE)
 }
 
 /// FOO implies BAZ, which depends on BAR.

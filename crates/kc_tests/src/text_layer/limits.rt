@@ -200,6 +200,11 @@ fn keeps_the_limit_of_followed_lines(rt: HostRuntime) -> Result<(), Fail> {
     text.push_str("source \"missing\"")?;
     let found = shown_of(alloc, &[("K", text.as_str()), ("b", "")])?;
     assert_eq!(rt; found.as_str(), "K01 K:4097");
+    // A file within itself comes before the count.
+    let mut text = repeated(alloc, "source \"b\"\n", 4_096)?;
+    text.push_str("source \"K\"")?;
+    let found = shown_of(alloc, &[("K", text.as_str()), ("b", "")])?;
+    assert_eq!(rt; found.as_str(), "K09 K:4097");
     Ok(())
 }
 

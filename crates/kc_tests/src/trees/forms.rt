@@ -21,6 +21,20 @@ config A\nint\nselect B | K16 A
 config MODULES\nbool\noption modules | MODULES bool
 config A\nbool\noption modules | K18 A
 config A\nbool\nmodules | K18 A
+config A\nbool\noption allnoconfig_y | A bool
+// A definition may have a prompt beside that of another one.
+config A\nbool "a"\nconfig A\nprompt "b" | A bool "a"; A bool "b"
+// A help text ends where its lines are indented less, and its entry goes on.
+config A\n---help---\n  frob\n  endmenu\nbool "a" | A bool "a"
+choice\nprompt "c"\n---help---\n  frob\nendchoice | choice "c"
+mainmenu "m"\nmainmenu "n"\nconfig A\nbool\nmainmenu "" | A bool
+// A word with a reference is a name by its text.
+X := A\nconfig $(X)\nbool | A bool
+X := A-B\nconfig $(X)\nbool | K:2: K05
+X :=\nconfig $(X)\nbool | K:2: K05
+X := m\nconfig $(X)\nbool | K:2: K05
+X := if\nconfig $(X)\nbool | K:2: K05
+X := A B\nconfig $(X)\nbool | K:2: K05
 choice\nprompt "c"\nendchoice | choice "c"
 choice\nprompt "c"\noptional\nendchoice | choice "c" optional
 choice\nprompt "c"\nconfig A\nbool "a"\nendchoice | A bool "a" of 0; choice "c"

@@ -15,6 +15,10 @@ config A\nbool\ndepends on B\nconfig B\nbool\ndepends on A | val A -> val B ->
 config A\nbool "a" if A | vis A -> val A ->
 config A\nbool\nselect B if C\nconfig B\nbool\nconfig C\nbool\ndepends on B | val B -> val C ->
 config MODULES\nbool\ndefault y if m | val MODULES ->
+config MODULES\nbool\ndefault y if "m" | val MODULES ->
+// A use counts as it is written, whatever the values of conditions.
+config A\nbool\ndefault A if n | val A ->
+config A\nbool\ndefault y if n && A | val A ->
 config N\nint\nrange 0 N | val N ->
 config S\nstring "s" if S = "x" | vis S -> val S ->
 choice\nprompt "c"\nconfig P\nbool "p"\ndepends on Q\nconfig Q\nbool "q"\nendchoice | vis P -> val Q -> sel c ->
