@@ -2,6 +2,7 @@
 use crate::faults::fault_of;
 use crate::table::{rows, three_fields, two_fields};
 use crate::text_layer::repeated;
+use std::alloc::{AllocError, Global};
 use std::test::Fail;
 
 /// What stands behind 64 blocks that are open, and the fault.
@@ -30,6 +31,33 @@ fn limits_of_blocks_come_last(rt: HostRuntime) -> Result<(), Fail> {
         let found = fault_of(alloc, kconfig.as_str())?;
         assert_eq!(rt; found.as_str(), want.as_str(), "at {row}");
     }
+    Ok(())
+}
+
+/// So many symbols, each of two lines.
+fn symbols(alloc: Global, count: usize) -> Result<String, AllocError> {
+    let mut text = String::new(alloc);
+    for i in 0..count {
+        text.push_str(format!(in alloc; "config A{i}\nbool\n")?.as_str())?;
+    }
+    Ok(text)
+}
+
+#[test]
+fn the_most_symbols_are_accepted(rt: HostRuntime) -> Result<(), Fail> {
+    let alloc = rt.alloc();
+    let kconfig = symbols(alloc, 65_535)?;
+    let found = fault_of(alloc, kconfig.as_str())?;
+    assert_eq!(rt; found.as_str(), "a session");
+    Ok(())
+}
+
+#[test]
+fn one_symbol_more_is_told_at_its_line(rt: HostRuntime) -> Result<(), Fail> {
+    let alloc = rt.alloc();
+    let kconfig = symbols(alloc, 65_536)?;
+    let found = fault_of(alloc, kconfig.as_str())?;
+    assert_eq!(rt; found.as_str(), "Kconfig:131071: K01");
     Ok(())
 }
 
