@@ -67,7 +67,7 @@ impl<'a> State<'a> {
         ensures { OnOk result (state_of self.new ≡ with_lines (end_of_file (place_of place.entry) ∷ []) (state_of self.old)) }
     {
         let path = TextRef::new(place.path);
-        let line = Line::new(
+        let end = Line::new(
             path,
             place.number,
             place.run,
@@ -75,7 +75,7 @@ impl<'a> State<'a> {
             LineTokens::new(&[]),
             None,
         );
-        self.lines.push(line)?;
+        self.lines.push(end)?;
         Ok(())
     }
 }
