@@ -49,16 +49,17 @@ pub(crate) struct Reader<'a> {
 fn item_tokens<'a>(
     scope: Scope<'_>,
     arena: &'a Bump,
+    gathered: &mut Vec<Token<'a>, &'a Bump>,
     text: &Joined<'a>,
 ) -> Result<LineTokens<'a>, LineFault>
     requires { length (joined_text text.now) ≤ 65536 }
     ensures { ReadsBy (λ v. v) result (line_tokens (names_in scope.entry.variables.now) (texts_in scope.entry.outside.now) (joined_text text.now)) }
 {
     match text {
-        Joined::One(line) => tokens(scope, arena, line),
+        Joined::One(line) => tokens(scope, arena, gathered, line),
         Joined::Many(text) => {
             let line = arena.try_alloc_str(text.as_str())?;
-            tokens(scope, arena, line)
+            tokens(scope, arena, gathered, line)
         }
     }
 }
@@ -134,7 +135,7 @@ fn read_item<'a>(
     if let Some(definition) = definition_of(text.as_str()) {
         return read_definition(reader, place, &definition, state);
     }
-    let tokens = read_tokens(reader, place, &text, &state.variables)?;
+    let tokens = read_tokens(reader, place, &text, &state.variables, &mut state.gathered)?;
     match source_path(tokens.as_slice()) {
         Some(wanted) => put_in_place(reader, around, place, wanted, state),
         None => Ok(state.push_statement(place, tokens, help)?),
@@ -162,6 +163,7 @@ fn read_tokens<'a>(
     place: Place<'a>,
     text: &Joined<'a>,
     variables: &Variables,
+    gathered: &mut Vec<Token<'a>, &'a Bump>,
 ) -> Result<LineTokens<'a>, TextFault>
     requires { length (joined_text text.now) ≤ 65536 }
     ensures { GivesBy (λ v. v) result (at_place (place_of place.entry) (line_tokens (names_in variables.now) (outside_of reader.entry) (joined_text text.now))) }
@@ -171,7 +173,7 @@ fn read_tokens<'a>(
         variables,
         outside: reader.vars,
     };
-    match item_tokens(scope, reader.arena, text) {
+    match item_tokens(scope, reader.arena, gathered, text) {
         Ok(tokens) => Ok(tokens),
         Err(fault) => Err(place.fault(reader.alloc, fault)),
     }
@@ -230,7 +232,7 @@ pub(crate) fn read_top<'a>(reader: Reader<'a>, top: &str) -> Result<Vec<Line<'a>
         };
         return Err(nowhere.missing_source(reader.alloc, top));
     };
-    let mut state = State::with_room(reader.alloc, text)?;
+    let mut state = State::with_room(reader.alloc, reader.arena, text)?;
     let mut around = Vec::new(reader.alloc);
     around.push(path)?;
     read_file(reader, &mut around, path, 0, text, &mut state)?;

@@ -3,10 +3,11 @@ ghost use Rattle.kc_text.specs.Reading.{end_of_file, nothing_read, statement, wi
 ghost use Rattle.kc_text.specs.Scanning.{place_of, state_of};
 
 use crate::help_text::HelpText;
-use crate::line::{Line, LineKind, LineTokens};
+use crate::line::{Line, LineKind, LineTokens, Token};
 use crate::place::Place;
 use crate::text::TextRef;
 use crate::variables::Variables;
+use bumpalo::Bump;
 use std::alloc::{AllocError, Global};
 
 /// How many bytes of a file there are for each logical line in most files, at least.
@@ -17,6 +18,8 @@ const USUAL_LINE_BYTES: usize = 64;
 pub(crate) struct State<'a> {
     pub(crate) lines: Vec<Line<'a>>,
     pub(crate) variables: Variables,
+    /// Where the tokens of a line are gathered.
+    pub(crate) gathered: Vec<Token<'a>, &'a Bump>,
     /// How many `source` lines were followed.
     pub(crate) followed: usize,
     /// How many bytes these put in place.
@@ -25,13 +28,18 @@ pub(crate) struct State<'a> {
 
 impl<'a> State<'a> {
     /// Nothing read, with room for the logical lines of a top file.
-    pub(crate) fn with_room(alloc: Global, top: &str) -> Result<State<'a>, AllocError>
+    pub(crate) fn with_room(
+        alloc: Global,
+        arena: &'a Bump,
+        top: &str,
+    ) -> Result<State<'a>, AllocError>
         ensures { IfOk result (λ s. state_of s ≡ nothing_read) }
     {
         let lines = Vec::with_capacity(alloc, top.len() / USUAL_LINE_BYTES + 1)?;
         Ok(State {
             lines,
             variables: Variables::new(alloc),
+            gathered: Vec::new(arena),
             followed: 0,
             placed: 0,
         })

@@ -18,9 +18,6 @@ use bumpalo::Bump;
 use bumpalo::collections::into_bump_slice;
 use std::alloc::AllocError;
 
-/// How many tokens most lines have, at most.
-const USUAL_TOKENS: usize = 2;
-
 /// Whether a part is a reference.
 fn is_reference(piece: &Piece<'_>) -> bool
     ensures { result ≡ list_any is_reference (piece_of piece.now) }
@@ -67,19 +64,23 @@ fn token<'a>(scope: Scope<'_>, arena: &'a Bump, raw: RawToken<'a>) -> Result<Tok
     }
 }
 
-/// The tokens of a line, which the arena keeps, or its first fault from the left.
+/// The tokens of a line, which the arena keeps, or its first fault from the left. They are gathered in a vector that
+/// serves line after line, so the arena has no room for more of them than there are.
 pub(crate) fn tokens<'a>(
     scope: Scope<'_>,
     arena: &'a Bump,
+    gathered: &mut Vec<Token<'a>, &'a Bump>,
     line: &'a str,
 ) -> Result<LineTokens<'a>, LineFault>
     ensures { ReadsBy (λ v. v) result (line_tokens (names_in scope.entry.variables.now) (texts_in scope.entry.outside.now) line.now) }
 {
-    let mut found = Vec::with_capacity(arena, USUAL_TOKENS)?;
+    gathered.clear();
     let mut rest = line;
     while let Some((raw, after)) = next_token(scope.alloc, rest)? {
-        found.push(token(scope, arena, raw)?)?;
+        gathered.push(token(scope, arena, raw)?)?;
         rest = after;
     }
-    Ok(LineTokens::new(into_bump_slice(found)))
+    let mut kept = Vec::with_capacity(arena, gathered.len())?;
+    kept.append(gathered)?;
+    Ok(LineTokens::new(into_bump_slice(kept)))
 }
