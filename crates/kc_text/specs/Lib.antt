@@ -6,6 +6,7 @@ pub mod FileList
 pub mod Help
 pub mod Items
 pub mod Lexing
+pub mod LineContent
 pub mod LineValue
 pub mod Reading
 pub mod References

@@ -65,7 +65,7 @@ abbrev pub state_of : State → ReadState
 state_of s = record { lines = s.lines.items; names = names_in s.variables; followed = s.followed; placed = s.placed }
 
 abbrev pub place_of : CodePlace → Place
-place_of p = record { path = p.path.now; run = p.run; number = p.number }
+place_of p = record { path = p.file.now.path; run = p.file.now.run; number = p.number }
 
 -- the texts that a reader is handed for names
 abbrev pub outside_of : Reader → Environment

@@ -84,44 +84,56 @@ pub enum LineKind {
     EndOfFile,
 }
 
+/// A file in its place: the path, as it was spelt, and which putting in place of a file it is.
+#[derive(Debug, Drop)]
+pub(crate) struct PlacedFile<'a> {
+    pub(crate) path: TextRef<'a>,
+    pub(crate) run: usize,
+}
+
+/// What a `help` line holds: its tokens, and the text behind it.
+#[derive(Debug, Drop)]
+pub(crate) struct HelpLine<'a> {
+    pub(crate) tokens: LineTokens<'a>,
+    pub(crate) text: HelpText<'a>,
+}
+
+/// What a line holds. A `help` line is rare, so the arena keeps what it holds, and lines are small.
+#[derive(Debug, Drop)]
+pub(crate) enum Content<'a> {
+    Statement(LineTokens<'a>),
+    Help(&'a HelpLine<'a>),
+    EndOfFile,
+}
+
 /// A logical line of a Kconfig file. Contracts see it as the record of its parts.
 #[derive(Debug, Drop)]
 pub struct Line<'a> {
-    path: TextRef<'a>,
+    file: &'a PlacedFile<'a>,
     number: usize,
-    run: usize,
-    kind: LineKind,
-    tokens: LineTokens<'a>,
-    help: Option<HelpText<'a>>,
+    content: Content<'a>,
 }
 
 impl<'a> Model for Line<'a> {
     ghost use Rattle.kc_text.specs.LineValue.{LineValue};
+    ghost use Rattle.kc_text.specs.LineContent.{kind_of, tokens_of, help_of};
 
     ghost Value = { LineValue };
 
-    ghost view = { λ l. record { path = l.path; number = l.number; run = l.run; kind = l.kind; tokens = l.tokens; help = l.help } };
+    ghost view = { λ l. record { path = l.file.now.path; number = l.number; run = l.file.now.run; kind = kind_of l.content; tokens = tokens_of l.content; help = help_of l.content } };
 }
 
 impl<'a> Line<'a> {
-    /// A line with tokens, or an end of file without.
-    pub(crate) fn new(
-        path: TextRef<'a>,
-        number: usize,
-        run: usize,
-        kind: LineKind,
-        tokens: LineTokens<'a>,
-        help: Option<HelpText<'a>>,
-    ) -> Line<'a>
-        ensures { result ≡ record { path = path.entry; number = number; run = run; kind = kind; tokens = tokens.entry; help = help.entry } }
+    ghost use Rattle.kc_text.specs.LineContent.{kind_of, tokens_of, help_of};
+
+    /// The line of a file with a number, and what it holds.
+    pub(crate) fn new(file: &'a PlacedFile<'a>, number: usize, content: Content<'a>) -> Line<'a>
+        ensures { result ≡ record { path = file.entry.now.path; number = number; run = file.entry.now.run; kind = kind_of content.entry; tokens = tokens_of content.entry; help = help_of content.entry } }
     {
         Line {
-            path,
+            file,
             number,
-            run,
-            kind,
-            tokens,
-            help,
+            content,
         }
     }
 
@@ -129,7 +141,7 @@ impl<'a> Line<'a> {
     pub fn path(&self) -> &str
         ensures { result.now ≡ self.now.path }
     {
-        self.path.as_str()
+        self.file.path.as_str()
     }
 
     /// The number of the line in its file, counted from 1. Of lines that are joined it is that of the first.
@@ -144,27 +156,39 @@ impl<'a> Line<'a> {
     pub fn run(&self) -> usize
         ensures { result ≡ self.now.run }
     {
-        self.run
+        self.file.run
     }
 
     /// What the line stands for.
     pub fn kind(&self) -> LineKind
         ensures { result ≡ self.now.kind }
     {
-        self.kind
+        match &self.content {
+            Content::Statement(_) => LineKind::Statement,
+            Content::Help(_) => LineKind::Statement,
+            Content::EndOfFile => LineKind::EndOfFile,
+        }
     }
 
     /// The tokens, of which an end of file has none.
     pub fn tokens(&self) -> &[Token<'a>]
         ensures { result.now ≡ self.now.tokens }
     {
-        self.tokens.as_slice()
+        match &self.content {
+            Content::Statement(tokens) => tokens.as_slice(),
+            Content::Help(help) => help.tokens.as_slice(),
+            Content::EndOfFile => &[],
+        }
     }
 
     /// The help text after a `help` line.
     pub fn help(&self) -> Option<&HelpText<'a>>
         ensures { MatchOption result (self.now.help ≡ None) (λ text. self.now.help ≡ Some text.now) }
     {
-        self.help.as_ref()
+        match &self.content {
+            Content::Help(help) => Some(&help.text),
+            Content::Statement(_) => None,
+            Content::EndOfFile => None,
+        }
     }
 }

@@ -4,14 +4,14 @@ ghost use Rattle.kc_text.specs.Faults.{IsFaultAt};
 ghost use Rattle.kc_text.specs.Scanning.{place_of, IsPlacedFault};
 
 use crate::fault::{LineFault, TextFault, TextProblem};
+use crate::line::PlacedFile;
 use crate::text::Text;
 use std::alloc::Global;
 
 /// Where a line stands.
 #[derive(Clone, Copy)]
 pub(crate) struct Place<'a> {
-    pub(crate) path: &'a str,
-    pub(crate) run: usize,
+    pub(crate) file: &'a PlacedFile<'a>,
     pub(crate) number: usize,
 }
 
@@ -21,20 +21,21 @@ impl<'a> Place<'a> {
         ensures { IsPlacedFault result (place_of self.entry) fault }
     {
         match fault {
-            LineFault::Problem(problem) => TextFault::at(alloc, problem, self.path, self.number),
+            LineFault::Problem(problem) => self.problem(alloc, problem),
             LineFault::NoMemory => TextFault::NoMemory,
         }
     }
 
     /// The problem at the place.
     pub(crate) fn problem(self, alloc: Global, problem: TextProblem) -> TextFault
-        ensures { IsFaultAt result problem self.entry.path.now self.entry.number }
+        ensures { IsFaultAt result problem self.entry.file.now.path self.entry.number }
     {
-        TextFault::at(alloc, problem, self.path, self.number)
+        TextFault::at(alloc, problem, self.file.path.as_str(), self.number)
     }
+
     /// The problem that the file of a path, which is wanted at the place, is not among the sources.
     pub(crate) fn missing_source(self, alloc: Global, wanted: &str) -> TextFault
-        ensures { IsFaultAt result (MissingSource wanted.now) self.entry.path.now self.entry.number }
+        ensures { IsFaultAt result (MissingSource wanted.now) self.entry.file.now.path self.entry.number }
     {
         match Text::copy_of(alloc, wanted) {
             Ok(wanted) => self.problem(alloc, TextProblem::MissingSource(wanted)),

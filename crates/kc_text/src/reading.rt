@@ -1,6 +1,6 @@
 //! Files that are read line by line, each `source` line with the file that it names in its place.
 
-ghost use Rattle.std.specs.Prelude.{◌≡◌, ◌≤◌, length, OnOk, MatchOption, None, Some, Ok};
+ghost use Rattle.std.specs.Prelude.{◌≡◌, ◌≤◌, length, IfOk, OnOk, MatchOption, None, Some, Ok};
 ghost use Rattle.kc_text.specs.Faults.{GivesAfter, GivesBy, ReadsBy};
 ghost use Rattle.kc_text.specs.Definitions.{defined};
 ghost use Rattle.kc_text.specs.Expansion.{is_among, names_in, texts_in, then_on};
@@ -13,15 +13,16 @@ use crate::definition::{Definition, definition_of};
 use crate::expansion::Scope;
 use crate::fault::{LineFault, TextFault, TextProblem};
 use crate::items::{Item, Joined, first_item};
-use crate::line::{Line, LineTokens, Token};
+use crate::line::{Line, LineTokens, PlacedFile, Token};
 use crate::place::Place;
 use crate::sources::Sources;
 use crate::state::State;
+use crate::text::TextRef;
 use crate::tokens::tokens;
 use crate::variables::Variables;
 use crate::vars::Vars;
 use bumpalo::Bump;
-use std::alloc::Global;
+use std::alloc::{AllocError, Global};
 
 /// The most bytes of a logical line.
 const MAX_LINE_BYTES: usize = 65_536;
@@ -85,13 +86,12 @@ fn source_path<'b>(tokens: &'b [Token<'_>]) -> Option<&'b str>
 fn read_file<'a>(
     reader: Reader<'a>,
     around: &mut Vec<&'a str>,
-    path: &'a str,
-    run: usize,
+    file: &'a PlacedFile<'a>,
     text: &'a str,
     state: &mut State<'a>,
 ) -> Result<(), TextFault>
     requires { length around.old.items ≤ 64 }
-    ensures reads { GivesAfter result (state_of state.new) (file_read (outside_of reader.entry) (placing reader.entry around.old.items) path.now run text.now (state_of state.old)) }
+    ensures reads { GivesAfter result (state_of state.new) (file_read (outside_of reader.entry) (placing reader.entry around.old.items) file.now.path file.now.run text.now (state_of state.old)) }
     ensures around { OnOk result (around.new.items ≡ around.old.items) }
 {
     let mut rest = text;
@@ -100,13 +100,12 @@ fn read_file<'a>(
         let item = first_item(reader.alloc, rest)?;
         let taken = item.more + 1;
         let behind = item.rest;
-        let place = Place { path, run, number };
+        let place = Place { file, number };
         read_item(reader, around, place, item, state)?;
         number += taken;
         rest = behind;
     }
-    let end = Place { path, run, number };
-    state.push_end(end)?;
+    state.push_end(Place { file, number })?;
     Ok(())
 }
 
@@ -138,7 +137,7 @@ fn read_item<'a>(
     let tokens = read_tokens(reader, place, &text, &state.variables, &mut state.gathered)?;
     match source_path(tokens.as_slice()) {
         Some(wanted) => put_in_place(reader, around, place, wanted, state),
-        None => Ok(state.push_statement(place, tokens, help)?),
+        None => Ok(state.push_statement(reader.arena, place, tokens, help)?),
     }
 }
 
@@ -186,6 +185,21 @@ fn is_among(wanted: &str, paths: &[&str]) -> bool
     paths.iter().any(|path| *path == wanted)
 }
 
+/// The file of a path in its place, which the arena keeps.
+fn placed_file<'a>(
+    arena: &'a Bump,
+    path: &'a str,
+    run: usize,
+) -> Result<&'a PlacedFile<'a>, AllocError>
+    ensures { IfOk result (λ f. f.now ≡ record { path = path.now; run = run }) }
+{
+    let path = TextRef::new(path);
+    match arena.try_alloc(PlacedFile { path, run }) {
+        Ok(file) => Ok(file),
+        Err(_) => Err(AllocError),
+    }
+}
+
 /// Reads the file of a path in place of a `source` line. The paths `around` are those of the files that are open.
 #[cycle(read)]
 fn put_in_place<'a>(
@@ -215,7 +229,8 @@ fn put_in_place<'a>(
     state.placed += text.len();
     let run = state.followed;
     around.push(path)?;
-    read_file(reader, around, path, run, text, state)?;
+    let file = placed_file(reader.arena, path, run)?;
+    read_file(reader, around, file, text, state)?;
     around.pop();
     Ok(())
 }
@@ -226,8 +241,10 @@ pub(crate) fn read_top<'a>(reader: Reader<'a>, top: &str) -> Result<Vec<Line<'a>
 {
     let Some((path, text)) = reader.sources.file(top) else {
         let nowhere = Place {
-            path: top,
-            run: 0,
+            file: &PlacedFile {
+                path: TextRef::new(top),
+                run: 0,
+            },
             number: 0,
         };
         return Err(nowhere.missing_source(reader.alloc, top));
@@ -235,6 +252,7 @@ pub(crate) fn read_top<'a>(reader: Reader<'a>, top: &str) -> Result<Vec<Line<'a>
     let mut state = State::with_room(reader.alloc, reader.arena, text)?;
     let mut around = Vec::new(reader.alloc);
     around.push(path)?;
-    read_file(reader, &mut around, path, 0, text, &mut state)?;
+    let file = placed_file(reader.arena, path, 0)?;
+    read_file(reader, &mut around, file, text, &mut state)?;
     Ok(state.lines)
 }

@@ -1,11 +1,12 @@
 ghost use Rattle.std.specs.Prelude.{◌≡◌, ◌∷◌, [], IfOk, OnOk};
+ghost use Rattle.kc_text.specs.declared.line.LineKind.TheVariants.{Statement};
+ghost use Rattle.kc_text.specs.LineContent.{help_of, kind_of, tokens_of};
 ghost use Rattle.kc_text.specs.Reading.{end_of_file, nothing_read, statement, with_lines};
 ghost use Rattle.kc_text.specs.Scanning.{place_of, state_of};
 
 use crate::help_text::HelpText;
-use crate::line::{Line, LineKind, LineTokens, Token};
+use crate::line::{Content, HelpLine, Line, LineTokens, Token};
 use crate::place::Place;
-use crate::text::TextRef;
 use crate::variables::Variables;
 use bumpalo::Bump;
 use std::alloc::{AllocError, Global};
@@ -48,6 +49,7 @@ impl<'a> State<'a> {
     /// Puts the line of tokens behind the lines, unless there are none.
     pub(crate) fn push_statement(
         &mut self,
+        arena: &'a Bump,
         place: Place<'a>,
         tokens: LineTokens<'a>,
         help: Option<HelpText<'a>>,
@@ -57,16 +59,9 @@ impl<'a> State<'a> {
         if tokens.as_slice().is_empty() {
             return Ok(());
         }
-        let path = TextRef::new(place.path);
-        let line = Line::new(
-            path,
-            place.number,
-            place.run,
-            LineKind::Statement,
-            tokens,
-            help,
-        );
-        self.lines.push(line)?;
+        let content = content_of(arena, tokens, help)?;
+        self.lines
+            .push(Line::new(place.file, place.number, content))?;
         Ok(())
     }
 
@@ -74,16 +69,27 @@ impl<'a> State<'a> {
     pub(crate) fn push_end(&mut self, place: Place<'a>) -> Result<(), AllocError>
         ensures { OnOk result (state_of self.new ≡ with_lines (end_of_file (place_of place.entry) ∷ []) (state_of self.old)) }
     {
-        let path = TextRef::new(place.path);
-        let end = Line::new(
-            path,
-            place.number,
-            place.run,
-            LineKind::EndOfFile,
-            LineTokens::new(&[]),
-            None,
-        );
+        let end = Line::new(place.file, place.number, Content::EndOfFile);
         self.lines.push(end)?;
         Ok(())
+    }
+}
+
+/// What a line with tokens holds, and with the text of a help where it is a `help` line.
+fn content_of<'a>(
+    arena: &'a Bump,
+    tokens: LineTokens<'a>,
+    help: Option<HelpText<'a>>,
+) -> Result<Content<'a>, AllocError>
+    ensures kind { IfOk result (λ c. kind_of c ≡ Statement) }
+    ensures tokens { IfOk result (λ c. tokens_of c ≡ tokens.entry) }
+    ensures help { IfOk result (λ c. help_of c ≡ help.entry) }
+{
+    let Some(text) = help else {
+        return Ok(Content::Statement(tokens));
+    };
+    match arena.try_alloc(HelpLine { tokens, text }) {
+        Ok(line) => Ok(Content::Help(line)),
+        Err(_) => Err(AllocError),
     }
 }

@@ -3,6 +3,8 @@ use Rattle.std.specs.Str.Lines.{lines}
 use Rattle.std.proofs.lemmas.List.{nil_from_length}
 use Rattle.std.proofs.lemmas.Result.{err_from_is_err_and}
 use Rattle.kc_text.specs.Expansion.{is_among}
+use Rattle.kc_text.specs.declared.line.PlacedFile.{PlacedFile}
+use Rattle.kc_text.specs.Reading.{entered, file_read}
 use Rattle.kc_text.specs.Scanning.{item_of, names_of, outside_of, place_of, placing, state_of}
 use Rattle.kc_text.proofs.Nesting.{fault_along, lines_end, lines_fail, lines_go_on, lines_left, source_reads}
 use Rattle.kc_text.proofs.PhysicalLines.{more_lines}
@@ -13,12 +15,14 @@ put_in_place-returns-in_err-read_file-clause-reads t c =
     let p = err_from_is_err_and c.from_residual-in_err-read_file.result c.from_residual-in_err-read_file.ensures.1 in
     let new : is_among c.args.wanted.now (names_of c.args.around.now.items) ≡ false = cc in
     let reads = source_reads c.args.reader c.args.around.now.items c.push.new.self.items (place_of c.args.place) c.args.wanted.now c.in-Some.path c.in-Some.text.now (state_of c.args.state.now) new (omega arith) (omega arith) c.in-Some.ensures.0 c.in-Some.ensures.1 (omega arith) c.in_ok-push.ensures.items in
-    rw (p.1, p.2) (fault_along _ _ _ (λ f h. reads ∙ h) c.in_err-read_file.ensures.reads)
+    let file = λ (f : PlacedFile). file_read (outside_of c.args.reader) (placing c.args.reader c.push.new.self.items) f.path f.run c.in-Some.text.now (entered c.in-Some.text.now (state_of c.args.state.now)) in
+    rw (p.1, p.2) (fault_along _ _ _ (λ f h. reads ∙ ap file (sym c.in_ok-file.ensures) ∙ h) c.in_err-read_file.ensures.reads)
 
 pub put_in_place-returns-clause-reads : goal.put_in_place-returns-clause-reads
 put_in_place-returns-clause-reads t c =
     let new : is_among c.args.wanted.now (names_of c.args.around.now.items) ≡ false = cc in
     source_reads c.args.reader c.args.around.now.items c.push.new.self.items (place_of c.args.place) c.args.wanted.now c.in-Some.path c.in-Some.text.now (state_of c.args.state.now) new (omega arith) (omega arith) c.in-Some.ensures.0 c.in-Some.ensures.1 (omega arith) c.in_ok-push.ensures.items
+    ∙ ap (λ (f : PlacedFile). file_read (outside_of c.args.reader) (placing c.args.reader c.push.new.self.items) f.path f.run c.in-Some.text.now (entered c.in-Some.text.now (state_of c.args.state.now))) (sym c.in_ok-file.ensures)
     ∙ c.in_ok-read_file.ensures.reads
 
 pub read_file-returns-in_err-read_item-clause-reads : goal.read_file-returns-in_err-read_item-clause-reads
@@ -27,7 +31,7 @@ read_file-returns-in_err-read_item-clause-reads t c =
     let some : 0 < length (lines c.loop-rest.rest.now) = more_lines c.loop-rest.rest.now (search (rules, tests)) in
     rw (p.1, p.2)
     (fault_along _ _ _
-    (lines_fail c.args.reader c.args.around.now.items c.loop-rest.around.items c.loop-rest.invariant.around c.args.path.now c.args.run c.args.text.now (lines c.loop-rest.rest.now) c.loop-rest.number (state_of c.args.state.now) (state_of c.loop-rest.state) (item_of c.in_ok-item.item) some c.in_ok-item.ensures.item c.loop-rest.invariant.reads)
+    (lines_fail c.args.reader c.args.around.now.items c.loop-rest.around.items c.loop-rest.invariant.around c.args.file.now.path c.args.file.now.run c.args.text.now (lines c.loop-rest.rest.now) c.loop-rest.number (state_of c.args.state.now) (state_of c.loop-rest.state) (item_of c.in_ok-item.item) some c.in_ok-item.ensures.item c.loop-rest.invariant.reads)
     c.in_err-read_item.ensures.reads)
 
 pub read_file-loop-rest-preserved : goal.read_file-loop-rest-preserved
@@ -39,12 +43,12 @@ read_file-loop-rest-preserved t c =
       utf8 = search rules;
       around = c.in_ok-read_item.ensures.around ∙ c.loop-rest.invariant.around;
       within = omega (arith, c.loop-rest.invariant.within, c.in_ok-item.ensures.within);
-      count = lines_left c.args.reader c.args.around.now.items c.loop-rest.around.items c.loop-rest.invariant.around c.args.path.now c.args.run c.args.text.now now c.loop-rest.number (state_of c.args.state.now) (state_of c.loop-rest.state) (item_of c.in_ok-item.item) some c.in_ok-item.ensures.item c.loop-rest.invariant.reads behind c.in_ok-item.ensures.rest c.loop-rest.invariant.count;
-      reads = lines_go_on c.args.reader c.args.around.now.items c.loop-rest.around.items c.loop-rest.invariant.around c.args.path.now c.args.run c.args.text.now now c.loop-rest.number (state_of c.args.state.now) (state_of c.loop-rest.state) (item_of c.in_ok-item.item) some c.in_ok-item.ensures.item c.loop-rest.invariant.reads (state_of c.read_item.new.state) behind c.in_ok-item.ensures.rest c.in_ok-read_item.ensures.reads;
+      count = lines_left c.args.reader c.args.around.now.items c.loop-rest.around.items c.loop-rest.invariant.around c.args.file.now.path c.args.file.now.run c.args.text.now now c.loop-rest.number (state_of c.args.state.now) (state_of c.loop-rest.state) (item_of c.in_ok-item.item) some c.in_ok-item.ensures.item c.loop-rest.invariant.reads behind c.in_ok-item.ensures.rest c.loop-rest.invariant.count;
+      reads = lines_go_on c.args.reader c.args.around.now.items c.loop-rest.around.items c.loop-rest.invariant.around c.args.file.now.path c.args.file.now.run c.args.text.now now c.loop-rest.number (state_of c.args.state.now) (state_of c.loop-rest.state) (item_of c.in_ok-item.item) some c.in_ok-item.ensures.item c.loop-rest.invariant.reads (state_of c.read_item.new.state) behind c.in_ok-item.ensures.rest c.in_ok-read_item.ensures.reads;
     }
 
 pub read_file-returns-clause-reads : goal.read_file-returns-clause-reads
 read_file-returns-clause-reads t c =
     let none : length c.loop-rest.rest.now ≡ 0 = search (rules, tests) in
-    lines_end (outside_of c.args.reader) (placing c.args.reader c.args.around.now.items) c.args.path.now c.args.run c.args.text.now (lines c.loop-rest.rest.now) c.loop-rest.number (state_of c.args.state.now) (state_of c.loop-rest.state) (ap lines (nil_from_length c.loop-rest.rest.now none)) c.loop-rest.invariant.count c.loop-rest.invariant.reads
+    lines_end (outside_of c.args.reader) (placing c.args.reader c.args.around.now.items) c.args.file.now.path c.args.file.now.run c.args.text.now (lines c.loop-rest.rest.now) c.loop-rest.number (state_of c.args.state.now) (state_of c.loop-rest.state) (ap lines (nil_from_length c.loop-rest.rest.now none)) c.loop-rest.invariant.count c.loop-rest.invariant.reads
     ∙ ap Ok (sym c.in_ok-push_end.ensures)

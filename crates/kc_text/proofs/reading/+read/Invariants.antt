@@ -23,8 +23,8 @@ invariant-read_file-loop-rest l = record {
   around : l.around.items ≡ l.fn.around.items;
   within : l.number + length l.rest ≤ length l.text + 1;
   count : l.number + length (lines l.rest) ≡ length (lines l.text) + 1;
-  reads : items_read (outside_of l.fn.reader) (placing l.fn.reader l.fn.around.items) l.fn.path l.fn.run 0 1 (lines l.fn.text) (state_of l.fn.state)
-      ≡ items_read (outside_of l.fn.reader) (placing l.fn.reader l.fn.around.items) l.fn.path l.fn.run 0 l.number (lines l.rest) (state_of l.state);
+  reads : items_read (outside_of l.fn.reader) (placing l.fn.reader l.fn.around.items) l.fn.file.path l.fn.file.run 0 1 (lines l.fn.text) (state_of l.fn.state)
+      ≡ items_read (outside_of l.fn.reader) (placing l.fn.reader l.fn.around.items) l.fn.file.path l.fn.file.run 0 l.number (lines l.rest) (state_of l.state);
 }
 
 abbrev pub decreases-read_file-loop-rest : goal.decreases-read_file-loop-rest
