@@ -1,6 +1,6 @@
 //! What a line is by its first word.
 
-ghost use Rattle.std.specs.Prelude.{◌≡◌, false};
+ghost use Rattle.std.specs.Prelude.{◌≡◌, false, length};
 ghost use Rattle.std.specs.Option.{option_map_or};
 ghost use Rattle.kc_tree.specs.Keywords.{first_keyword, keyword_named, keyword_of, is_attribute_word, is_choice_attribute, is_config, is_config_word, is_opener_word, is_closer_word, is_end_of, takes, wants_quotes};
 
@@ -44,42 +44,155 @@ pub(crate) enum Keyword {
     LeftOut,
 }
 
-/// The keyword that a word is. The frequent ones come first.
+/// The keyword that a word is. Its length comes first, which leaves few words to compare it with; the frequent ones come
+/// first.
 fn keyword_named(word: &str) -> Option<Keyword>
     ensures { result ≡ keyword_named word.now }
 {
+    match word.len() {
+        2 => named_by_two(word),
+        3 => named_by_three(word),
+        4 => named_by_four(word),
+        5 => named_by_five(word),
+        6 => named_by_six(word),
+        7 => named_by_seven(word),
+        8 => named_by_eight(word),
+        9 => named_by_nine(word),
+        10 => named_by_ten(word),
+        12 => named_by_twelve(word),
+        _ => None,
+    }
+}
+
+/// The keyword of two bytes that a word is.
+fn named_by_two(word: &str) -> Option<Keyword>
+    requires { length word.now ≡ 2 }
+    ensures { result ≡ keyword_named word.now }
+{
     match word {
-        "config" | "menuconfig" => Some(Keyword::Config),
-        "help" | "---help---" => Some(Keyword::Help),
-        "depends" => Some(Keyword::Depends),
-        "bool" => Some(Keyword::Bool),
-        "tristate" => Some(Keyword::Tristate),
-        "default" => Some(Keyword::Default),
-        "select" => Some(Keyword::Select),
         "if" => Some(Keyword::If),
+        _ => None,
+    }
+}
+
+/// The keyword of three bytes that a word is.
+fn named_by_three(word: &str) -> Option<Keyword>
+    requires { length word.now ≡ 3 }
+    ensures { result ≡ keyword_named word.now }
+{
+    match word {
+        "int" => Some(Keyword::Int),
+        "hex" => Some(Keyword::Hex),
+        _ => None,
+    }
+}
+
+/// The keyword of four bytes that a word is.
+fn named_by_four(word: &str) -> Option<Keyword>
+    requires { length word.now ≡ 4 }
+    ensures { result ≡ keyword_named word.now }
+{
+    match word {
+        "help" => Some(Keyword::Help),
+        "bool" => Some(Keyword::Bool),
+        "menu" => Some(Keyword::Menu),
+        _ => None,
+    }
+}
+
+/// The keyword of five bytes that a word is.
+fn named_by_five(word: &str) -> Option<Keyword>
+    requires { length word.now ≡ 5 }
+    ensures { result ≡ keyword_named word.now }
+{
+    match word {
         "endif" => Some(Keyword::EndIf),
         "imply" => Some(Keyword::Imply),
-        "def_bool" => Some(Keyword::DefBool),
-        "def_tristate" => Some(Keyword::DefTristate),
+        "range" => Some(Keyword::Range),
+        _ => None,
+    }
+}
+
+/// The keyword of six bytes that a word is.
+fn named_by_six(word: &str) -> Option<Keyword>
+    requires { length word.now ≡ 6 }
+    ensures { result ≡ keyword_named word.now }
+{
+    match word {
+        "config" => Some(Keyword::Config),
+        "select" => Some(Keyword::Select),
         "prompt" => Some(Keyword::Prompt),
-        "menu" => Some(Keyword::Menu),
+        "option" => Some(Keyword::Option),
+        "source" => Some(Keyword::Source),
+        "string" => Some(Keyword::String),
+        "choice" => Some(Keyword::Choice),
+        _ => None,
+    }
+}
+
+/// The keyword of seven bytes that a word is.
+fn named_by_seven(word: &str) -> Option<Keyword>
+    requires { length word.now ≡ 7 }
+    ensures { result ≡ keyword_named word.now }
+{
+    match word {
+        "depends" => Some(Keyword::Depends),
+        "default" => Some(Keyword::Default),
         "endmenu" => Some(Keyword::EndMenu),
         "comment" => Some(Keyword::Comment),
         "visible" => Some(Keyword::Visible),
-        "option" => Some(Keyword::Option),
         "modules" => Some(Keyword::Modules),
+        "rsource" | "osource" | "def_int" | "def_hex" => Some(Keyword::LeftOut),
+        _ => None,
+    }
+}
+
+/// The keyword of eight bytes that a word is.
+fn named_by_eight(word: &str) -> Option<Keyword>
+    requires { length word.now ≡ 8 }
+    ensures { result ≡ keyword_named word.now }
+{
+    match word {
+        "tristate" => Some(Keyword::Tristate),
+        "def_bool" => Some(Keyword::DefBool),
         "mainmenu" => Some(Keyword::MainMenu),
-        "source" => Some(Keyword::Source),
-        "string" => Some(Keyword::String),
-        "int" => Some(Keyword::Int),
-        "hex" => Some(Keyword::Hex),
-        "range" => Some(Keyword::Range),
-        "choice" => Some(Keyword::Choice),
-        "endchoice" => Some(Keyword::EndChoice),
         "optional" => Some(Keyword::Optional),
-        "rsource" | "osource" | "orsource" | "def_int" | "def_hex" | "def_string" => {
-            Some(Keyword::LeftOut)
-        }
+        "orsource" => Some(Keyword::LeftOut),
+        _ => None,
+    }
+}
+
+/// The keyword of nine bytes that a word is.
+fn named_by_nine(word: &str) -> Option<Keyword>
+    requires { length word.now ≡ 9 }
+    ensures { result ≡ keyword_named word.now }
+{
+    match word {
+        "endchoice" => Some(Keyword::EndChoice),
+        _ => None,
+    }
+}
+
+/// The keyword of ten bytes that a word is.
+fn named_by_ten(word: &str) -> Option<Keyword>
+    requires { length word.now ≡ 10 }
+    ensures { result ≡ keyword_named word.now }
+{
+    match word {
+        "menuconfig" => Some(Keyword::Config),
+        "---help---" => Some(Keyword::Help),
+        "def_string" => Some(Keyword::LeftOut),
+        _ => None,
+    }
+}
+
+/// The keyword of twelve bytes that a word is.
+fn named_by_twelve(word: &str) -> Option<Keyword>
+    requires { length word.now ≡ 12 }
+    ensures { result ≡ keyword_named word.now }
+{
+    match word {
+        "def_tristate" => Some(Keyword::DefTristate),
         _ => None,
     }
 }
