@@ -28,6 +28,15 @@ pub struct Sources {
     alloc: Global,
 }
 
+/// What the files come to with one of a path.
+#[derive(Clone, Copy)]
+struct Totals {
+    /// How many files there are.
+    files: usize,
+    /// How many bytes the texts of the others have.
+    other_bytes: usize,
+}
+
 impl Model for Sources {
     ghost use Rattle.std.specs.Prelude.{List};
     ghost use Rattle.kc_text.specs.FileList.{File, file_list, IsCounted};
@@ -72,24 +81,31 @@ impl Sources {
         ensures unchanged { OnErr result (self.new ≡ self.old) }
     {
         let len = text.as_str().len();
-        let others = self.other_bytes(path);
-        if count_with(&self.files, path) > MAX_FILES || len > MAX_BYTES - others {
+        let totals = self.totals_with(path);
+        if totals.files > MAX_FILES || len > MAX_BYTES - totals.other_bytes {
             return Err(TextFault::at(self.alloc, TextProblem::Limit, path, 0));
         }
         let key = String::from_str(self.alloc, path)?;
         self.files.insert(key, text.into_string())?;
-        self.bytes = others + len;
+        self.bytes = totals.other_bytes + len;
         Ok(())
     }
 
-    /// How many bytes the texts have, without that of a path.
-    fn other_bytes(&self, path: &str) -> usize
-        ensures count { result ≡ other_bytes path.now self.now }
-        ensures within { result ≤ 16777216 }
+    /// What the files come to with one of a path, but for the bytes of its text.
+    fn totals_with(&self, path: &str) -> Totals
+        ensures files { result.files ≡ count_with path.now self.now }
+        ensures bytes { result.other_bytes ≡ other_bytes path.now self.now }
+        ensures within { result.other_bytes ≤ 16777216 }
     {
         match self.files.get(path) {
-            Some(text) => self.bytes - text.len(),
-            None => self.bytes,
+            Some(text) => Totals {
+                files: self.files.len(),
+                other_bytes: self.bytes - text.len(),
+            },
+            None => Totals {
+                files: self.files.len() + 1,
+                other_bytes: self.bytes,
+            },
         }
     }
 
@@ -99,16 +115,5 @@ impl Sources {
     {
         let (path, text) = self.files.get_key_value(path)?;
         Some((path.as_str(), text.as_str()))
-    }
-}
-
-/// How many files there are with one of a path.
-fn count_with(files: &BTreeMap<String, String>, path: &str) -> usize
-    ensures { result ≡ count_with path.now (file_list files.now) }
-{
-    if files.contains_key(path) {
-        files.len()
-    } else {
-        files.len() + 1
     }
 }

@@ -3,7 +3,7 @@ use Rattle.std.specs.BTreeMap.{get_by_text}
 use Rattle.std.specs.Map.{update}
 use Rattle.std.proofs.lemmas.Map.Text.{btree_map_updates_text}
 use Rattle.kc_text.specs.FileList.{file_list}
-use Rattle.kc_text.specs.Sources.{count_with, other_bytes, put, text_of}
+use Rattle.kc_text.specs.Sources.{other_bytes, put, text_of}
 use Rattle.kc_text.proofs.Counting.{IsCounted-put}
 use Rattle.kc_text.proofs.Files.{added-ok, put-file_list, text_of-updated}
 use Rattle.kc_text.proofs.sources.Sources.add_text.Goals as goal
@@ -13,7 +13,7 @@ invariant_of-self-2 c =
     let path = c.args.path.now in
     let m = c.self.inside.files in
     let e = c.in_ok-insert.ensures in
-    let counted = c.other_bytes-others.ensures.count ∙ ap (other_bytes path) (sym c.self.view_is) in
+    let counted = c.totals_with-totals.ensures.bytes ∙ ap (other_bytes path) (sym c.self.view_is) in
     IsCounted-put path m c.insert.new.self c.in_ok-key.key c.into_string.result _ e.was_ordered c.in_ok-key.ensures.ok e.entries e.ordered
     (ap (λ n. n + length c.as_str-len.result.now) counted ∙ ap (λ bs. other_bytes path (file_list m) + length bs) (c.as_str-len.ensures ∙ sym c.into_string.ensures))
     (omega arith)
@@ -24,7 +24,7 @@ returns-clause-adds c =
     let text = c.args.text in
     let key = c.in_ok-key.ensures.ok in
     let content = c.into_string.ensures in
-    let count = c.count_with.ensures ∙ ap (count_with path) c.self.view_is in
+    let count = c.totals_with-totals.ensures.files in
     added-ok path text c.args.self.now _ (omega (arith, count)) (omega (arith, ap length c.as_str-len.ensures))
     (put-file_list path text c.in_ok-key.key c.into_string.result c.self.inside.files c.insert.new.self key content c.in_ok-insert.ensures.entries ∙ ap (put path text) c.self.view_is)
 
