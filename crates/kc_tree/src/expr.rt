@@ -1,6 +1,6 @@
+use crate::boxed_text::BoxedText;
 use crate::id::SymId;
 use crate::tri::Tri;
-use kc_text::Text;
 
 /// How a comparison compares (kconfig-language.rst, "Menu dependencies").
 #[derive(Clone, Copy, Debug, PartialEq, Eq)]
@@ -25,11 +25,11 @@ pub enum Term {
     /// One of the words n, m and y.
     Tri(Tri),
     /// A text in quotes. The texts n, m and y are the constants that the words are.
-    Text(Text),
+    Text(BoxedText),
     /// A defined symbol.
     Symbol(SymId),
     /// A word that no definition names.
-    Undefined(Text),
+    Undefined(BoxedText),
 }
 
 /// The two terms of a comparison.

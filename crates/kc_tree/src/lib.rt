@@ -2,6 +2,7 @@
 #![tactic(auto)]
 
 mod block;
+mod boxed_text;
 mod choice;
 mod choice_faults;
 mod definition;
@@ -35,6 +36,7 @@ mod user_value;
 mod uses;
 
 pub use block::{Block, BlockKind, Comment};
+pub use boxed_text::BoxedText;
 pub use choice::{Choice, ChoiceDefault};
 pub use definition::{DefaultValue, Definition, Prompt, Range};
 pub use expr::{Comparison, Expr, Operands, Term};

@@ -6,12 +6,13 @@ ghost use Rattle.std.specs.Option.{option_map_or};
 ghost use Rattle.kc_tree.specs.Names.{is_name, is_name_byte, is_reserved, name_word, token_word, word_term, quoted_term, defined_name, names_of, with_name};
 ghost use Rattle.kc_tree.specs.TreeValue.{symbol_among};
 
+use crate::boxed_text::BoxedText;
 use crate::expr::Term;
 use crate::id::SymId;
 use crate::keyword::is_config;
 use crate::names::Names;
 use crate::tri::Tri;
-use kc_text::{Line, Text, TextRef, Token};
+use kc_text::{Line, TextRef, Token};
 use std::alloc::{AllocError, Global};
 
 /// The number of symbols that a tree may have.
@@ -91,7 +92,7 @@ pub(crate) fn word_term(alloc: Global, names: &Names, word: &str) -> Result<Term
         "y" => Ok(Term::Tri(Tri::Yes)),
         _ => match symbol_among(names, word) {
             Some(symbol) => Ok(Term::Symbol(symbol)),
-            None => Ok(Term::Undefined(Text::copy_of(alloc, word)?)),
+            None => Ok(Term::Undefined(BoxedText::copy_of(alloc, word)?)),
         },
     }
 }
@@ -100,7 +101,7 @@ pub(crate) fn word_term(alloc: Global, names: &Names, word: &str) -> Result<Term
 pub(crate) fn quoted_term(alloc: Global, text: &str) -> Result<Term, AllocError>
     ensures { IfOk result (λ t. t ≡ quoted_term text.now) }
 {
-    Ok(Term::Text(Text::copy_of(alloc, text)?))
+    Ok(Term::Text(BoxedText::copy_of(alloc, text)?))
 }
 
 /// The name that a line defines: the line is its keyword and the name alone.
