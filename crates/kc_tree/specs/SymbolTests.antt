@@ -1,5 +1,6 @@
 -- Which test tells a problem of a symbol: this project's own.
-use Rattle.std.specs.Prelude.{Bool, false}
+use Rattle.std.specs.Prelude.{◌≡◌, ℕ, ◌<◌, Bool, false, ◌||◌, length, slice_get}
+use Rattle.std.specs.Option.{option_map_or}
 use Rattle.kc_tree.specs.declared.id.SymId.{SymId}
 use Rattle.kc_tree.specs.declared.fault.TreeProblem.{TreeProblem}
 use Rattle.kc_tree.specs.declared.fault.TreeProblem.TheVariants.{NoType, TypeConflict, SecondPrompt, UnfitDefault, UnfitSelect, BadModules}
@@ -15,3 +16,17 @@ test_of UnfitDefault t s x = has_unfit_default t s x
 test_of UnfitSelect t s x = has_unfit_select t s x
 test_of BadModules t s x = is_bad_modules t s x
 test_of _ t s x = false
+
+-- the symbol of a number has the problem
+abbrev pub has_problem : TreeValue → TreeProblem → ℕ → Bool
+has_problem t problem k = option_map_or (test_of problem t (record { 0 = k })) (slice_get t.symbols k) false
+
+-- or any of them
+abbrev pub has_any_problem : TreeValue → ℕ → Bool
+has_any_problem t k =
+    has_problem t NoType k || has_problem t TypeConflict k || has_problem t SecondPrompt k || has_problem t UnfitDefault k
+    || has_problem t UnfitSelect k || has_problem t BadModules k
+
+-- no symbol has any
+abbrev pub IsFaultless : TreeValue → Type 0
+IsFaultless t = (k : ℕ) → k < length t.symbols → has_any_problem t k ≡ false

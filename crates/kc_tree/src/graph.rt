@@ -42,7 +42,7 @@ impl<'a> Model for Graph<'a> {
 #[derive(Debug, Drop)]
 pub enum OrderFault {
     /// These nodes form a loop: each uses the next one, and the last uses the first.
-    Loop(Vec<usize>),
+    Loop(Vec<u32>),
 
     /// Memory ran out, which says nothing of the graph.
     NoMemory,
@@ -83,7 +83,7 @@ impl<'a> Graph<'a> {
         requires { node < length self.now }
         ensures used { result ≡ slice_get (row self.now node) place }
         ensures within { IfSome result (λ used. used < length self.now) }
-        ensures next { IfSome result (λ _. place + 1 < 2 ^ 64) }
+        ensures next { IfSome result (λ _. place + 1 < 2 ^ 32) }
     {
         let used = self.rows.row(node).get(place)?;
         Some(used.number_in(self.symbols))
@@ -91,8 +91,8 @@ impl<'a> Graph<'a> {
 
     /// The nodes in an order in which each comes after all that it uses, or a loop where there is one.
     ///
-    /// It fails with `OrderFault::NoMemory` only where memory runs out.
-    pub fn order(&self, alloc: Global) -> Result<Vec<usize>, OrderFault>
+    /// It fails with `OrderFault::NoMemory` only where memory runs out, and where 32 bits do not count the nodes.
+    pub fn order(&self, alloc: Global) -> Result<Vec<u32>, OrderFault>
         ensures ok { IfOk result (λ order. IsOrder self.now order.items) }
         ensures acyclic { OnOk result (HasNoLoop self.now) }
         ensures err { IfErr result (IsTrueFault self.now) }

@@ -26,14 +26,14 @@ use kc_text::{Line, Text};
 use std::alloc::{AllocError, Global};
 
 /// The nodes of numbers, in a tree of so many symbols.
-fn nodes(alloc: Global, symbols: usize, numbers: &[usize]) -> Result<Vec<Node>, AllocError>
+fn nodes(alloc: Global, symbols: usize, numbers: &[u32]) -> Result<Vec<Node>, AllocError>
     requires few { symbols ≤ 65535 }
     requires small { All (λ k. k < 2 ^ 32) numbers.now }
     ensures { IfOk result (λ nodes. nodes.items ≡ map (node_in symbols) numbers.now) }
 {
     numbers
         .iter()
-        .map(|number| Node::in_tree(symbols, *number))
+        .map(|number| Node::in_tree(symbols, *number as usize))
         .collect(alloc)
 }
 
@@ -64,7 +64,7 @@ fn node_name(outline: &Outline, node: Node) -> &str
 fn named_nodes(
     alloc: Global,
     outline: &Outline,
-    numbers: &[usize],
+    numbers: &[u32],
 ) -> Result<Vec<NamedNode>, AllocError>
     requires few { length outline.now.symbols ≤ 65535 }
     requires small { All (λ k. k < 2 ^ 32) numbers.now }
@@ -72,7 +72,7 @@ fn named_nodes(
 {
     let mut nodes = Vec::with_capacity(alloc, numbers.len())?;
     for number in numbers {
-        let node = Node::in_tree(outline.symbols.len(), *number);
+        let node = Node::in_tree(outline.symbols.len(), *number as usize);
         let name = Text::copy_of(alloc, node_name(outline, node))?;
         nodes.push(NamedNode { node, name })?;
     }

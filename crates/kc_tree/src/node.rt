@@ -23,12 +23,15 @@ impl Node {
         requires { symbols ≤ 65535 }
         ensures { result ≡ number_in symbols self }
     {
-        match self {
-            Node::Vis(symbol) => 2 * symbol.0 as usize,
-            Node::Val(symbol) => 2 * symbol.0 as usize + 1,
-            Node::Mode(choice) => 2 * (symbols + choice.0 as usize),
-            Node::Sel(choice) => 2 * (symbols + choice.0 as usize) + 1,
-        }
+        let place = match self {
+            Node::Vis(symbol) | Node::Val(symbol) => symbol.0 as usize,
+            Node::Mode(choice) | Node::Sel(choice) => symbols + choice.0 as usize,
+        };
+        let second = match self {
+            Node::Vis(_) | Node::Mode(_) => 0,
+            Node::Val(_) | Node::Sel(_) => 1,
+        };
+        2 * place + second
     }
 
     /// The node of a symbol by a number that no symbols stand before.

@@ -97,7 +97,8 @@ impl NodeRows {
 
     /// The row of a number, empty past the last.
     pub(crate) fn row(&self, number: usize) -> &[Node]
-        ensures { result.now ≡ slice_index_or self.now number [] }
+        ensures row { result.now ≡ slice_index_or self.now number [] }
+        ensures short { length result.now < 2 ^ 32 }
     {
         match self.spans.get(number) {
             Some(span) => &self.nodes[span.start as usize..span.end as usize],

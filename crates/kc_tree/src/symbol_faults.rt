@@ -1,11 +1,11 @@
 //! What is wrong with a symbol.
 
-ghost use Rattle.std.specs.Prelude.{◌≡◌, ◌≤◌, false, length, slice_get};
+ghost use Rattle.std.specs.Prelude.{◌≡◌, ◌≤◌, false, length, slice_get, IsTrue};
 ghost use Rattle.std.specs.List.{list_any};
 ghost use Rattle.std.specs.Option.{option_map_or};
 ghost use Rattle.kc_tree.specs.TreeValue.{definitions_of, kind_of};
 ghost use Rattle.kc_tree.specs.SymbolFaults.{symbol_fault, modules_fault, fault_by, is_bad_modules, is_tri_type, begins_as_number, is_unfit_term, is_unfit_default, is_unfit_range, has_unfit, has_unfit_select};
-ghost use Rattle.kc_tree.specs.SymbolTests.{test_of};
+ghost use Rattle.kc_tree.specs.SymbolTests.{test_of, has_any_problem, IsFaultless};
 
 use crate::definition::{DefaultValue, Range};
 use crate::expr::Term;
@@ -143,18 +143,19 @@ fn has_unfit_select(outline: &Outline, number: usize, symbol: &Symbol) -> bool
         && (symbol.has_selections || !symbol.selected().is_empty() || !symbol.implied().is_empty())
 }
 
-/// Whether the symbol is `MODULES` and no bool, or another one with `modules`.
+/// Whether the symbol is `MODULES` and no bool, or another one with `modules`. Few symbols need a look at their name.
 fn is_bad_modules(outline: &Outline, number: usize, symbol: &Symbol) -> bool
     ensures { result ≡ is_bad_modules outline.now (record { 0 = number }) symbol.now }
 {
-    if outline.names.get(number) == "MODULES" {
-        !matches!(symbol.kind(), SymbolType::Bool)
+    if matches!(symbol.kind(), SymbolType::Bool) {
+        symbol.has_modules && outline.names.get(number) != "MODULES"
     } else {
-        symbol.has_modules
+        symbol.has_modules || outline.names.get(number) == "MODULES"
     }
 }
 
 /// Whether the symbol of a number has a problem of the kinds that symbols have.
+#[inline(always)]
 fn has_problem(outline: &Outline, problem: TreeProblem, number: usize) -> bool
     ensures { result ≡ option_map_or (test_of problem outline.now (record { 0 = number })) (slice_get outline.now.symbols number) false }
 {
@@ -172,7 +173,32 @@ fn has_problem(outline: &Outline, problem: TreeProblem, number: usize) -> bool
     }
 }
 
+/// Whether the symbol of a number has any problem of the kinds that symbols have.
+fn has_any_problem(outline: &Outline, number: usize) -> bool
+    ensures { result ≡ has_any_problem outline.now number }
+{
+    has_problem(outline, TreeProblem::NoType, number)
+        || has_problem(outline, TreeProblem::TypeConflict, number)
+        || has_problem(outline, TreeProblem::SecondPrompt, number)
+        || has_problem(outline, TreeProblem::UnfitDefault, number)
+        || has_problem(outline, TreeProblem::UnfitSelect, number)
+        || has_problem(outline, TreeProblem::BadModules, number)
+}
+
+/// Whether no symbol has a problem: one walk over all symbols, where a walk for each kind finds the first of them.
+pub(crate) fn are_symbols_faultless(outline: &Outline) -> bool
+    ensures { IsTrue result → IsFaultless outline.now }
+{
+    for number in 0..outline.symbols.len() {
+        if has_any_problem(outline, number) {
+            return false;
+        }
+    }
+    true
+}
+
 /// The first symbol with a problem, if there is one.
+#[inline(never)]
 fn first_with(outline: &Outline, problem: TreeProblem) -> Option<(TreeProblem, SymId)>
     requires { length outline.now.symbols ≤ 65535 }
     ensures { result ≡ fault_by outline.now problem (test_of problem) }

@@ -16,18 +16,25 @@ pub enum Mark {
     New,
 
     /// It is on the path, and what it uses is done before the next place of its row.
-    Open { place: usize, next: usize },
+    Open { place: u32, next: u32 },
 
     /// It is in the order.
-    Done { place: usize },
+    Done { place: u32 },
+}
+
+/// A number in 32 bits, in which marks, path and order take half the memory.
+fn in_32_bits(number: usize) -> Result<u32, AllocError>
+    ensures { IfOk result (λ short. short ≡ number) }
+{
+    u32::try_from(number).map_err(|_| AllocError)
 }
 
 /// A search that is under way.
 #[derive(Drop)]
 pub struct Search {
     marks: Vec<Mark>,
-    path: Vec<usize>,
-    order: Vec<usize>,
+    path: Vec<u32>,
+    order: Vec<u32>,
 }
 
 impl Search {
@@ -47,7 +54,7 @@ impl Search {
     }
 
     /// The order that was made.
-    pub fn into_order(self) -> Vec<usize>
+    pub fn into_order(self) -> Vec<u32>
         ensures { result.items ≡ self.order.items }
     {
         let Search {
@@ -66,8 +73,8 @@ impl Search {
         ensures path { OnOk result (self.new.path.items ≡ self.old.path.items ++ node ∷ []) }
         ensures order { OnOk result (self.new.order.items ≡ self.old.order.items) }
     {
-        let place = self.path.len();
-        self.path.push(node)?;
+        let place = in_32_bits(self.path.len())?;
+        self.path.push(in_32_bits(node)?)?;
         self.marks[node] = Mark::Open { place, next: 0 };
         Ok(())
     }
@@ -81,15 +88,15 @@ impl Search {
             (self.new.path.items ≡ take left self.old.path.items) }
         ensures order { OnOk result (self.new.order.items ≡ self.old.order.items ++ node ∷ []) }
     {
-        let place = self.order.len();
-        self.order.push(node)?;
+        let place = in_32_bits(self.order.len())?;
+        self.order.push(in_32_bits(node)?)?;
         let _ = self.path.pop();
         self.marks[node] = Mark::Done { place };
         Ok(())
     }
 
     /// The nodes of the path from a place on.
-    fn path_from(&self, alloc: Global, start: usize) -> Result<Vec<usize>, AllocError>
+    fn path_from(&self, alloc: Global, start: usize) -> Result<Vec<u32>, AllocError>
         requires { start ≤ length self.now.path.items }
         ensures { IfOk result (λ nodes. nodes.items ≡ drop start self.now.path.items) }
     {
@@ -111,14 +118,14 @@ impl Search {
         let Mark::Open { place, next } = self.marks[top] else {
             unreachable!()
         };
-        let Some(used) = graph.use_at(top, next) else {
+        let Some(used) = graph.use_at(top, next as usize) else {
             self.finish(top)?;
             return Ok(());
         };
         match self.marks[used] {
             Mark::New => self.enter(used)?,
             Mark::Open { place: start, .. } => {
-                return Err(OrderFault::Loop(self.path_from(alloc, start)?));
+                return Err(OrderFault::Loop(self.path_from(alloc, start as usize)?));
             }
             Mark::Done { .. } => self.marks[top] = Mark::Open {
                 place,
@@ -144,7 +151,7 @@ impl Search {
             Mark::Open { .. } | Mark::Done { .. } => return Ok(()),
         }
         while let Some(&top) = self.path.last() {
-            self.step(alloc, graph, top)?;
+            self.step(alloc, graph, top as usize)?;
         }
         Ok(())
     }

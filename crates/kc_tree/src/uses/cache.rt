@@ -102,6 +102,7 @@ fn add_nodes(row: &mut Vec<usize>, symbols: usize, nodes: &[Node]) -> Result<(),
 }
 
 /// Adds the rows of some numbers.
+#[inline(never)]
 fn add_rows(
     row: &mut Vec<usize>,
     symbols: usize,
@@ -146,6 +147,7 @@ impl<'a> Cache<'a> {
     }
 
     /// Adds the rows of some numbers, of a table that was collected once.
+    #[inline]
     fn add_rows(
         &self,
         row: &mut Vec<usize>,
@@ -154,6 +156,9 @@ impl<'a> Cache<'a> {
     ) -> Result<(), AllocError>
         ensures { OnOk result (Adds (length self.now.reader.outline.now.symbols) row.old.items row.new.items (flat_map (λ j. slice_index_or rows.now j []) numbers.now)) }
     {
+        if numbers.is_empty() {
+            return Ok(());
+        }
         add_rows(row, self.symbol_count(), rows, numbers)
     }
 
@@ -233,7 +238,23 @@ impl<'a> Cache<'a> {
         self.add_dependencies(row, scratch)
     }
 
+    /// Adds what some `select` or `imply` lines read.
+    #[inline(never)]
+    fn add_some_reverses(
+        &self,
+        row: &mut Vec<usize>,
+        scratch: &mut Scratch,
+        reverses: &[Reverse],
+    ) -> Result<(), AllocError>
+        ensures { OnOk result (Adds (length self.now.reader.outline.now.symbols) row.old.items row.new.items (flat_map (reverse_nodes self.now.reader.outline.now) reverses.now)) }
+    {
+        self.reader.add_sources(row, reverses)?;
+        scratch.take_reverses(reverses)?;
+        self.add_dependencies(row, scratch)
+    }
+
     /// Adds what `select` or `imply` lines read. Few symbols have one.
+    #[inline]
     fn add_reverses(
         &self,
         row: &mut Vec<usize>,
@@ -245,9 +266,7 @@ impl<'a> Cache<'a> {
         if reverses.is_empty() {
             return Ok(());
         }
-        self.reader.add_sources(row, reverses)?;
-        scratch.take_reverses(reverses)?;
-        self.add_dependencies(row, scratch)
+        self.add_some_reverses(row, scratch, reverses)
     }
 
     /// Adds what the condition of a definition's prompt reads, and the definition to those that have one.
@@ -304,6 +323,7 @@ impl<'a> Cache<'a> {
     }
 
     /// Adds `MODULES` for a tristate.
+    #[inline]
     fn add_type(&self, row: &mut Vec<usize>, symbol: &Symbol) -> Result<(), AllocError>
         ensures { OnOk result (Adds (length self.now.reader.outline.now.symbols) row.old.items row.new.items (type_nodes self.now.reader.outline.now symbol.now)) }
     {

@@ -19,15 +19,23 @@ pub struct Scratch {
     pub blocks: Vec<usize>,
 }
 
-/// Puts numbers in rising order, each once. Most lists have one or none, which stay as they are.
+/// Puts numbers in rising order, each once.
+#[inline(never)]
+fn sort_without_repeats(numbers: &mut Vec<usize>)
+    ensures { HaveSame numbers.new.items numbers.old.items }
+{
+    numbers.sort_unstable();
+    numbers.dedup();
+}
+
+/// Leaves each number once. Most lists have one or none, which stay as they are.
+#[inline]
 pub fn without_repeats(numbers: &mut Vec<usize>)
     ensures { HaveSame numbers.new.items numbers.old.items }
 {
-    if numbers.len() <= 1 {
-        return;
+    if numbers.len() > 1 {
+        sort_without_repeats(numbers);
     }
-    numbers.sort_unstable();
-    numbers.dedup();
 }
 
 /// Adds the numbers of the blocks around, from the innermost outwards, as many as may be nested.
@@ -113,7 +121,9 @@ impl Scratch {
         ensures { OnOk result (self.new.definitions.items ≡ definitions.now) }
     {
         self.definitions.clear();
-        self.definitions.extend_from_slice(definitions)?;
+        for definition in definitions {
+            self.definitions.push(*definition)?;
+        }
         Ok(())
     }
 

@@ -11,5 +11,5 @@ returns-clause-within c =
     let row = c.row.result.now in
     let lookup = c.in_ok-used.ensures.lookup in
     let found = slice_get-get_or row c.args.place c.in_ok-used.used.now lookup.3.0 ∙ ap Some (sym lookup.1) in
-    let read = use_read inside.symbols inside.rows.now g row c.args.node c.args.place c.in_ok-used.used.now c.self.view_is c.row.ensures found in
+    let read = use_read inside.symbols inside.rows.now g row c.args.node c.args.place c.in_ok-used.used.now c.self.view_is c.row.ensures.row found in
     subst (λ k. k < length g) (sym c.number_in.ensures) (use_within g c.args.node c.args.place _ (subst IsClosed c.self.view_is c.self.invariant.0) read)

@@ -5,7 +5,7 @@ use Rattle.std.proofs.Common.{map}
 use Rattle.kc_tree.specs.Collected.{Adds, source_nodes, dependency_at}
 use Rattle.kc_tree.proofs.CollectedLaws.{adds_then, adds_alike}
 use Rattle.kc_tree.proofs.DependencyLaws.{reverses_alike}
-use Rattle.kc_tree.proofs.uses.cache.Cache.add_reverses.Goals as goal
+use Rattle.kc_tree.proofs.uses.cache.Cache.add_some_reverses.Goals as goal
 
 pub returns : goal.returns
 returns c =

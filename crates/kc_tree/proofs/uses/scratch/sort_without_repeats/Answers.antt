@@ -2,7 +2,7 @@ use Rattle.std.proofs.lemmas.List.Filters.{dedup_is}
 use Rattle.std.proofs.lemmas.List.Kept.{Contains-dedup_nat, Contains-from_dedup}
 use Rattle.std.proofs.lemmas.List.Sorted.{Contains-permutation, IsPermutation-sym}
 use Rattle.kc_tree.proofs.CollectedLaws.{same_from_contains}
-use Rattle.kc_tree.proofs.uses.scratch.without_repeats.Goals as goal
+use Rattle.kc_tree.proofs.uses.scratch.sort_without_repeats.Goals as goal
 
 pub returns : goal.returns
 returns c =
