@@ -9,24 +9,18 @@ ghost use Rattle.kc_text.specs.Scanning.{piece_of, raw_of};
 use crate::bytes::behind;
 use crate::reference::{Piece, reference};
 use crate::scan::RawToken;
+use memchr::memchr3;
 use std::alloc::{AllocError, Global};
-
-/// Whether a byte stands for itself between quotes of a kind.
-fn is_plain(quote: u8, byte: u8) -> bool
-    ensures { result ≡ is_plain quote byte }
-{
-    byte != quote && byte != b'\\' && byte != b'$'
-}
 
 /// How many bytes that stand for themselves a text in quotes begins with.
 fn plain_len(quote: u8, text: &str) -> usize
     ensures count { result ≡ prefix_len (is_plain quote) text.now }
     ensures within { result ≤ length text.now }
 {
-    text.as_bytes()
-        .iter()
-        .take_while(|byte| is_plain(quote, **byte))
-        .count()
+    match memchr3(quote, b'\\', b'$', text.as_bytes()) {
+        Some(len) => len,
+        None => text.len(),
+    }
 }
 
 /// The token of an opening quote, from the text after the quote, and the text after the token.
