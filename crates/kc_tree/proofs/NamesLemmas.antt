@@ -1,9 +1,13 @@
 -- Places in a list of names.
-use Rattle.std.proofs.Common.{◌≡◌, ◌+◌, Bool, true, false, ◌||◌, cond, nat_lt, List, [], ◌∷◌, ◌++◌, map, length, Some, None, position, String, string_bytes, string_eq, refl, sym, ap, ◌∙◌, not}
+use Rattle.std.proofs.Common.{◌≡◌, ◌<◌, ◌+◌, ℕ, zero, suc, Bool, true, false, ◌||◌, cond, nat_lt, List, [], ◌∷◌, ◌++◌, map, length, get_or, Some, None, position, String, string_bytes, string_eq, refl, sym, ap, ◌∙◌, not, arith}
 use Rattle.std.specs.Str.{bytes_eq}
 use Rattle.indexmap.specs.IndexSet.{insert_key}
-use Rattle.std.specs.List.{prefix_len, list_any}
+use Rattle.std.specs.List.{prefix_len, list_any, IsDistinct}
 use Rattle.std.proofs.lemmas.List.{length-map, map_push}
+use Rattle.std.proofs.lemmas.Map.Keys.{IsDistinct-tail, IsDistinct-push, apart_from_distinct}
+use Rattle.std.proofs.lemmas.Slice.Eq.{bytes_eq-Decides}
+use Rattle.std.specs.Cmp.{IsEquivalence}
+use Rattle.std.proofs.lemmas.Bool.{lt-ltb}
 
 module _ {A B : Type 0} where
   prefix_len-map : (f : A → B) (p : B → Bool) (xs : List A) → prefix_len p (map f xs) ≡ prefix_len (λ x. p (f x)) xs
@@ -30,3 +34,49 @@ pub names-insert_key : {Z : Type 0} (ks : List (String Z)) (k : String Z) → ma
 names-insert_key ks k =
     map-cond_push string_bytes (list_any (string_eq k) ks) ks k
     ∙ ap (λ b. cond b (map string_bytes ks) (map string_bytes ks ++ string_bytes k ∷ [])) (sym (list_any-map string_bytes (bytes_eq (string_bytes k)) ks))
+
+bytes_eq-flips : (a b : List ℕ) → bytes_eq a b ≡ bytes_eq b a
+bytes_eq-flips a b = by (bytes_eq a b) (bytes_eq b a) refl refl
+  where
+    by : (s t : Bool) → bytes_eq a b ≡ s → bytes_eq b a ≡ t → s ≡ t
+    by true t e f = sym (sym f ∙ (bytes_eq-Decides b a).1 (sym ((bytes_eq-Decides a b).0 e)))
+    by false true e f = sym e ∙ (bytes_eq-Decides a b).1 (sym ((bytes_eq-Decides b a).0 f))
+    by false false e f = refl
+
+-- a name that stands at a place of distinct names stands at no place before it
+before_place : (w : List ℕ) (names : List (List ℕ)) (i : ℕ) → IsDistinct bytes_eq names → i < length names → get_or names i [] ≡ w → prefix_len (λ x. not (bytes_eq w x)) names ≡ i
+before_place w [] i distinct within same = absurd (omega (arith, within))
+before_place w (x ∷ xs) zero distinct within same =
+    let equal : bytes_eq w x ≡ true = (bytes_eq-Decides w x).1 (sym same) in
+    ap (λ b. cond (not b) (1 + prefix_len (λ y. not (bytes_eq w y)) xs) 0) equal
+before_place w (x ∷ xs) (suc i) distinct within same =
+    let apart : bytes_eq x (get_or xs i []) ≡ false = apart_from_distinct bytes_eq (x ∷ xs) 0 (suc i) [] distinct (omega (arith)) within in
+    let other : bytes_eq w x ≡ false = bytes_eq-flips w x ∙ ap (bytes_eq x) (sym same) ∙ apart in
+    let rest : prefix_len (λ y. not (bytes_eq w y)) xs ≡ i = before_place w xs i (IsDistinct-tail bytes_eq x xs distinct) (omega (arith, within)) same in
+    ap (λ b. cond (not b) (1 + prefix_len (λ y. not (bytes_eq w y)) xs) 0) other ∙ omega (arith, rest)
+
+-- the place of a name among distinct names is one at which it stands
+pub place_of : (w : List ℕ) (names : List (List ℕ)) (i : ℕ) → IsDistinct bytes_eq names → i < length names → bytes_eq (get_or names i []) w ≡ true → Some i ≡ position (bytes_eq w) names
+place_of w names i distinct within same =
+    let place : prefix_len (λ x. not (bytes_eq w x)) names ≡ i = before_place w names i distinct within ((bytes_eq-Decides (get_or names i []) w).0 same) in
+    sym (ap (λ n. cond (nat_lt n (length names)) (Some n) None) place ∙ ap (λ b. cond b (Some i) None) (lt-ltb i (length names) within))
+
+-- equality of texts is an equivalence
+bytes_eq-IsEquivalence : IsEquivalence bytes_eq
+bytes_eq-IsEquivalence = record {
+  refl = λ x. (bytes_eq-Decides x x).1 refl;
+  symm = bytes_eq-flips;
+  congr = λ x y z e. ap (λ w. bytes_eq w z) ((bytes_eq-Decides x y).0 e);
+}
+
+-- names stay distinct where one is added that is not among them
+pub names_stay_distinct : (names : List (List ℕ)) (w : List ℕ) → IsDistinct bytes_eq names → IsDistinct bytes_eq (cond (list_any (bytes_eq w) names) names (names ++ w ∷ []))
+names_stay_distinct names w distinct = by (list_any (bytes_eq w) names) refl
+  where
+    by : (t : Bool) → list_any (bytes_eq w) names ≡ t → IsDistinct bytes_eq (cond t names (names ++ w ∷ []))
+    by true e = distinct
+    by false e = IsDistinct-push bytes_eq-IsEquivalence names w distinct e
+
+pub none_distinct : IsDistinct bytes_eq []
+unfolding IsDistinct
+none_distinct = tt

@@ -81,6 +81,15 @@ pub(crate) fn symbol_among(names: &Names, name: &str) -> Option<SymId>
     Some(SymId(place as u32))
 }
 
+/// The symbol of a name, which is likely to stand at this place.
+pub(crate) fn symbol_at(names: &Names, name: &str, likely: usize) -> Option<SymId>
+    requires { length names.now ≤ 65535 }
+    ensures { result ≡ symbol_among names.now name.now }
+{
+    let place = names.find_at(name, likely)?;
+    Some(SymId(place as u32))
+}
+
 /// The term of a word: a constant, the symbol that it names, or a word that names none.
 pub(crate) fn word_term(alloc: Global, names: &Names, word: &str) -> Result<Term, AllocError>
     requires { length names.now ≤ 65535 }

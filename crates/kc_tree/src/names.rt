@@ -20,6 +20,11 @@ impl Model for Names {
     ghost Value = { List (List ℕ) };
 
     ghost view = { λ a. map string_bytes a.set.keys };
+
+    ghost use Rattle.std.specs.List.{IsDistinct};
+    ghost use Rattle.std.specs.Str.{bytes_eq};
+
+    ghost invariant = { λ a. IsDistinct bytes_eq (map string_bytes a.set.keys) };
 }
 
 impl Names {
@@ -44,6 +49,17 @@ impl Names {
         ensures { result ≡ position (bytes_eq name.now) self.now }
     {
         self.set.get_index_of(name)
+    }
+
+    /// The place of a name that is likely to stand at this one. Where it does, no table is asked.
+    pub fn find_at(&self, name: &str, likely: usize) -> Option<usize>
+        ensures { result ≡ position (bytes_eq name.now) self.now }
+    {
+        if likely < self.set.len() && self.get(likely) == name {
+            Some(likely)
+        } else {
+            self.find(name)
+        }
     }
 
     /// Whether a name is among them.

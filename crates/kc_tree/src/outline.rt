@@ -72,6 +72,15 @@ impl Outline {
         })
     }
 
+    /// The number that the next symbol to be defined is likely to have: names stand in the order of their first
+    /// definitions, and few have a second one.
+    pub(crate) fn likely_symbol(&self) -> usize {
+        match self.definitions.last() {
+            Some(definition) => definition.symbol().0 as usize + 1,
+            None => 0,
+        }
+    }
+
     /// Takes what a line says that stands in a block and a choice, and belongs to an owner. A `config` line names a
     /// symbol that the outline has.
     pub(crate) fn take(

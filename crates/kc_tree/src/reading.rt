@@ -66,7 +66,8 @@ fn take_line(
     if let Some(problem) = early_problem(place, seen, line, keyword, following == 0) {
         return Err(Stop::Problem(problem));
     }
-    let Some(statement) = read_statement(alloc, &outline.names, line, keyword)? else {
+    let likely = outline.likely_symbol();
+    let Some(statement) = read_statement(alloc, &outline.names, line, keyword, likely)? else {
         return Err(Stop::Problem(TreeProblem::Malformed));
     };
     if let Some(problem) = late_problem(place, seen, line, keyword, &statement) {

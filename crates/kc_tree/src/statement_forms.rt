@@ -13,7 +13,7 @@ mod range;
 mod selection;
 
 use crate::keyword::Keyword;
-use crate::name::{name_word, symbol_among};
+use crate::name::{name_word, symbol_at};
 use crate::names::Names;
 use crate::statement::Statement;
 use crate::symbol::SymbolType;
@@ -27,12 +27,14 @@ use parts::{
 use prompt::read_prompt;
 use std::alloc::{AllocError, Global};
 
-/// What a line of this keyword says, if it has the form of a statement or an attribute.
+/// What a line of this keyword says, if it has the form of a statement or an attribute. A symbol that it defines is
+/// likely to stand at a place among the names.
 pub(crate) fn read_statement(
     alloc: Global,
     names: &Names,
     line: &Line<'_>,
     keyword: Option<Keyword>,
+    likely: usize,
 ) -> Result<Option<Statement>, AllocError>
     requires few { length names.now ≤ 65535 }
     requires keyword { keyword ≡ keyword_of line.now }
@@ -40,7 +42,7 @@ pub(crate) fn read_statement(
 {
     match line.kind() {
         LineKind::EndOfFile => Ok(Some(Statement::EndOfFile)),
-        LineKind::Statement => read_tokens(alloc, names, keyword, line.tokens()),
+        LineKind::Statement => read_tokens(alloc, names, keyword, line.tokens(), likely),
     }
 }
 
@@ -50,6 +52,7 @@ fn read_tokens(
     names: &Names,
     keyword: Option<Keyword>,
     tokens: &[Token<'_>],
+    likely: usize,
 ) -> Result<Option<Statement>, AllocError>
     requires few { length names.now ≤ 65535 }
     requires keyword { keyword ≡ first_keyword tokens.now }
@@ -61,7 +64,7 @@ fn read_tokens(
     let Some((_, rest)) = tokens.split_first() else {
         return Ok(None);
     };
-    read_form(alloc, names, keyword, rest)
+    read_form(alloc, names, keyword, rest, likely)
 }
 
 /// What a keyword and the tokens behind it say. Each keyword has a function of its own, so that a line pays for no
@@ -71,12 +74,13 @@ fn read_form(
     names: &Names,
     keyword: Keyword,
     tokens: &[Token<'_>],
+    likely: usize,
 ) -> Result<Option<Statement>, AllocError>
     requires { length names.now ≤ 65535 }
     ensures { IfOk result (IsReading (HasFormAfter names.now keyword tokens.now)) }
 {
     match keyword {
-        Keyword::Config => read_config(names, tokens),
+        Keyword::Config => read_config(names, tokens, likely),
         Keyword::Menu => read_menu(alloc, tokens),
         Keyword::Comment => read_comment(alloc, tokens),
         Keyword::MainMenu => read_main_menu(alloc, tokens),
@@ -108,7 +112,11 @@ fn read_form(
 }
 
 /// A symbol's definition.
-fn read_config(names: &Names, tokens: &[Token<'_>]) -> Result<Option<Statement>, AllocError>
+fn read_config(
+    names: &Names,
+    tokens: &[Token<'_>],
+    likely: usize,
+) -> Result<Option<Statement>, AllocError>
     requires { length names.now ≤ 65535 }
     ensures { IfOk result (IsReading (HasFormAfter names.now Keyword.Config tokens.now)) }
 {
@@ -118,7 +126,7 @@ fn read_config(names: &Names, tokens: &[Token<'_>]) -> Result<Option<Statement>,
     let Some(name) = name_word(token) else {
         return Ok(None);
     };
-    let symbol = symbol_among(names, name.as_str());
+    let symbol = symbol_at(names, name.as_str(), likely);
     Ok(Some(Statement::Config(symbol)))
 }
 
