@@ -2,13 +2,14 @@
 use Rattle.std.proofs.Common.{◌≡◌, Box, Vec, Global, map, sym, ap, ◌∙◌, rules}
 use Rattle.kc_tree.specs.declared.expr.Term.{Term}
 use Rattle.kc_tree.specs.declared.expr.Comparison.{Comparison}
+use Rattle.kc_tree.specs.declared.expr.Negations.{Negations}
 use Rattle.kc_tree.specs.declared.expr.Operands.{Operands}
 use Rattle.kc_tree.specs.declared.expr.Expr.{Expr, the_lemmas}
 use Rattle.kc_tree.specs.declared.expr.Expr.TheVariants as variant
 use Rattle.kc_tree.specs.declared.expr.Expr.TheViews as view
 use Rattle.kc_tree.specs.declared.expr.Expr.TheOpen.{Expr-F}
 use Rattle.kc_tree.specs.declared.expr.Expr.TheFolds.{fold-roll-Expr}
-use Rattle.kc_tree.specs.Grammar.{Formula, atom, compare, group, both, either, joined, formula_step, formula}
+use Rattle.kc_tree.specs.Grammar.{Formula, atom, compare, group, both, either, joined, negations, formula_step, formula}
 
 pub formula_term : (x : Term) → formula (variant.Term x) ≡ atom x
 formula_term x = ap formula (sym (variant.rolls-Term x)) ∙ fold-roll-Expr Formula formula_step (Expr-F.Term x)
@@ -18,6 +19,10 @@ formula_compare c o = ap formula (sym (variant.rolls-Compare c o)) ∙ fold-roll
 
 pub formula_group : (e : Box Expr Global) → formula (variant.Group e) ≡ group (formula e.value)
 formula_group e = ap formula (sym (variant.rolls-Group e)) ∙ fold-roll-Expr Formula formula_step (Expr-F.Group e)
+
+-- a run of `!` is as many negations
+pub formula_not : (run : Negations) (e : Box Expr Global) → formula (variant.Not run e) ≡ negations run.count (formula e.value)
+formula_not run e = ap formula (sym (variant.rolls-Not run e)) ∙ fold-roll-Expr Formula formula_step (Expr-F.Not run e)
 
 -- parts are joined
 pub formula_all : (ps : Vec Expr Global) → formula (view.All ps) ≡ joined both (map formula ps.items)

@@ -4,8 +4,8 @@ use Rattle.std.proofs.lemmas.List.{append_assoc, append-nil, replicate_more, len
 use Rattle.kc_tree.specs.declared.expr.Term.{Term}
 use Rattle.kc_tree.specs.declared.expr.Comparison.{Comparison}
 use Rattle.kc_text.specs.declared.line.Token.{Token}
-use Rattle.kc_tree.specs.Grammar.{symbol_of, Derives, IsNoExpression, Symbol, term, compares, bang, opening, closing, Formula, atom, compare, negation, group, both, either, factor, expression, IsAt, spelled}
-use Rattle.kc_tree.specs.Fronts.{symbols_from, DoesNotBegin, BeginsWithNoTerm, BeginsWithNoComparison, StopsBefore, Begins, IsUnreadable, negations}
+use Rattle.kc_tree.specs.Grammar.{symbol_of, Derives, IsNoExpression, Symbol, term, compares, bang, opening, closing, Formula, atom, compare, negation, group, both, either, factor, expression, IsAt, spelled, negations}
+use Rattle.kc_tree.specs.Fronts.{symbols_from, DoesNotBegin, BeginsWithNoTerm, BeginsWithNoComparison, StopsBefore, Begins, IsUnreadable}
 
 -- ---- terms and comparisons
 atom_only : (x : Term) (rest : List Symbol) → BeginsWithNoComparison rest → (g : Formula) (t : List Symbol) →

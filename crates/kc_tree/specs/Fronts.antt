@@ -1,9 +1,9 @@
 -- What stands at the front of symbols: this project's own words for reading an expression from left to right.
-use Rattle.std.specs.Prelude.{◌≡◌, ℕ, zero, suc, List, [], ◌∷◌, ◌++◌, drop}
+use Rattle.std.specs.Prelude.{◌≡◌, ℕ, List, [], ◌∷◌, ◌++◌, drop}
 use Rattle.kc_text.specs.declared.line.Token.{Token}
 use Rattle.kc_tree.specs.declared.expr.Term.{Term}
 use Rattle.kc_tree.specs.declared.expr.Comparison.{Comparison}
-use Rattle.kc_tree.specs.Grammar.{Symbol, term, compares, ampersands, bars, Formula, negation, spelled, Level, part, expression, IsAt, symbols_of}
+use Rattle.kc_tree.specs.Grammar.{Symbol, term, compares, ampersands, bars, Formula, spelled, Level, part, expression, IsAt, symbols_of}
 
 -- the symbols from a place on
 abbrev pub symbols_from : List (List ℕ) → List Token → ℕ → List Symbol
@@ -41,8 +41,3 @@ pub record Begins (l : Level) (symbols : List Symbol) (f : Formula) (rest : List
 -- no expression of that level stands at the front
 abbrev pub IsUnreadable : Level → List Symbol → Type 0
 IsUnreadable l symbols = (g : Formula) (t : List Symbol) → IsAt l g → StopsBefore l t → symbols ≡ spelled g ++ t → ⊥
-
--- an expression behind so many `!`
-abbrev pub negations : ℕ → Formula → Formula
-negations zero f = f
-negations (suc n) f = negation (negations n f)

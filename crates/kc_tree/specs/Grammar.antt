@@ -1,6 +1,6 @@
 -- The grammar of expressions: kconfig-language.rst, "Menu dependencies". A list of tokens is an expression where it
 -- is one written out.
-use Rattle.std.specs.Prelude.{◌≡◌, ℕ, List, [], ◌∷◌, ◌++◌, Option, Some, None, map, if◌then◌else◌, codes}
+use Rattle.std.specs.Prelude.{◌≡◌, ℕ, zero, suc, List, [], ◌∷◌, ◌++◌, Option, Some, None, map, if◌then◌else◌, codes}
 use Rattle.std.specs.Str.{bytes_eq}
 use Rattle.kc_text.specs.declared.line.Operator.{Operator as Sign}
 use Rattle.kc_text.specs.declared.line.Operator.TheVariants as sign
@@ -100,10 +100,15 @@ joined join [] = negation (atom (Tri Yes))
 joined join (f ∷ []) = f
 joined join (f ∷ g ∷ fs) = join f (joined join (g ∷ fs))
 
+-- the formula behind a run of so many `!`, each of which is a negation
+abbrev pub negations : ℕ → Formula → Formula
+negations zero f = f
+negations (suc n) f = negation (negations n f)
+
 abbrev pub formula_step : Expr-F Formula → Formula
 formula_step (Expr-F.Term x) = atom x
 formula_step (Expr-F.Compare c o) = compare c o.value.left o.value.right
-formula_step (Expr-F.Not e) = negation e.value
+formula_step (Expr-F.Not run e) = negations run.count e.value
 formula_step (Expr-F.Group e) = group e.value
 formula_step (Expr-F.All es) = joined both es.items
 formula_step (Expr-F.Any es) = joined either es.items

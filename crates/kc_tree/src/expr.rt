@@ -1,3 +1,5 @@
+ghost use Rattle.std.specs.Prelude.{◌≤◌};
+
 use crate::boxed_text::BoxedText;
 use crate::id::SymId;
 use crate::tri::Tri;
@@ -39,14 +41,23 @@ pub struct Operands {
     pub right: Term,
 }
 
-/// An expression as it was written. It is as deep as the parentheses and `!` of its line, and not as its `&&` and `||`
-/// are many.
+/// A run of `!`: one or more.
+#[derive(Clone, Copy, Debug)]
+pub struct Negations {
+    /// How many.
+    pub count: usize,
+    ghost some: { 1 ≤ count },
+}
+
+/// An expression as it was written. It is as deep as the parentheses of its line, twice where `!` stand before each,
+/// and not as its `!`, `&&` and `||` are many.
 #[derive(Debug, Drop)]
 pub enum Expr {
     /// A term alone.
     Term(Term),
     Compare(Comparison, Box<Operands>),
-    Not(Box<Expr>),
+    /// Behind a run of `!`.
+    Not(Negations, Box<Expr>),
     /// In parentheses.
     Group(Box<Expr>),
     /// Two or more, joined by `&&`.

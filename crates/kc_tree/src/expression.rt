@@ -2,10 +2,10 @@
 //! begins, and return the place after it.
 
 ghost use Rattle.std.specs.Prelude.{◌≡◌, ◌∷◌, [], ◌++◌, ◌+◌, ◌-◌, ◌<◌, ◌≤◌, ◌↔◌, ℕ, List, length, map, replicate, IsTrue, IfOk, IfSome, MatchOption};
-ghost use Rattle.kc_tree.specs.Grammar.{IsExpression, IsNoExpression, factor, part, expression, both, either, joined, formula, term, compares, bang, opening, sign_symbol, symbol_of};
-ghost use Rattle.kc_tree.specs.Fronts.{symbols_from, Begins, IsUnreadable, DoesNotBegin, BeginsWithNoTerm, BeginsWithNoComparison, negations};
+ghost use Rattle.kc_tree.specs.Grammar.{IsExpression, IsNoExpression, factor, part, expression, both, either, joined, formula, term, compares, bang, opening, sign_symbol, symbol_of, negations};
+ghost use Rattle.kc_tree.specs.Fronts.{symbols_from, Begins, IsUnreadable, DoesNotBegin, BeginsWithNoTerm, BeginsWithNoComparison};
 
-use crate::expr::{Comparison, Expr, Operands, Term};
+use crate::expr::{Comparison, Expr, Negations, Operands, Term};
 use crate::name::{quoted_term, word_term};
 use crate::names::Names;
 use kc_text::{Operator, Token};
@@ -314,13 +314,13 @@ fn all_of(mut factors: Vec<Expr>, last: Expr) -> Result<Expr, AllocError>
     Ok(Expr::All(factors))
 }
 
-/// An expression behind a run of `!`.
+/// An expression behind a run of `!`, which may be empty.
 fn negated(alloc: Global, expr: Expr, count: usize) -> Result<Expr, AllocError>
     ensures { IfOk result (λ e. formula e ≡ negations count (formula expr)) }
 {
-    let mut negated = expr;
-    for _i in 0..count {
-        negated = Expr::Not(Box::new(alloc, negated)?);
+    if count == 0 {
+        return Ok(expr);
     }
-    Ok(negated)
+    let operand = Box::new(alloc, expr)?;
+    Ok(Expr::Not(Negations { count }, operand))
 }

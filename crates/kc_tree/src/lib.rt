@@ -39,7 +39,7 @@ pub use block::{Block, BlockKind, Comment};
 pub use boxed_text::BoxedText;
 pub use choice::{Choice, ChoiceDefault};
 pub use definition::{DefaultValue, Definition, Prompt, Range};
-pub use expr::{Comparison, Expr, Operands, Term};
+pub use expr::{Comparison, Expr, Negations, Operands, Term};
 pub use fault::{NamedNode, TreeFault, TreeProblem};
 pub use id::{BlockId, ChoiceId, CommentId, SymId};
 pub use lone_terms::lone_term;

@@ -18,7 +18,8 @@ pub(crate) fn term_alone(expr: &Expr) -> Option<&Term>
             [] => None,
             [_, _, ..] => None,
         },
-        Expr::Compare(_, _) | Expr::Not(_) | Expr::Group(_) => None,
+        Expr::Not(_, _) => None,
+        Expr::Compare(_, _) | Expr::Group(_) => None,
     }
 }
 
@@ -35,6 +36,7 @@ pub fn lone_term(expr: &Expr) -> Option<&Term>
             [] => None,
             [_, _, ..] => None,
         },
-        Expr::Compare(_, _) | Expr::Not(_) => None,
+        Expr::Not(_, _) => None,
+        Expr::Compare(_, _) => None,
     }
 }

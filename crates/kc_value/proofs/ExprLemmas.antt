@@ -1,12 +1,17 @@
--- The value of expressions that one operator joins.
-use Rattle.std.proofs.Common.{◌≡◌, List, [], ◌∷◌, map, length, ◌<◌, arith, refl, sym, ap}
+-- The value of expressions that one operator joins, and of those behind a run of `!`.
+use Rattle.std.proofs.Common.{◌≡◌, ◌≢◌, Box, ◌%◌, ◌∙◌, ℕ, zero, suc, List, [], ◌∷◌, map, length, ◌<◌, arith, refl, sym, ap}
+use Rattle.std.specs.Global.{Global}
+use Rattle.kc_tree.specs.declared.expr.Expr.{Expr}
+use Rattle.kc_tree.specs.declared.expr.Expr.TheViews as view
+use Rattle.kc_tree.specs.declared.expr.Negations.{Negations}
 use Rattle.kc_tree.specs.declared.tri.Tri.{Tri}
 use Rattle.kc_tree.specs.declared.tri.Tri.TheVariants.{No, Module, Yes}
-use Rattle.kc_tree.specs.Grammar.{Formula, both, either, joined}
-use Rattle.kc_tree.specs.Tristate.{least, least_of, greatest, greatest_of}
+use Rattle.kc_tree.specs.Grammar.{Formula, both, either, joined, negations, formula}
+use Rattle.kc_tree.specs.Tristate.{complement, least, least_of, greatest, greatest_of}
 use Rattle.kc_tree.specs.TreeValue.{TreeValue}
+use Rattle.kc_tree.proofs.FormulaLaws.{formula_not}
 use Rattle.kc_value.specs.Assignment.{Assignment}
-use Rattle.kc_value.specs.ExprValue.{formula_value}
+use Rattle.kc_value.specs.ExprValue.{complements, formula_value}
 
 pub least_yes : (x : Tri) → least x Yes ≡ x
 least_yes No = refl
@@ -18,6 +23,34 @@ greatest_no No = refl
 greatest_no Module = refl
 greatest_no Yes = refl
 
+-- ---- runs of `!`
+pub value_negations : (t : TreeValue) (a : Assignment) (bare : Tri) (n : ℕ) (f : Formula)
+    → formula_value t a bare (negations n f) ≡ complements n (formula_value t a bare f)
+value_negations t a bare zero f = refl
+value_negations t a bare (suc n) f = ap complement (value_negations t a bare n f)
+
+pub value_negated : (t : TreeValue) (a : Assignment) (bare : Tri) (e : Expr) (run : Negations) (inner : Box Expr Global) → e ≡ view.Not run inner
+    → complements run.count (formula_value t a bare (formula inner.value)) ≡ formula_value t a bare (formula e)
+value_negated t a bare e run inner is =
+    sym (ap (λ (x : Expr). formula_value t a bare (formula x)) is ∙ ap (formula_value t a bare) (formula_not run inner) ∙ value_negations t a bare run.count (formula inner.value))
+
+-- two of them cancel
+complement_twice : (v : Tri) → complement (complement v) ≡ v
+complement_twice No = refl
+complement_twice Module = refl
+complement_twice Yes = refl
+
+pub complements_even : (n : ℕ) (v : Tri) → n % 2 ≡ 0 → complements n v ≡ v
+complements_even zero v even = refl
+complements_even (suc zero) v even = absurd (omega (arith, even))
+complements_even (suc (suc n)) v even = complement_twice (complements n v) ∙ complements_even n v (omega (arith, even))
+
+pub complements_odd : (n : ℕ) (v : Tri) → n % 2 ≢ 0 → complements n v ≡ complement v
+complements_odd zero v odd = absurd (odd refl)
+complements_odd (suc zero) v odd = refl
+complements_odd (suc (suc n)) v odd = complement_twice (complements n v) ∙ complements_odd n v (λ even. odd (omega (arith, even)))
+
+-- ---- joined expressions
 -- of one or more, it is the least
 pub joined_both : (t : TreeValue) (a : Assignment) (bare : Tri) (fs : List Formula) → 0 < length fs
     → formula_value t a bare (joined both fs) ≡ least_of (map (formula_value t a bare) fs)

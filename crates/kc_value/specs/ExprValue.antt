@@ -1,5 +1,5 @@
 -- The value of an expression: kconfig-language.rst, "Menu dependencies", and Kconfiglib, "expr_value".
-use Rattle.std.specs.Prelude.{ℕ, Bool, true, false, ◌&&◌, List, Option, Some, None, option_map, if◌then◌else◌, map, slice_get, codes, ℤ, pos}
+use Rattle.std.specs.Prelude.{ℕ, zero, suc, Bool, true, false, ◌&&◌, List, Option, Some, None, option_map, if◌then◌else◌, map, slice_get, codes, ℤ, pos}
 use Rattle.std.specs.Option.{option_map_or, option_or}
 use Rattle.std.specs.Str.{bytes_eq}
 use Rattle.std.specs.Cmp.Lexicographic.{slice_cmp}
@@ -123,6 +123,11 @@ is_related comparison.GreaterOrEqual o = is_ge o
 abbrev pub yes_if : Bool → Tri
 yes_if true = Yes
 yes_if false = No
+
+-- a value behind so many `!`, each the complement of what it stands before
+abbrev pub complements : ℕ → Tri → Tri
+complements zero v = v
+complements (suc n) v = complement (complements n v)
 
 -- ---- expressions
 abbrev pub formula_value : TreeValue → Assignment → Tri → Formula → Tri

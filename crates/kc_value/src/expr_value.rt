@@ -5,7 +5,7 @@ ghost use Rattle.std.specs.Option.{option_copied};
 ghost use Rattle.kc_tree.specs.Grammar.{formula, joined, both, either};
 ghost use Rattle.kc_value.specs.Assignment.{as_tri, value_at, assignment_of};
 ghost use Rattle.kc_value.specs.BareModule.{bare_module};
-ghost use Rattle.kc_value.specs.ExprValue.{symbol_tri, modules_value, term_tri, formula_value, expr_value, condition_value, conditions_value, own_condition};
+ghost use Rattle.kc_value.specs.ExprValue.{symbol_tri, modules_value, term_tri, complements, formula_value, expr_value, condition_value, conditions_value, own_condition};
 
 use crate::comparison::{comparison_tri, constant_of};
 use crate::value::Value;
@@ -81,6 +81,17 @@ fn term_tri(tree: &Tree, env: &[Option<Value>], in_condition: bool, term: &Term)
     }
 }
 
+/// A value behind so many `!`, of which each two cancel.
+fn negated(value: Tri, count: usize) -> Tri
+    ensures { result ≡ complements count value }
+{
+    if count % 2 == 0 {
+        value
+    } else {
+        value.complement()
+    }
+}
+
 /// The value of an expression.
 #[cycle(expr_value)]
 fn formula_tri(tree: &Tree, env: &[Option<Value>], in_condition: bool, expr: &Expr) -> Tri
@@ -90,7 +101,7 @@ fn formula_tri(tree: &Tree, env: &[Option<Value>], in_condition: bool, expr: &Ex
     match expr {
         Expr::Term(term) => term_tri(tree, env, in_condition, term),
         Expr::Compare(comparison, operands) => comparison_tri(tree, env, *comparison, operands),
-        Expr::Not(inner) => formula_tri(tree, env, in_condition, inner).complement(),
+        Expr::Not(run, inner) => negated(formula_tri(tree, env, in_condition, inner), run.count),
         Expr::Group(inner) => formula_tri(tree, env, in_condition, inner),
         Expr::All(parts) => all_tri(tree, env, in_condition, parts),
         Expr::Any(parts) => any_tri(tree, env, in_condition, parts),

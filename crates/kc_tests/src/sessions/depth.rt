@@ -50,6 +50,25 @@ fn signs_in_parentheses_count_anew(rt: HostRuntime) -> Result<(), Fail> {
 }
 
 #[test]
+fn a_run_of_signs_may_stand_before_each_parenthesis(rt: HostRuntime) -> Result<(), Fail> {
+    let alloc = rt.alloc();
+    for (count, unset, set) in [(64, "n", "y"), (63, "y", "n")] {
+        let signs = repeated(alloc, "!", count)?;
+        let opening = repeated(alloc, format!(in alloc; "{signs}(")?.as_str(), 64)?;
+        let closing = repeated(alloc, ")", 64)?;
+        let kconfig = format!(in alloc;
+            "config A\nbool \"a\"\nconfig B\ndef_bool {opening}{signs}A{closing}\n"
+        )?;
+        let found = replies_of(alloc, kconfig.as_str(), "show B\nset A y\nshow B\n")?;
+        let want = format!(in alloc;
+            "B type=bool value={unset} vis=n can=- user=-\nok\nok\nB type=bool value={set} vis=n can=- user=-\nok\n"
+        )?;
+        assert_eq!(rt; found.as_str(), want.as_str(), "at {count}");
+    }
+    Ok(())
+}
+
+#[test]
 fn an_expression_may_not_be_deeper(rt: HostRuntime) -> Result<(), Fail> {
     let alloc = rt.alloc();
     for (count, before, after, want) in [

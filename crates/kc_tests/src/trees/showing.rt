@@ -41,8 +41,10 @@ pub(crate) fn show_expr(alloc: Global, out: &mut String, expr: &Expr) -> Result<
             out.push_str(sign_of(*comparison))?;
             show_term(alloc, out, &operands.right)
         }
-        Expr::Not(inner) => {
-            out.push_str("!")?;
+        Expr::Not(run, inner) => {
+            for _i in 0..run.count {
+                out.push_str("!")?;
+            }
             show_expr(alloc, out, inner)
         }
         Expr::Group(inner) => {

@@ -90,7 +90,8 @@ impl<'a> Reader<'a> {
                 self.add_term(row, &operands.right)?;
                 Ok(false)
             }
-            Expr::Not(inner) | Expr::Group(inner) => self.add_expr(row, inner),
+            Expr::Not(_, inner) => self.add_expr(row, inner),
+            Expr::Group(inner) => self.add_expr(row, inner),
             Expr::All(parts) | Expr::Any(parts) => self.add_parts(row, parts.as_slice()),
         }
     }
