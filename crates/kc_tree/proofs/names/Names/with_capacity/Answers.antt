@@ -1,7 +1,5 @@
-use Rattle.std.proofs.Common.{map, sym, ap}
+use Rattle.std.proofs.Common.{map, ap}
 use Rattle.std.specs.String.{string_bytes}
-use Rattle.std.specs.Str.{bytes_eq}
-use Rattle.std.specs.List.{IsDistinct}
 use Rattle.kc_tree.proofs.NamesLemmas.{none_distinct}
 use Rattle.kc_tree.proofs.names.Names.with_capacity.Goals as goal
 
