@@ -5,11 +5,11 @@ use Rattle.std.proofs.lemmas.Bool.{false≢true, or_parts}
 use Rattle.std.proofs.lemmas.Bool.Decides.{nat_tests}
 use Rattle.std.proofs.lemmas.List.{append-nil}
 use Rattle.kc_text.specs.declared.line.Operator.{Operator}
-use Rattle.kc_text.specs.Bytes.{is_blank, is_word}
+use Rattle.kc_text.specs.Bytes.{begins_with, is_blank, is_word}
 use Rattle.kc_text.specs.References.{Piece, byte, reference, malformed, reference_after_dollar, reference_len}
 use Rattle.kc_text.specs.Lexing.{Raw, word, quoted, operator, unclosed, Mode, between, in_word, in_quotes, Step, on, stop, is_quote, begins_word, word_dollar, sign_step, between_step, showing, quotes_dollar, quotes_backslash, is_plain, step, lexed, raw_tokens}
 use Rattle.kc_text.specs.Scanning.{bytes_of}
-use Rattle.kc_text.proofs.Runs.{prefix_len-yes, prefix_len-no}
+use Rattle.kc_text.proofs.Runs.{prefix_len-yes, prefix_len-no, first_past_run}
 
 -- what is shown from a step on
 abbrev pub after_step : Step → List ℕ → List Raw
@@ -205,3 +205,11 @@ raw_tokens-operator (b ∷ bs) o n some blank begins e =
     let parts = or_parts (is_word b) (eqb b 36) begins in
     lexed_step between b bs (on (operator o ∷ []) n between) ((λ i. between_by (blank i) (parts.0 i) (parts.1 i) b bs) ∙ e)
     ∙ ap (λ ts. operator o ∷ ts) (lexed-drop n between bs ∙ ap (λ k. raw_tokens (drop k (b ∷ bs))) (sym (add-one n)))
+
+-- behind the bytes of a word only a dollar goes on with it
+stops_at : (bs : List ℕ) → (0 < length bs → is_word (slice_index bs 0) ≡ false) → begins_with 36 bs ≡ false → begins_word bs ≡ false
+stops_at [] h e = refl
+stops_at (b ∷ bs) h e = rw (h (omega arith), e) refl
+
+pub word_run_ends : (bs : List ℕ) → begins_with 36 (drop (prefix_len is_word bs) bs) ≡ false → begins_word (drop (prefix_len is_word bs) bs) ≡ false
+word_run_ends bs e = stops_at (drop (prefix_len is_word bs) bs) (first_past_run is_word bs) e

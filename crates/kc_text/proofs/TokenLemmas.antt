@@ -1,6 +1,7 @@
 -- The tokens of a line from left to right, until the first fault.
-use Rattle.std.proofs.Common.{◌≡◌, ℕ, List, [], ◌∷◌, ◌++◌, false, ◌||◌, cond, Bor, Option, Some, None, IfSome, IfNone, subst, Result, Ok, Err, refl, sym, ap, ◌∙◌}
+use Rattle.std.proofs.Common.{◌≡◌, ℕ, ◌+◌, List, [], ◌∷◌, ◌++◌, length, true, false, ◌==◌, ◌||◌, nat_le, cond, arith, Bor, Option, Some, None, IfSome, IfNone, subst, Result, Ok, Err, refl, sym, ap, ◌∙◌}
 use Rattle.std.specs.List.{list_any}
+use Rattle.std.proofs.lemmas.Bool.Decides.{nat_tests}
 use Rattle.std.proofs.lemmas.List.{append-nil}
 use Rattle.std.proofs.lemmas.List.Folds.{list_any-append}
 use Rattle.kc_text.specs.declared.fault.TextProblem.{TextProblem}
@@ -13,8 +14,7 @@ use Rattle.kc_text.specs.Faults.{ReadsBy}
 use Rattle.kc_text.specs.References.{Piece}
 use Rattle.kc_text.specs.Lexing.{Raw, word, quoted, raw_tokens}
 use Rattle.kc_text.specs.Expansion.{Names, Environment, Progress, then_on, put, expansion, start, followed}
-use Rattle.kc_text.specs.declared.scan.RawToken.{RawToken}
-use Rattle.kc_text.specs.Scanning.{piece_of, pieces_of, bytes_of, raw_of}
+use Rattle.kc_text.specs.Scanning.{piece_of, pieces_of, bytes_of}
 use Rattle.kc_text.specs.Tokens.{before, is_reference, word_of, token_of, tokens_of, line_tokens}
 use Rattle.kc_text.proofs.Expanding.{expanded-bytes}
 
@@ -38,19 +38,6 @@ ahead-err (x ∷ xs) e = ap (before x) (ahead-err xs e)
 -- the tokens that were found before none
 pub ahead-none : {A E : Type 0} (xs : List A) → ahead {E = E} xs (Ok []) ≡ Ok xs
 ahead-none {E = E} xs = ahead-ok {E = E} xs [] ∙ ap Ok (append-nil xs)
-
-module _ (names : Names) (outside : Environment) where
-  -- what a step finds: `ts` were found, and `rest` shows `raw` before `after`
-  module _ (line rest after : List ℕ) (ts : List Token) (raw : Raw) (found : line_tokens names outside line ≡ ahead ts (line_tokens names outside rest)) (lexes : raw_tokens rest ≡ raw ∷ raw_tokens after) where
-    step_finds : line_tokens names outside line ≡ ahead ts (then_on (token_of names outside raw) (λ t. before t (line_tokens names outside after)))
-    step_finds = found ∙ ap (λ rs. ahead ts (tokens_of names outside rs)) lexes
-
-    pub step_goes_on : (t : Token) → token_of names outside raw ≡ Ok t → line_tokens names outside line ≡ ahead (ts ++ t ∷ []) (line_tokens names outside after)
-    step_goes_on t e =
-        step_finds ∙ ap (λ r. ahead ts (then_on r (λ t. before t (line_tokens names outside after)))) e ∙ sym (ahead-push ts t (line_tokens names outside after))
-
-    pub step_fails : (p : TextProblem) → token_of names outside raw ≡ Err p → line_tokens names outside line ≡ Err p
-    step_fails p e = step_finds ∙ ap (λ r. ahead ts (then_on r (λ t. before t (line_tokens names outside after)))) e ∙ ahead-err ts p
 
 -- a fault of a part that is one of the whole
 pub fault_along : {X Y A B : Type 0} (part_view : X → A) (view : Y → B) (f : LineFault) (part : Result A TextProblem) (whole : Result B TextProblem)
@@ -102,10 +89,33 @@ module _ (names : Names) (outside : Environment) where
   pub plain_quoted : (bs : List ℕ) (text : Result (List ℕ) TextProblem) → then_on (put bs start) (λ p. Ok p.text) ≡ text → token_of names outside (quoted (bytes_of bs)) ≡ then_on text (λ t. Ok (Quoted t))
   plain_quoted bs text e = quoted_is (bytes_of bs) text (plain_text_is bs ∙ e)
 
--- what the scanner finds first, and that it finds nothing
-pub lexes_some : (rest : List ℕ) (found : Option (RawToken × Bor (List ℕ))) (raw : RawToken) (after : Bor (List ℕ)) → found ≡ Some (raw, after)
-    → IfSome found (λ t. raw_tokens rest ≡ raw_of t.0 ∷ raw_tokens t.1.now) → raw_tokens rest ≡ raw_of raw ∷ raw_tokens after.now
-lexes_some rest found raw after e h = subst (λ (o : Option (RawToken × Bor (List ℕ))). IfSome o (λ t. raw_tokens rest ≡ raw_of t.0 ∷ raw_tokens t.1.now)) e h
+-- a text that keeps the limit is its own
+put_short : (bs : List ℕ) → nat_le (length bs) 65536 ≡ true → then_on (put bs start) (λ p. Ok p.text) ≡ Ok bs
+put_short bs h =
+    let fits : (length bs == 0 || nat_le (0 + length bs) 65536) ≡ true = grind (arith, nat_tests, h) in
+    rw fits refl
 
-pub lexes_none : (rest : List ℕ) (found : Option (RawToken × Bor (List ℕ))) → found ≡ None → IfNone found (raw_tokens rest ≡ []) → raw_tokens rest ≡ []
-lexes_none rest found e h = subst (λ (o : Option (RawToken × Bor (List ℕ))). IfNone o (raw_tokens rest ≡ [])) e h
+module _ (names : Names) (outside : Environment) where
+  pub short_word : (bs : List ℕ) → nat_le (length bs) 65536 ≡ true → token_of names outside (word (bytes_of bs)) ≡ Ok (Word bs)
+  short_word bs h = plain_word names outside bs (Ok bs) (put_short bs h)
+
+  pub short_quoted : (bs : List ℕ) → nat_le (length bs) 65536 ≡ true → token_of names outside (quoted (bytes_of bs)) ≡ Ok (Quoted bs)
+  short_quoted bs h = plain_quoted names outside bs (Ok bs) (put_short bs h)
+
+  -- a token stands before those behind it
+  pub shows_first : (raws : List Raw) (after : List ℕ) (raw : Raw) (t : Token) → raws ≡ raw ∷ raw_tokens after → token_of names outside raw ≡ Ok t
+      → tokens_of names outside raws ≡ before t (line_tokens names outside after)
+  shows_first raws after raw t lexes e = ap (tokens_of names outside) lexes ∙ ap (λ r. then_on r (λ x. before x (line_tokens names outside after))) e
+
+-- what is found in a part of a line where tokens stand before it
+pub fault_ahead : (f : LineFault) (ts : List Token) (line rest : Result (List Token) TextProblem) → line ≡ ahead ts rest
+    → ReadsBy (λ (xs : List Token). xs) (Err f) rest → ReadsBy (λ (xs : List Token). xs) (Err f) line
+fault_ahead f ts line rest found h = fault_along (λ (xs : List Token). xs) (λ (xs : List Token). xs) f rest line (λ p e. found ∙ ap (ahead ts) e ∙ ahead-err ts p) h
+
+-- the token that is found first, and that none is found
+module _ (found : List ℕ → Result (List Token) TextProblem) (rest : List ℕ) (first : Option (Token × Bor (List ℕ))) where
+  pub shows_some : (t : Token) (after : Bor (List ℕ)) → first ≡ Some (t, after) → IfSome first (λ x. found rest ≡ before x.0 (found x.1.now)) → found rest ≡ before t (found after.now)
+  shows_some t after e h = subst (λ (o : Option (Token × Bor (List ℕ))). IfSome o (λ x. found rest ≡ before x.0 (found x.1.now))) e h
+
+  pub shows_none : first ≡ None → IfNone first (found rest ≡ Ok []) → found rest ≡ Ok []
+  shows_none e h = subst (λ (o : Option (Token × Bor (List ℕ))). IfNone o (found rest ≡ Ok [])) e h

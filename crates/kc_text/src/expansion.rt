@@ -1,6 +1,6 @@
 //! What references stand for.
 
-ghost use Rattle.std.specs.Prelude.{◌≡◌, ◌≤◌, ◌-◌, length, Ok, OnOk};
+ghost use Rattle.std.specs.Prelude.{◌≡◌, ◌≤◌, ◌-◌, length, nat_le, Ok, OnOk};
 ghost use Rattle.std.specs.String.{string_bytes};
 ghost use Rattle.kc_text.specs.Faults.{ReadsBy, ReadsAfter};
 ghost use Rattle.kc_text.specs.Expansion.{expanded, expansion, followed, is_among, names_in, put, start, texts_in, then_on};
@@ -156,4 +156,11 @@ pub(crate) fn plain_text(text: &str) -> Result<&str, LineFault>
         return Err(LineFault::Problem(TextProblem::Limit));
     }
     Ok(text)
+}
+
+/// Whether a text without references keeps the limit.
+pub(crate) fn is_short(text: &str) -> bool
+    ensures { result ≡ nat_le (length text.now) 65536 }
+{
+    text.len() <= MAX_TEXT_BYTES
 }

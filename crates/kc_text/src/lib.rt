@@ -13,6 +13,7 @@ mod line;
 mod lines;
 mod physical;
 mod place;
+mod plain;
 mod quotes;
 mod reading;
 mod reference;

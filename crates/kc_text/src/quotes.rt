@@ -2,9 +2,9 @@
 
 ghost use Rattle.std.specs.Prelude.{◌≡◌, ◌++◌, ◌<◌, ◌≤◌, ◌∷◌, ℕ, List, [], true, length, slice_index, IfOk, IfNone, IfSome};
 ghost use Rattle.std.specs.List.{prefix_len};
-ghost use Rattle.kc_text.specs.Lexing.{is_plain, is_quote, in_quotes, lexed, raw_tokens};
+ghost use Rattle.kc_text.specs.Lexing.{is_plain, is_quote, in_quotes, lexed, quoted as a_quoted, raw_tokens};
 ghost use Rattle.kc_text.specs.References.{Piece as SpecPiece};
-ghost use Rattle.kc_text.specs.Scanning.{piece_of, raw_of};
+ghost use Rattle.kc_text.specs.Scanning.{bytes_of, piece_of, raw_of};
 
 use crate::bytes::behind;
 use crate::reference::{Piece, reference};
@@ -23,6 +23,19 @@ fn plain_len(quote: u8, text: &str) -> usize
     }
 }
 
+/// The text in quotes that stands as it is, from the text after the opening quote, and the text after the closing one.
+pub(crate) fn plain_quoted(quote: u8, text: &str) -> Option<(&str, &str)>
+    requires kind { is_quote quote ≡ true }
+    ensures lexes { IfSome result (λ found. lexed 0 (in_quotes quote []) text.now ≡ a_quoted (bytes_of found.0.now) ∷ raw_tokens found.1.now) }
+    ensures within { IfSome result (λ found. length found.1.now ≤ length text.now) }
+{
+    let len = plain_len(quote, text);
+    if len < text.len() && text.as_bytes()[len] == quote {
+        return Some((&text[..len], behind(text, len)));
+    }
+    None
+}
+
 /// The token of an opening quote, from the text after the quote, and the text after the token.
 pub(crate) fn quoted<'a>(
     alloc: Global,
@@ -33,11 +46,10 @@ pub(crate) fn quoted<'a>(
     ensures lexes { IfOk result (λ found. lexed 0 (in_quotes quote []) text.now ≡ raw_of found.0 ∷ raw_tokens found.1.now) }
     ensures within { IfOk result (λ found. length found.1.now ≤ length text.now) }
 {
-    let len = plain_len(quote, text);
-    if len < text.len() && text.as_bytes()[len] == quote {
-        return Ok((RawToken::Quoted(&text[..len]), behind(text, len)));
+    match plain_quoted(quote, text) {
+        Some((front, rest)) => Ok((RawToken::Quoted(front), rest)),
+        None => quoted_parts(alloc, quote, text),
     }
-    quoted_parts(alloc, quote, text)
 }
 
 /// The same of a text with references or backslashes, or without an end.

@@ -1,10 +1,10 @@
 //! What stands in a line, from left to right, before references are followed.
 
 ghost use Rattle.std.specs.Prelude.{◌≡◌, ◌==◌, true, false, ◌++◌, ◌<◌, ◌≤◌, ◌∷◌, List, [], length, drop, slice_index, IfOk, IfNone, IfSome};
-ghost use Rattle.kc_text.specs.Bytes.{is_blank};
-ghost use Rattle.kc_text.specs.Lexing.{begins_word, is_quote, in_word, between, sign_step, on, stop, operator as an_operator, not_allowed, lexed, raw_tokens};
+ghost use Rattle.kc_text.specs.Bytes.{begins_with, is_blank};
+ghost use Rattle.kc_text.specs.Lexing.{begins_word, is_quote, in_word, between, sign_step, on, stop, operator as an_operator, word as a_word, not_allowed, lexed, raw_tokens};
 ghost use Rattle.kc_text.specs.References.{Piece as SpecPiece};
-ghost use Rattle.kc_text.specs.Scanning.{piece_of, raw_of};
+ghost use Rattle.kc_text.specs.Scanning.{bytes_of, piece_of, raw_of};
 
 use crate::bytes::{behind, behind_blanks, is_word, word_len};
 use crate::line::Operator;
@@ -31,7 +31,7 @@ pub(crate) enum RawToken<'a> {
 }
 
 /// The text without the blanks before its first token.
-fn skip_blanks(text: &str) -> &str
+pub(crate) fn skip_blanks(text: &str) -> &str
     ensures same { raw_tokens result.now ≡ raw_tokens text.now }
     ensures first { 0 < length result.now → is_blank (slice_index result.now 0) ≡ false }
     ensures within { length result.now ≤ length text.now }
@@ -40,7 +40,7 @@ fn skip_blanks(text: &str) -> &str
 }
 
 /// Whether a text begins with a word.
-fn begins_word(text: &str) -> bool
+pub(crate) fn begins_word(text: &str) -> bool
     ensures { result ≡ begins_word text.now }
 {
     match text.as_bytes() {
@@ -49,18 +49,36 @@ fn begins_word(text: &str) -> bool
     }
 }
 
+/// Whether a text begins with a dollar.
+fn begins_dollar(text: &str) -> bool
+    ensures { result ≡ begins_with 36 text.now }
+{
+    matches!(text.as_bytes(), [b'$', ..])
+}
+
+/// The word that a text begins with, where it is one without references, and the text after it.
+pub(crate) fn plain_word(text: &str) -> Option<(&str, &str)>
+    requires begins { begins_word text.now ≡ true }
+    ensures lexes { IfSome result (λ found. raw_tokens text.now ≡ a_word (bytes_of found.0.now) ∷ raw_tokens found.1.now) }
+    ensures shorter { IfSome result (λ found. length found.1.now < length text.now) }
+{
+    let (word, rest) = text.split_at(word_len(text));
+    if word.is_empty() || begins_dollar(rest) {
+        return None;
+    }
+    Some((word, rest))
+}
+
 /// The word that a text begins with, and the text after it.
 fn word<'a>(alloc: Global, text: &'a str) -> Result<(RawToken<'a>, &'a str), AllocError>
     requires begins { begins_word text.now ≡ true }
     ensures lexes { IfOk result (λ found. raw_tokens text.now ≡ raw_of found.0 ∷ raw_tokens found.1.now) }
     ensures shorter { IfOk result (λ found. length found.1.now < length text.now) }
 {
-    let (word, rest) = text.split_at(word_len(text));
-    if begins_word(rest) {
-        // a dollar, by which the word goes on
-        return spliced_word(alloc, text);
+    match plain_word(text) {
+        Some((word, rest)) => Ok((RawToken::Word(word), rest)),
+        None => spliced_word(alloc, text),
     }
-    Ok((RawToken::Word(word), rest))
 }
 
 /// The word with references that a text begins with, and the text after it: nothing after a dollar that begins
@@ -100,7 +118,7 @@ fn word_piece(text: &str) -> Option<(Piece<'_>, &str)>
 }
 
 /// The operator that a text begins with, and the place of its last byte.
-fn operator(text: &str) -> Option<(Operator, usize)>
+pub(crate) fn operator(text: &str) -> Option<(Operator, usize)>
     requires some { 0 < length text.now }
     ensures none { IfNone result (is_quote (slice_index text.now 0) ≡ false → (slice_index text.now 0 == 35) ≡ false → sign_step (slice_index text.now 0) (drop 1 text.now) ≡ stop (not_allowed ∷ [])) }
     ensures reads { IfSome result (λ found. sign_step (slice_index text.now 0) (drop 1 text.now) ≡ on (an_operator found.0 ∷ []) found.1 between) }

@@ -1,16 +1,18 @@
 //! The tokens of a line.
 
-ghost use Rattle.std.specs.Prelude.{◌≡◌, IfOk};
+ghost use Rattle.std.specs.Prelude.{◌≡◌, ◌<◌, List, [], length, Err, Ok, IfErr, IfNone, IfOk, IfSome};
 ghost use Rattle.std.specs.List.{list_any};
 ghost use Rattle.kc_text.specs.Expansion.{names_in, texts_in};
 ghost use Rattle.kc_text.specs.Faults.{ReadsBy};
-ghost use Rattle.kc_text.specs.Tokens.{is_reference, line_tokens, token_of};
+ghost use Rattle.kc_text.specs.Tokens.{before, is_reference, line_tokens, token_of};
 ghost use Rattle.kc_text.specs.Lexing.{word as a_word};
+ghost use Rattle.kc_text.specs.declared.line.Token.{Token};
 ghost use Rattle.kc_text.specs.Scanning.{piece_of, pieces_of, raw_of};
 
 use crate::expansion::{Scope, expanded_text, plain_text};
 use crate::fault::{LineFault, TextProblem};
 use crate::line::{LineTokens, Token};
+use crate::plain::plain_token;
 use crate::reference::Piece;
 use crate::scan::{RawToken, next_token};
 use crate::text::TextRef;
@@ -64,6 +66,44 @@ fn token<'a>(scope: Scope<'_>, arena: &'a Bump, raw: RawToken<'a>) -> Result<Tok
     }
 }
 
+/// The first token of a line and the text after it, also one whose text the arena has to keep, or the fault in its
+/// place.
+fn any_token<'a>(
+    scope: Scope<'_>,
+    arena: &'a Bump,
+    line: &'a str,
+) -> Result<Option<(Token<'a>, &'a str)>, LineFault>
+    ensures none { IfOk result (λ found. IfNone found (line_tokens (names_in scope.entry.variables.now) (texts_in scope.entry.outside.now) line.now ≡ Ok [])) }
+    ensures shows { IfOk result (λ found. IfSome found (λ t. line_tokens (names_in scope.entry.variables.now) (texts_in scope.entry.outside.now) line.now ≡ before t.0 (line_tokens (names_in scope.entry.variables.now) (texts_in scope.entry.outside.now) t.1.now))) }
+    ensures fault { IfErr result (λ fault. ReadsBy (λ (ts : List Token). ts) (Err fault) (line_tokens (names_in scope.entry.variables.now) (texts_in scope.entry.outside.now) line.now)) }
+    ensures shorter { IfOk result (λ found. IfSome found (λ t. length t.1.now < length line.now)) }
+{
+    let Some((raw, after)) = next_token(scope.alloc, line)? else {
+        return Ok(None);
+    };
+    Ok(Some((token(scope, arena, raw)?, after)))
+}
+
+/// The first token of a line and the text after it, or the fault in its place.
+fn first_token<'a>(
+    scope: Scope<'_>,
+    arena: &'a Bump,
+    line: &'a str,
+) -> Result<Option<(Token<'a>, &'a str)>, LineFault>
+    ensures none { IfOk result (λ found. IfNone found (line_tokens (names_in scope.entry.variables.now) (texts_in scope.entry.outside.now) line.now ≡ Ok [])) }
+    ensures shows { IfOk result (λ found. IfSome found (λ t. line_tokens (names_in scope.entry.variables.now) (texts_in scope.entry.outside.now) line.now ≡ before t.0 (line_tokens (names_in scope.entry.variables.now) (texts_in scope.entry.outside.now) t.1.now))) }
+    ensures fault { IfErr result (λ fault. ReadsBy (λ (ts : List Token). ts) (Err fault) (line_tokens (names_in scope.entry.variables.now) (texts_in scope.entry.outside.now) line.now)) }
+    ensures shorter { IfOk result (λ found. IfSome found (λ t. length t.1.now < length line.now)) }
+{
+    if line.is_empty() {
+        return Ok(None);
+    }
+    match plain_token(line) {
+        Some(found) => Ok(Some(found)),
+        None => any_token(scope, arena, line),
+    }
+}
+
 /// The tokens of a line, which the arena keeps, or its first fault from the left. They are gathered in a vector that
 /// serves line after line, so the arena has no room for more of them than there are.
 pub(crate) fn tokens<'a>(
@@ -76,8 +116,8 @@ pub(crate) fn tokens<'a>(
 {
     gathered.clear();
     let mut rest = line;
-    while let Some((raw, after)) = next_token(scope.alloc, rest)? {
-        gathered.push(token(scope, arena, raw)?)?;
+    while let Some((token, after)) = first_token(scope, arena, rest)? {
+        gathered.push(token)?;
         rest = after;
     }
     let mut kept = Vec::with_capacity(arena, gathered.len())?;

@@ -7,13 +7,13 @@ use Rattle.kc_text.proofs.TokenLemmas.{ahead}
 use Rattle.kc_text.proofs.tokens.tokens.Given as goal
 
 -- the tokens so far stand before those of the rest
-abbrev pub invariant-loop-raw : goal.invariant-loop-raw
-invariant-loop-raw l =
+abbrev pub invariant-loop-token : goal.invariant-loop-token
+invariant-loop-token l =
     let found = line_tokens (names_in l.scope.variables.now) (texts_in l.scope.outside.now) in
     record {
       utf8 : shadow (Utf8 l.rest);
       found : found l.line ≡ ahead l.gathered.items (found l.rest);
     }
 
-abbrev pub decreases-loop-raw : goal.decreases-loop-raw
-decreases-loop-raw l = length l.rest
+abbrev pub decreases-loop-token : goal.decreases-loop-token
+decreases-loop-token l = length l.rest

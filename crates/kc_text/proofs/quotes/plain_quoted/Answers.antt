@@ -3,7 +3,7 @@ use Rattle.std.specs.List.{prefix_len}
 use Rattle.kc_text.specs.Lexing.{quoted, is_plain, raw_tokens}
 use Rattle.kc_text.specs.Scanning.{bytes_of}
 use Rattle.kc_text.proofs.Lexing.{lexed-quoted}
-use Rattle.kc_text.proofs.quotes.quoted.Goals as goal
+use Rattle.kc_text.proofs.quotes.plain_quoted.Goals as goal
 
 pub returns-then-as_bytes-len-clause-lexes : goal.returns-then-as_bytes-len-clause-lexes
 returns-then-as_bytes-len-clause-lexes c =
