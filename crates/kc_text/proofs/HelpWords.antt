@@ -12,15 +12,15 @@ first_taken zero bs some = absurd (omega arith)
 first_taken (suc n) [] some = refl
 first_taken (suc n) (b ∷ bs) some = refl
 
-some_taken : (n : ℕ) (bs : List ℕ) → 0 < length (take n bs) → 0 < length bs
+pub some_taken : (n : ℕ) (bs : List ℕ) → 0 < length (take n bs) → 0 < length bs
 some_taken zero bs some = absurd (omega arith)
 some_taken (suc n) [] some = some
 some_taken (suc n) (b ∷ bs) some = omega arith
 
-behind-blank : (b : ℕ) (bs : List ℕ) → is_blank b ≡ true → behind_blanks (b ∷ bs) ≡ behind_blanks bs
+pub behind-blank : (b : ℕ) (bs : List ℕ) → is_blank b ≡ true → behind_blanks (b ∷ bs) ≡ behind_blanks bs
 behind-blank b bs e = ap (λ n. drop n (b ∷ bs)) (prefix_len-yes is_blank b bs e)
 
-behind-other : (b : ℕ) (bs : List ℕ) → is_blank b ≡ false → behind_blanks (b ∷ bs) ≡ b ∷ bs
+pub behind-other : (b : ℕ) (bs : List ℕ) → is_blank b ≡ false → behind_blanks (b ∷ bs) ≡ b ∷ bs
 behind-other b bs e = ap (λ n. drop n (b ∷ bs)) (prefix_len-no is_blank b bs e)
 
 abbrev FirstKept : List ℕ → List ℕ → Type 0
@@ -47,7 +47,7 @@ first_kept (b ∷ bs) =
     ] refl
 
 -- a text that is left of a line begins as the line does
-trimmed-first : (line text : List ℕ) → trimmed (before_comment line) ≡ text → 0 < length text → slice_index (behind_blanks line) 0 ≡ slice_index text 0
+pub trimmed-first : (line text : List ℕ) → trimmed (before_comment line) ≡ text → 0 < length text → slice_index (behind_blanks line) 0 ≡ slice_index text 0
 trimmed-first line text e some =
     let kept = behind_blanks (before_comment line) in
     let left : 0 < length (trimmed (before_comment line)) = subst (λ l. 0 < length l) (sym e) some in

@@ -7,6 +7,7 @@ pub mod Expanding
 pub mod Files
 pub mod FirstLines
 pub mod HelpLines
+pub mod HelpTokens
 pub mod HelpWords
 pub mod ItemLines
 pub mod Joining

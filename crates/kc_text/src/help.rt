@@ -34,6 +34,16 @@ fn begins_help(line: &str) -> bool
     }
 }
 
+/// Whether the first byte of a line that is no blank is a dash.
+pub(crate) fn begins_dash(line: &str) -> bool
+    ensures { result ≡ (slice_index (behind_blanks line.now) 0 == 45) }
+{
+    match behind_blanks(line).as_bytes() {
+        [] => false,
+        [first, ..] => *first == b'-',
+    }
+}
+
 /// Whether `help` or `---help---` is the only token of a line.
 pub(crate) fn is_help(line: &str) -> bool
     ensures { result ≡ is_help line.now }

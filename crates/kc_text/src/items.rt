@@ -1,7 +1,8 @@
 //! How the lines of a file are taken together.
 
-ghost use Rattle.std.specs.Prelude.{◌≡◌, ◌+◌, ◌<◌, ◌≤◌, drop, length, IfOk};
+ghost use Rattle.std.specs.Prelude.{◌≡◌, ◌+◌, ◌<◌, ◌≤◌, drop, length, true, IfOk, IfSome};
 ghost use Rattle.std.specs.Str.Lines.{lines};
+ghost use Rattle.kc_text.specs.Help.{is_help};
 ghost use Rattle.kc_text.specs.Items.{before_backslash, behind_joined, ends_in_backslash, first_item, joined, joined_more};
 ghost use Rattle.kc_text.specs.Scanning.{item_of, joined_text};
 
@@ -105,6 +106,7 @@ fn join_first<'a>(alloc: Global, file: &'a str) -> Result<(Joined<'a>, usize, &'
 pub(crate) fn first_item<'a>(alloc: Global, file: &'a str) -> Result<Item<'a>, AllocError>
     requires some { 0 < length file.now }
     ensures item { IfOk result (λ i. item_of i ≡ first_item (lines file.now)) }
+    ensures help { IfOk result (λ i. IfSome i.help (λ _. is_help (joined_text i.text) ≡ true)) }
     ensures rest { IfOk result (λ i. lines i.rest.now ≡ drop (i.more + 1) (lines file.now)) }
     ensures within { IfOk result (λ i. i.more + length i.rest.now < length file.now) }
 {

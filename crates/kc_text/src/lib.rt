@@ -8,6 +8,7 @@ mod expansion;
 mod fault;
 mod help;
 mod help_text;
+mod help_tokens;
 mod items;
 mod line;
 mod lines;

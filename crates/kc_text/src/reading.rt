@@ -1,9 +1,10 @@
 //! Files that are read line by line, each `source` line with the file that it names in its place.
 
-ghost use Rattle.std.specs.Prelude.{◌≡◌, ◌≤◌, length, IfOk, OnOk, MatchOption, None, Some, Ok};
+ghost use Rattle.std.specs.Prelude.{◌≡◌, ◌≤◌, length, true, IfOk, IfSome, OnOk, MatchOption, None, Some, Ok};
 ghost use Rattle.kc_text.specs.Faults.{GivesAfter, GivesBy, ReadsBy};
 ghost use Rattle.kc_text.specs.Definitions.{defined};
 ghost use Rattle.kc_text.specs.Expansion.{is_among, names_in, texts_in, then_on};
+ghost use Rattle.kc_text.specs.Help.{is_help};
 ghost use Rattle.kc_text.specs.Tokens.{line_tokens};
 ghost use Rattle.kc_text.specs.Reading.{at_place, file_read, item_read, logical_lines_of, source_path, with_names};
 ghost use Rattle.kc_text.specs.Scanning.{item_of, joined_text, names_of, outside_of, place_of, placing, state_of};
@@ -118,7 +119,8 @@ fn read_item<'a>(
     item: Item<'a>,
     state: &mut State<'a>,
 ) -> Result<(), TextFault>
-    requires { length around.old.items ≤ 64 }
+    requires open { length around.old.items ≤ 64 }
+    requires help { IfSome item.help (λ _. is_help (joined_text item.text) ≡ true) }
     ensures reads { GivesAfter result (state_of state.new) (item_read (outside_of reader.entry) (placing reader.entry around.old.items) (place_of place.entry) (item_of item.entry) (state_of state.old)) }
     ensures around { OnOk result (around.new.items ≡ around.old.items) }
 {
@@ -131,13 +133,17 @@ fn read_item<'a>(
     if text.as_str().len() > MAX_LINE_BYTES {
         return Err(place.problem(reader.alloc, TextProblem::Limit));
     }
+    if help.is_some() {
+        let tokens = state.help.of(text.as_str());
+        return Ok(state.push_statement(reader.arena, place, tokens, help)?);
+    }
     if let Some(definition) = definition_of(text.as_str()) {
         return read_definition(reader, place, &definition, state);
     }
     let tokens = read_tokens(reader, place, &text, &state.variables, &mut state.gathered)?;
     match source_path(tokens.as_slice()) {
         Some(wanted) => put_in_place(reader, around, place, wanted, state),
-        None => Ok(state.push_statement(reader.arena, place, tokens, help)?),
+        None => Ok(state.push_statement(reader.arena, place, tokens, None)?),
     }
 }
 

@@ -5,6 +5,7 @@ ghost use Rattle.kc_text.specs.Reading.{end_of_file, nothing_read, statement, wi
 ghost use Rattle.kc_text.specs.Scanning.{place_of, state_of};
 
 use crate::help_text::HelpText;
+use crate::help_tokens::HelpTokens;
 use crate::line::{Content, HelpLine, Line, LineTokens, Token};
 use crate::place::Place;
 use crate::variables::Variables;
@@ -21,6 +22,8 @@ pub(crate) struct State<'a> {
     pub(crate) variables: Variables,
     /// Where the tokens of a line are gathered.
     pub(crate) gathered: Vec<Token<'a>, &'a Bump>,
+    /// The tokens of `help` lines.
+    pub(crate) help: HelpTokens<'a>,
     /// How many `source` lines were followed.
     pub(crate) followed: usize,
     /// How many bytes these put in place.
@@ -41,6 +44,7 @@ impl<'a> State<'a> {
             lines,
             variables: Variables::new(alloc),
             gathered: Vec::new(arena),
+            help: HelpTokens::new(arena)?,
             followed: 0,
             placed: 0,
         })
