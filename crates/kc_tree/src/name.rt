@@ -24,6 +24,17 @@ const USUAL_LINES: usize = 4;
 /// The length of the longest word that could name a symbol and stands for something else: `if`.
 const LONGEST_RESERVED: usize = 2;
 
+/// The class of each byte: `n` of those of a name, `,` of any other byte.
+static CLASSES: [u8; 256] = *b"\
+    ,,,,,,,,,,,,,,,,,,,,,,,,,,,,,,,,\
+    ,,,,,,,,,,,,,,,,nnnnnnnnnn,,,,,,\
+    ,nnnnnnnnnnnnnnnnnnnnnnnnnn,,,,n\
+    ,nnnnnnnnnnnnnnnnnnnnnnnnnn,,,,,\
+    ,,,,,,,,,,,,,,,,,,,,,,,,,,,,,,,,\
+    ,,,,,,,,,,,,,,,,,,,,,,,,,,,,,,,,\
+    ,,,,,,,,,,,,,,,,,,,,,,,,,,,,,,,,\
+    ,,,,,,,,,,,,,,,,,,,,,,,,,,,,,,,,";
+
 /// Whether a word names a symbol: one or more ASCII letters, digits and `_`, and not n, m, y or if.
 pub(crate) fn is_name(word: &str) -> bool
     ensures { result ≡ is_name word.now }
@@ -31,13 +42,18 @@ pub(crate) fn is_name(word: &str) -> bool
     word != "" && are_name_bytes(word.as_bytes()) && !is_reserved(word)
 }
 
+/// Whether a byte may stand in a name.
+fn is_name_byte(byte: u8) -> bool
+    ensures { result ≡ is_name_byte byte }
+{
+    CLASSES[byte as usize] == b'n'
+}
+
 /// Whether each byte may stand in a name.
 fn are_name_bytes(bytes: &[u8]) -> bool
     ensures { result ≡ list_all is_name_byte bytes.now }
 {
-    bytes
-        .iter()
-        .all(|b| b.is_ascii_alphanumeric() || *b == b'_')
+    bytes.iter().all(|byte| is_name_byte(*byte))
 }
 
 /// Whether a word that could name a symbol stands for something else.
