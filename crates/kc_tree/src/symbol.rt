@@ -5,6 +5,7 @@ ghost use Rattle.kc_tree.specs.Adding.{new_symbol, symbol_after, standing_in, wi
 use crate::expr::Expr;
 use crate::id::{ChoiceId, SymId};
 use crate::room::push_one;
+use smallvec::SmallVec;
 use std::alloc::{AllocError, Global};
 use std::marker::Model;
 
@@ -35,13 +36,14 @@ pub struct Reverse {
 }
 
 /// A symbol without its name: its type, the choice that it is a member of, its definitions, and the `select` and
-/// `imply` lines that name it. Contracts see the record of its parts.
+/// `imply` lines that name it. Most have one definition, whose number takes no memory of its own. Contracts see the
+/// record of its parts.
 #[derive(Debug, Drop)]
 pub struct Symbol {
     pub(crate) kind: Option<SymbolType>,
     pub(crate) has_other_type: bool,
     pub(crate) choice: Option<ChoiceId>,
-    pub(crate) definitions: Vec<usize>,
+    pub(crate) definitions: SmallVec<usize, 1>,
     pub(crate) selected: Vec<Reverse>,
     pub(crate) implied: Vec<Reverse>,
     pub(crate) has_selections: bool,
@@ -70,7 +72,7 @@ impl Symbol {
             kind: None,
             has_other_type: false,
             choice: None,
-            definitions: Vec::new(alloc),
+            definitions: SmallVec::new(alloc),
             selected: Vec::new(alloc),
             implied: Vec::new(alloc),
             has_selections: false,
@@ -100,7 +102,8 @@ impl Symbol {
     pub(crate) fn take_definition(&mut self, number: usize) -> Result<(), AllocError>
         ensures { OnOk result (self.new ≡ with_definition number self.old) }
     {
-        push_one(&mut self.definitions, number)
+        self.definitions.push(number)?;
+        Ok(())
     }
 
     /// Takes a `select` line that names it.
