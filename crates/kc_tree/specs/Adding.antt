@@ -276,22 +276,6 @@ entry_with xs (statement.Comment title) b o = comment_entry o
 entry_with xs _ b o = None
 
 -- ---- the tree
--- what an attribute changes; a statement of another kind nothing
-abbrev pub with_attribute : Statement → Option Owner → TreeValue → TreeValue
-with_attribute (statement.Config s) o t = t
-with_attribute (statement.Menu title) o t = t
-with_attribute statement.EndMenu o t = t
-with_attribute (statement.If e) o t = t
-with_attribute statement.Choice o t = t
-with_attribute (statement.Comment title) o t = t
-with_attribute s o t = record t {
-  symbols = symbols_with s None o t.symbols;
-  definitions = definitions_with s None o t.definitions;
-  blocks = blocks_with s None o t.blocks;
-  choices = choices_with s None o t.choices;
-  comments = comments_with s None None o t.comments;
-}
-
 abbrev pub with_reading : TreeValue → Reading → TreeValue
 with_reading t r = record {
   names = t.names;

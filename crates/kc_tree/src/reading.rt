@@ -67,8 +67,10 @@ fn take_line(
         return Err(Stop::Problem(problem));
     }
     let likely = outline.likely_symbol();
-    let Some(statement) = read_statement(alloc, &outline.names, line, keyword, likely)? else {
-        return Err(Stop::Problem(TreeProblem::Malformed));
+    let statement = match read_statement(alloc, &outline.names, line, keyword, likely) {
+        Ok(Some(statement)) => statement,
+        Ok(None) => return Err(Stop::Problem(TreeProblem::Malformed)),
+        Err(_) => return Err(Stop::NoMemory),
     };
     if let Some(problem) = late_problem(place, seen, line, keyword, &statement) {
         return Err(refused(statement, Stop::Problem(problem)));

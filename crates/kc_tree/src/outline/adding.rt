@@ -5,7 +5,7 @@ ghost use Rattle.std.specs.Option.{option_map_or};
 ghost use Rattle.kc_tree.specs.declared.block.BlockKind.TheVariants.{Menu, If, Choice as ChoiceBlock};
 ghost use Rattle.kc_tree.specs.declared.tree.Entry.TheVariants.{EndMenu};
 ghost use Rattle.kc_tree.specs.TreeOf.{choice_default, menu_entry, choice_entry, comment_entry};
-ghost use Rattle.kc_tree.specs.Adding.{with_reading, with_attribute, with_some, change_at};
+ghost use Rattle.kc_tree.specs.Adding.{with_reading, with_some, change_at};
 ghost use Rattle.kc_tree.specs.Adding.{new_definition, definition_after, change_definition, definition_entry};
 ghost use Rattle.kc_tree.specs.Adding.{symbol_after, change_symbol, numbered, placed, selecting, selected, implied};
 ghost use Rattle.kc_tree.specs.Adding.{new_block, block_after, change_block, new_comment, comment_after, change_comment, choice_after, change_choice, with_member, with_choice};
@@ -38,31 +38,15 @@ impl Outline {
     {
         match statement {
             Statement::Config(Some(symbol)) => {
-                self.add_definition(alloc, symbol, block, choice, owner)
+                self.add_definition(alloc, symbol, block, choice, owner)?;
             }
-            Statement::Menu(title) => self.add_menu(alloc, title, block, owner),
-            Statement::EndMenu => self.add_menu_end(block),
-            Statement::If(condition) => self.add_if(alloc, condition, block),
-            Statement::Choice => self.add_choice(alloc, block, owner),
-            Statement::Comment(title) => self.add_comment(alloc, title, block, choice, owner),
-            attribute => self.add_attribute(owner, attribute),
-        }
-    }
-
-    /// Adds what an attribute says to what owns it. No other statement changes anything here.
-    fn add_attribute(
-        &mut self,
-        owner: Option<Owner>,
-        statement: Statement,
-    ) -> Result<(), AllocError>
-        ensures { OnOk result (self.new ≡ with_attribute statement owner self.old) }
-    {
-        match statement {
+            Statement::Menu(title) => self.add_menu(alloc, title, block, owner)?,
+            Statement::EndMenu => self.add_menu_end(block)?,
+            Statement::If(condition) => self.add_if(alloc, condition, block)?,
+            Statement::Choice => self.add_choice(alloc, block, owner)?,
+            Statement::Comment(title) => self.add_comment(alloc, title, block, choice, owner)?,
             Statement::Type(kind) => self.add_type(owner, kind),
-            Statement::TypeAndPrompt(kind, prompt) => {
-                self.add_type(owner, kind);
-                self.add_prompt(owner, prompt);
-            }
+            Statement::TypeAndPrompt(kind, prompt) => self.add_typed_prompt(owner, kind, prompt),
             Statement::TypeAndDefault(kind, value) => self.add_typed_default(owner, kind, value)?,
             Statement::Prompt(prompt) => self.add_prompt(owner, prompt),
             Statement::Default(value) => self.add_default(owner, value)?,
@@ -74,16 +58,8 @@ impl Outline {
             Statement::Modules => self.add_modules(owner),
             Statement::Optional => self.add_optional(owner),
             Statement::AllNoConfigYes => self.add_yes_in_allnoconfig(owner),
-            Statement::Menu(_title) | Statement::Comment(_title) => {}
-            Statement::If(_condition) => {}
-            Statement::EndOfFile
-            | Statement::Config(_)
-            | Statement::EndMenu
-            | Statement::EndIf
-            | Statement::Choice
-            | Statement::EndChoice
-            | Statement::MainMenu
-            | Statement::Help => {}
+            Statement::Config(None) | Statement::EndOfFile | Statement::MainMenu => {}
+            Statement::EndIf | Statement::EndChoice | Statement::Help => {}
         }
         Ok(())
     }
@@ -252,6 +228,18 @@ impl Outline {
             Some(Owner::Choice(choice, _)) => self.add_choice_prompt(choice, prompt),
             Some(Owner::Menu(_) | Owner::Comment(_)) | None => {}
         }
+    }
+
+    /// Adds a type to the symbol and a prompt to the definition or the choice that owns them.
+    fn add_typed_prompt(&mut self, owner: Option<Owner>, kind: SymbolType, prompt: Prompt)
+        ensures { self.new ≡ record self.old {
+          symbols = change_symbol owner (symbol_after (Some kind) false false false) self.old.symbols;
+          definitions = change_definition owner (definition_after None (Some prompt) None None) self.old.definitions;
+          choices = change_choice owner (choice_after (Some prompt) None None false) self.old.choices;
+        } }
+    {
+        self.add_type(owner, kind);
+        self.add_prompt(owner, prompt);
     }
 
     /// Adds a type with a default to the definition that owns them.

@@ -7,7 +7,7 @@ pub returns-clause-outline : goal.returns-clause-outline
 returns-clause-outline c =
     let names = c.args.outline.now.names in
     let r : Reading = record {
-      statement = c.in-Some-2.statement;
+      statement = c.in-Ok-Some.statement;
       block = c.innermost-block.result;
       choice = c.choice-choice.result;
       owner = c.owner.result;
