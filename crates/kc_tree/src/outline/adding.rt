@@ -25,7 +25,8 @@ use kc_text::Text;
 use std::alloc::{AllocError, Global};
 
 impl Outline {
-    /// Adds what a line says to each part that it changes.
+    /// Adds what a line says to each part that it changes. The functions that take a part of a statement are kept out of
+    /// line, since the statement would else be taken apart before its kind is known.
     pub(super) fn add(
         &mut self,
         alloc: Global,
@@ -81,6 +82,7 @@ impl Outline {
     }
 
     /// Adds the definition that a `config` line makes.
+    #[inline(never)]
     fn add_definition(
         &mut self,
         alloc: Global,
@@ -106,6 +108,7 @@ impl Outline {
     }
 
     /// Adds a menu, which is its own owner.
+    #[inline(never)]
     fn add_menu(
         &mut self,
         alloc: Global,
@@ -138,6 +141,7 @@ impl Outline {
     }
 
     /// Adds an `if`, which has no entry.
+    #[inline(never)]
     fn add_if(
         &mut self,
         alloc: Global,
@@ -156,6 +160,7 @@ impl Outline {
     }
 
     /// Adds a choice, which is its own owner, with its block.
+    #[inline(never)]
     fn add_choice(
         &mut self,
         alloc: Global,
@@ -179,6 +184,7 @@ impl Outline {
     }
 
     /// Adds a comment, which is its own owner.
+    #[inline(never)]
     fn add_comment(
         &mut self,
         alloc: Global,
@@ -201,6 +207,7 @@ impl Outline {
     }
 
     /// Adds a `depends on` line to what owns it.
+    #[inline(never)]
     fn add_depends(&mut self, owner: Option<Owner>, on: Expr) -> Result<(), AllocError>
         ensures { OnOk result (self.new ≡ record self.old {
           definitions = change_definition owner (definition_after (Some on) None None None) self.old.definitions;
@@ -231,6 +238,7 @@ impl Outline {
     }
 
     /// Adds a type to the symbol and a prompt to the definition or the choice that owns them.
+    #[inline(never)]
     fn add_typed_prompt(&mut self, owner: Option<Owner>, kind: SymbolType, prompt: Prompt)
         ensures { self.new ≡ record self.old {
           symbols = change_symbol owner (symbol_after (Some kind) false false false) self.old.symbols;
@@ -243,6 +251,7 @@ impl Outline {
     }
 
     /// Adds a type with a default to the definition that owns them.
+    #[inline(never)]
     fn add_typed_default(
         &mut self,
         owner: Option<Owner>,
@@ -262,6 +271,7 @@ impl Outline {
     }
 
     /// Adds a `select` line to its owner's symbol and to the one that it names.
+    #[inline(never)]
     fn add_select(
         &mut self,
         owner: Option<Owner>,
@@ -275,6 +285,7 @@ impl Outline {
     }
 
     /// Adds an `imply` line to its owner's symbol and to the one that it names.
+    #[inline(never)]
     fn add_imply(
         &mut self,
         owner: Option<Owner>,
@@ -288,6 +299,7 @@ impl Outline {
     }
 
     /// Adds a default to the definition or the choice that owns it.
+    #[inline(never)]
     fn add_default(&mut self, owner: Option<Owner>, value: DefaultValue) -> Result<(), AllocError>
         ensures { OnOk result (self.new ≡ record self.old {
           definitions = change_definition owner (definition_after None None (Some value) None) self.old.definitions;
@@ -451,6 +463,7 @@ impl Outline {
     }
 
     /// Adds a range to the definition that owns it.
+    #[inline(never)]
     fn add_range(&mut self, owner: Option<Owner>, range: Range) -> Result<(), AllocError>
         ensures { OnOk result (self.new ≡ record self.old { definitions = change_definition owner (definition_after None None None (Some range)) self.old.definitions }) }
     {
@@ -491,6 +504,7 @@ impl Outline {
     }
 
     /// Adds a `visible if` line to the menu that owns it.
+    #[inline(never)]
     fn add_visible(&mut self, owner: Option<Owner>, condition: Expr) -> Result<(), AllocError>
         ensures { OnOk result (self.new ≡ record self.old { blocks = change_block owner (block_after None (Some condition)) self.old.blocks }) }
     {
