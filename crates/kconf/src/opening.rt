@@ -1,11 +1,16 @@
 //! From the files of a folder to a session: each file is read as it is wanted, or ahead of that.
 
+ghost use Rattle.std.specs.Prelude.{◌≡◌, MatchOption};
+ghost use Rattle.std.specs.Str.{IsUtf8};
+ghost use Rattle.std.specs.String.{string_bytes};
+
 use crate::folder::{Folder, FolderFault};
 use crate::messages::Fault;
 use crate::read_ahead::Waiting;
 use kc_files::Prefix;
 use kc_session::{OpenFault, Session, open};
 use kc_text::{Sources, Text, TextFault, TextProblem, Vars};
+use simdutf8::is_utf8;
 use std::alloc::Global;
 
 /// The most files of a Kconfig.
@@ -154,11 +159,22 @@ impl<'a, F: Folder> Files<'a, F> {
 /// The text of the file of a path, by what reading it gave.
 fn text_of(alloc: Global, path: &str, read: Result<Vec<u8>, FolderFault>) -> Result<String, Fault> {
     match read {
-        Ok(bytes) => match String::from_utf8(bytes) {
-            Ok(text) => Ok(text),
-            Err(_) => Err(Fault::NotUtf8(Text::copy_of(alloc, path)?)),
+        Ok(bytes) => match utf8_text(bytes) {
+            Some(text) => Ok(text),
+            None => Err(Fault::NotUtf8(Text::copy_of(alloc, path)?)),
         },
         Err(FolderFault::CannotRead) => Err(Fault::CannotRead(Text::copy_of(alloc, path)?)),
         Err(FolderFault::NoMemory) => Err(Fault::NoMemory),
     }
+}
+
+/// The text that bytes are, where they are UTF-8.
+fn utf8_text(bytes: Vec<u8>) -> Option<String>
+    ensures { MatchOption result (¬ (IsUtf8 bytes.items)) (λ text. string_bytes text ≡ bytes.items) }
+{
+    if !is_utf8(bytes.as_slice()) {
+        return None;
+    }
+    // the test is much faster than the one of `String::from_utf8`, and shows what this call requires
+    Some(unsafe { String::from_utf8_unchecked(bytes) })
 }

@@ -3,9 +3,9 @@
 //! A text is looked at by itself: a line in a help text counts too, and one with a reference does not. So the paths
 //! found are a guess at the files that will be wanted, which saves reading all lines again for each file.
 
-use memchr::memmem;
+use memchr::{memchr, memchr3, memmem};
 use std::alloc::{AllocError, Global};
-use std::collections::BTreeSet;
+use std::collections::HashSet;
 
 /// The word that a `source` line begins with.
 const SOURCE: &str = "source";
@@ -17,7 +17,7 @@ pub(crate) struct Waiting {
     /// The paths that wait.
     paths: Vec<String>,
     /// These, and all that were read or passed.
-    seen: BTreeSet<String>,
+    seen: HashSet<String>,
 }
 
 impl Waiting {
@@ -26,7 +26,7 @@ impl Waiting {
         Waiting {
             alloc,
             paths: Vec::new(alloc),
-            seen: BTreeSet::new(alloc),
+            seen: HashSet::new(alloc),
         }
     }
 
@@ -63,14 +63,14 @@ fn path_named(text: &str, place: usize) -> Option<&str> {
     let before = without_blanks(text.get(..place)?);
     let named = text.get(place..)?.strip_prefix(SOURCE)?;
     let quoted = named.trim_start_matches([' ', '\t']).strip_prefix('"')?;
-    let (path, _) = quoted.split_once('"')?;
+    let path = quoted.get(..memchr(b'"', quoted.as_bytes())?)?;
     let begins_line = before.is_empty() || before.ends_with('\n');
     (begins_line && is_plain_path(path)).then_some(path)
 }
 
 /// Whether a text in quotes is a path as it stands: on one line, with no backslash and no dollar.
 fn is_plain_path(text: &str) -> bool {
-    !text.contains(['\n', '\\', '$'])
+    memchr3(b'\n', b'\\', b'$', text.as_bytes()).is_none()
 }
 
 /// A text without the spaces and tabs at its end.
