@@ -53,11 +53,17 @@ fn a_loop_is_told_by_its_nodes(rt: HostRuntime) -> Result<(), Fail> {
 fn faults_of_files_are_told(rt: HostRuntime) -> Result<(), Fail> {
     let alloc = rt.alloc();
     let big = vec![in alloc; b'#'; 16_777_217]?;
-    let files = [("ff", b"\xff".as_slice()), ("big", big.as_slice())];
+    let big_and_bad = vec![in alloc; b'\xff'; 16_777_217]?;
+    let files = [
+        ("ff", b"\xff".as_slice()),
+        ("big", big.as_slice()),
+        ("big and bad", big_and_bad.as_slice()),
+    ];
     let rows = [
         ("nowhere", "kconf: nowhere: cannot read\n"),
         ("ff", "kconf: ff: not UTF-8\n"),
         ("big", "kconf: big:0: K01\n"),
+        ("big and bad", "kconf: big and bad: not UTF-8\n"),
     ];
     for (path, want) in rows {
         let words = ["kconf", "session", path, "-"];
