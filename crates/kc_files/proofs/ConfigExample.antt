@@ -1,17 +1,17 @@
 -- Worked examples of the text of a `.config`, computed from the definition.
 use Rattle.std.proofs.Common.{◌≡◌, ℕ, Bool, zero, suc, List, [], ◌∷◌, true, false, None, refl}
 use Rattle.std.specs.Prelude.{codes}
-use Rattle.kc_tree.specs.declared.tri.Tri.TheVariants.{No, Yes}
+use Rattle.kc_statement.specs.declared.tri.Tri.TheVariants.{No, Yes}
 use Rattle.kc_tree.specs.declared.node.Node.TheVariants.{Vis, Val, Mode, Sel}
-use Rattle.kc_tree.specs.declared.id.SymId.{SymId}
-use Rattle.kc_tree.specs.declared.id.BlockId.{BlockId}
-use Rattle.kc_tree.specs.declared.id.CommentId.{CommentId}
-use Rattle.kc_tree.specs.declared.block.BlockKind.TheVariants.{Menu as MenuBlock}
-use Rattle.kc_tree.specs.declared.tree.Entry.{Entry}
-use Rattle.kc_tree.specs.declared.tree.Entry.TheVariants.{Symbol, Again, Menu, EndMenu, Comment}
-use Rattle.kc_tree.specs.declared.symbol.SymbolType.TheVariants.{Bool as BoolType, String, Int, Hex}
+use Rattle.kc_statement.specs.declared.id.SymId.{SymId}
+use Rattle.kc_outline.specs.declared.id.BlockId.{BlockId}
+use Rattle.kc_outline.specs.declared.id.CommentId.{CommentId}
+use Rattle.kc_outline.specs.declared.block.BlockKind.TheVariants.{Menu as MenuBlock}
+use Rattle.kc_outline.specs.declared.entry.Entry.{Entry}
+use Rattle.kc_outline.specs.declared.entry.Entry.TheVariants.{Symbol, Again, Menu, EndMenu, Comment}
+use Rattle.kc_statement.specs.declared.symbol_type.SymbolType.TheVariants.{Bool as BoolType, String, Int, Hex}
 use Rattle.kc_tree.specs.declared.user_value.UserVal.TheVariants.{Tri as TriVal, Text}
-use Rattle.kc_tree.specs.TreeValue.{TreeValue, SymbolValue, BlockValue, CommentValue}
+use Rattle.kc_outline.specs.TreeValue.{TreeValue, SymbolValue, BlockValue, CommentValue}
 use Rattle.kc_value.specs.declared.value.Value.{Value}
 use Rattle.kc_value.specs.declared.value.Value.TheVariants.{Tri as Level, Shown, Member}
 use Rattle.kc_value.specs.Assignment.{Assignment}

@@ -1,7 +1,7 @@
 -- A draft has the text of its pieces.
 use Rattle.std.proofs.Common.{◌≡◌, ℕ, Bool, false, List, [], ◌∷◌, ◌++◌, None, refl, sym, ap, ◌∙◌, append_assoc}
 use Rattle.std.proofs.lemmas.List.{append-nil}
-use Rattle.kc_tree.specs.TreeValue.{TreeValue}
+use Rattle.kc_outline.specs.TreeValue.{TreeValue}
 use Rattle.kc_value.specs.Assignment.{Assignment}
 use Rattle.kc_files.specs.ConfigText.{Piece, line_of_symbol, title_of, end_of, piece_bytes, gap, joined, pieces_after, config_text_of}
 use Rattle.kc_files.specs.DraftValue.{DraftValue, draft_of, is_end, gap_before, with_piece, with_pieces}

@@ -3,24 +3,24 @@
 use Rattle.std.specs.Prelude.{ℕ, ◌==◌, Bool, true, false, not, ◌&&◌, List, [], ◌∷◌, ◌++◌, Option, Some, None, option_map, slice_get, codes, if◌then◌else◌}
 use Rattle.std.specs.List.{cons_option}
 use Rattle.std.specs.Option.{option_map_or}
-use Rattle.kc_tree.specs.declared.tri.Tri.{Tri}
-use Rattle.kc_tree.specs.declared.tri.Tri.TheVariants.{No, Module, Yes}
-use Rattle.kc_tree.specs.declared.id.SymId.{SymId}
-use Rattle.kc_tree.specs.declared.id.BlockId.{BlockId}
-use Rattle.kc_tree.specs.declared.id.CommentId.{CommentId}
-use Rattle.kc_tree.specs.declared.block.BlockKind.{BlockKind}
-use Rattle.kc_tree.specs.declared.block.BlockKind.TheVariants as block_kind
+use Rattle.kc_statement.specs.declared.tri.Tri.{Tri}
+use Rattle.kc_statement.specs.declared.tri.Tri.TheVariants.{No, Module, Yes}
+use Rattle.kc_statement.specs.declared.id.SymId.{SymId}
+use Rattle.kc_outline.specs.declared.id.BlockId.{BlockId}
+use Rattle.kc_outline.specs.declared.id.CommentId.{CommentId}
+use Rattle.kc_outline.specs.declared.block.BlockKind.{BlockKind}
+use Rattle.kc_outline.specs.declared.block.BlockKind.TheVariants as block_kind
 use Rattle.kc_tree.specs.declared.node.Node.TheVariants.{Val}
-use Rattle.kc_tree.specs.declared.tree.Entry.{Entry}
-use Rattle.kc_tree.specs.declared.tree.Entry.TheVariants.{Symbol, Again, Menu, EndMenu, Choice, Comment}
-use Rattle.kc_tree.specs.TreeValue.{TreeValue, name_of, kind_of}
-use Rattle.kc_tree.specs.declared.symbol.SymbolType.{SymbolType}
-use Rattle.kc_tree.specs.declared.symbol.SymbolType.TheVariants as kind
+use Rattle.kc_outline.specs.declared.entry.Entry.{Entry}
+use Rattle.kc_outline.specs.declared.entry.Entry.TheVariants.{Symbol, Again, Menu, EndMenu, Choice, Comment}
+use Rattle.kc_outline.specs.TreeValue.{TreeValue, name_of, kind_of}
+use Rattle.kc_statement.specs.declared.symbol_type.SymbolType.{SymbolType}
+use Rattle.kc_statement.specs.declared.symbol_type.SymbolType.TheVariants as kind
 use Rattle.kc_tree.specs.declared.user_value.UserVal.{UserVal}
 use Rattle.kc_tree.specs.declared.user_value.UserVal.TheVariants.{Tri as TriVal, Text}
 use Rattle.kc_value.specs.declared.value.Value.{Value}
 use Rattle.kc_value.specs.declared.value.Value.TheVariants.{Tri as Level, Shown, Member}
-use Rattle.kc_tree.specs.Tristate.{is_no}
+use Rattle.kc_statement.specs.Tristate.{is_no}
 use Rattle.kc_value.specs.Assignment.{Assignment}
 use Rattle.kc_files.specs.Quoting.{quoted}
 use Rattle.kc_value.specs.Conditions.{menu_condition, comment_condition}

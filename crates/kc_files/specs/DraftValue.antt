@@ -2,7 +2,7 @@
 use Rattle.std.specs.Prelude.{◌≡◌, ℕ, Bool, true, false, List, [], ◌∷◌, ◌++◌, Option, Some, None, codes, if◌then◌else◌}
 use Rattle.kc_tree.specs.declared.node.Node.{Node}
 use Rattle.kc_tree.specs.Nodes.{IsNodeOf}
-use Rattle.kc_tree.specs.TreeValue.{TreeValue}
+use Rattle.kc_outline.specs.TreeValue.{TreeValue}
 use Rattle.kc_value.specs.declared.value.Value.{Value}
 use Rattle.kc_value.specs.Assignment.{Assignment, assignment_of}
 use Rattle.kc_files.specs.ConfigText.{Piece, line_of_symbol, title_of, end_of, piece_bytes}

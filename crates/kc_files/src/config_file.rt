@@ -1,10 +1,10 @@
 ghost use Rattle.std.specs.Prelude.{◌≡◌, ◌&&◌, not, None, option_map, IfOk, OnOk};
 ghost use Rattle.std.specs.Option.{option_copied};
 ghost use Rattle.std.specs.String.{string_bytes};
-ghost use Rattle.kc_tree.specs.Accepted.{IsEntryOf};
+ghost use Rattle.kc_outline.specs.Entries.{IsEntryOf};
 ghost use Rattle.kc_tree.specs.Nodes.{all_nodes};
-ghost use Rattle.kc_tree.specs.TreeValue.{name_of};
-ghost use Rattle.kc_tree.specs.Tristate.{is_no};
+ghost use Rattle.kc_outline.specs.TreeValue.{name_of};
+ghost use Rattle.kc_statement.specs.Tristate.{is_no};
 ghost use Rattle.kc_value.specs.Assignment.{Assignment, assignment_of};
 ghost use Rattle.kc_value.specs.Conditions.{menu_condition, comment_condition};
 ghost use Rattle.kc_value.specs.Solution.{solution};

@@ -3,11 +3,11 @@ use Rattle.std.proofs.Common.{◌≡◌, ◌≤◌, Bool, true, false, not, ◌&
 use Rattle.std.proofs.lemmas.Bool.{false≢true}
 use Rattle.std.proofs.lemmas.List.{set_past}
 use Rattle.std.specs.Option.{option_map_or}
-use Rattle.kc_tree.specs.declared.id.SymId.{SymId}
-use Rattle.kc_tree.specs.declared.id.ChoiceId.{ChoiceId}
+use Rattle.kc_statement.specs.declared.id.SymId.{SymId}
+use Rattle.kc_outline.specs.declared.id.ChoiceId.{ChoiceId}
 use Rattle.kc_tree.specs.declared.user_value.UserVal.{UserVal}
 use Rattle.kc_tree.specs.SymbolFaults.{is_tri_type}
-use Rattle.kc_tree.specs.TreeValue.{TreeValue, symbol_named, choice_of}
+use Rattle.kc_outline.specs.TreeValue.{TreeValue, symbol_named, choice_of}
 use Rattle.kc_value.specs.UserValues.{UserValues, IsUserFor, with_value, with_chosen, no_values}
 use Rattle.kc_files.specs.ConfigText.{type_of}
 use Rattle.kc_session.specs.declared.command.Command.{Command}

@@ -1,15 +1,15 @@
 -- Commands with their replies, computed from the definitions. What each reply is was worked out by hand.
 use Rattle.std.proofs.Common.{◌≡◌, ℕ, false, [], ◌∷◌, Option, Some, None, refl}
 use Rattle.std.specs.Prelude.{codes}
-use Rattle.kc_tree.specs.declared.definition.Prompt.{Prompt}
-use Rattle.kc_tree.specs.declared.id.SymId.{SymId}
-use Rattle.kc_tree.specs.declared.symbol.SymbolType.{SymbolType}
-use Rattle.kc_tree.specs.declared.symbol.SymbolType.TheVariants.{Bool as BoolType, Tristate, String as StringType, Int, Hex}
-use Rattle.kc_tree.specs.declared.tree.Entry.TheVariants.{Symbol as SymbolEntry}
-use Rattle.kc_tree.specs.declared.tri.Tri.TheVariants.{No, Module, Yes}
+use Rattle.kc_statement.specs.declared.attribute.Prompt.{Prompt}
+use Rattle.kc_statement.specs.declared.id.SymId.{SymId}
+use Rattle.kc_statement.specs.declared.symbol_type.SymbolType.{SymbolType}
+use Rattle.kc_statement.specs.declared.symbol_type.SymbolType.TheVariants.{Bool as BoolType, Tristate, String as StringType, Int, Hex}
+use Rattle.kc_outline.specs.declared.entry.Entry.TheVariants.{Symbol as SymbolEntry}
+use Rattle.kc_statement.specs.declared.tri.Tri.TheVariants.{No, Module, Yes}
 use Rattle.kc_tree.specs.declared.user_value.UserVal.{UserVal}
 use Rattle.kc_tree.specs.declared.user_value.UserVal.TheVariants.{Tri as TriVal, Text}
-use Rattle.kc_tree.specs.TreeValue.{TreeValue, SymbolValue, DefinitionValue}
+use Rattle.kc_outline.specs.TreeValue.{TreeValue, SymbolValue, DefinitionValue}
 use Rattle.kc_value.specs.Rule.{rule}
 use Rattle.kc_value.specs.Solution.{applied, solution}
 use Rattle.kc_value.specs.Assignable.{assignable_values}

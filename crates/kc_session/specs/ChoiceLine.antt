@@ -1,10 +1,10 @@
 -- This project's own command `choices`: its line about a choice.
 use Rattle.std.specs.Prelude.{ℕ, List, length, ◌++◌, Option, Some, None, codes, decimal}
 use Rattle.std.specs.List.{flat_map, range_with_len}
-use Rattle.kc_tree.specs.declared.id.SymId.{SymId}
-use Rattle.kc_tree.specs.declared.id.ChoiceId.{ChoiceId}
+use Rattle.kc_statement.specs.declared.id.SymId.{SymId}
+use Rattle.kc_outline.specs.declared.id.ChoiceId.{ChoiceId}
 use Rattle.kc_tree.specs.declared.node.Node.TheVariants.{Mode, Sel}
-use Rattle.kc_tree.specs.TreeValue.{TreeValue, name_of, choice_title}
+use Rattle.kc_outline.specs.TreeValue.{TreeValue, name_of, choice_title}
 use Rattle.kc_value.specs.Assignment.{as_tri, as_member}
 use Rattle.kc_value.specs.UserValues.{UserValues, chosen_in}
 use Rattle.kc_value.specs.Solution.{solution}

@@ -1,11 +1,11 @@
 -- This project's own command stream: what a command changes and what is replied.
 use Rattle.std.specs.Prelude.{◌≡◌, ℕ, Bool, true, false, not, ◌&&◌, List, [], Some, None, is_some, codes, IsTrue, if◌then◌else◌}
 use Rattle.std.specs.Option.{option_map_or}
-use Rattle.kc_tree.specs.declared.id.SymId.{SymId}
+use Rattle.kc_statement.specs.declared.id.SymId.{SymId}
 use Rattle.std.specs.Str.{bytes_eq}
-use Rattle.kc_tree.specs.declared.id.ChoiceId.{ChoiceId}
+use Rattle.kc_outline.specs.declared.id.ChoiceId.{ChoiceId}
 use Rattle.kc_tree.specs.SymbolFaults.{is_tri_type}
-use Rattle.kc_tree.specs.TreeValue.{TreeValue, symbol_named, choice_of}
+use Rattle.kc_outline.specs.TreeValue.{TreeValue, symbol_named, choice_of}
 use Rattle.kc_value.specs.UserValues.{UserValues, with_value, with_chosen, chosen_in, no_values}
 use Rattle.kc_value.specs.ChoiceRule.{is_symbol}
 use Rattle.kc_value.specs.Solution.{solution}

@@ -1,6 +1,6 @@
 -- This project's own: a session as contracts see it.
 use Rattle.std.specs.Prelude.{ℕ, List}
-use Rattle.kc_tree.specs.TreeValue.{TreeValue}
+use Rattle.kc_outline.specs.TreeValue.{TreeValue}
 use Rattle.kc_value.specs.UserValues.{UserValues, no_values}
 
 -- the tree, the user values, and the prefix of the names in files

@@ -3,7 +3,7 @@ ghost use Rattle.std.specs.Prelude.{◌≡◌, ◌++◌, length, codes, decimal,
 ghost use Rattle.std.specs.String.{string_bytes};
 ghost use Rattle.kc_tree.specs.declared.node.Node.TheVariants.{Mode};
 ghost use Rattle.kc_tree.specs.Nodes.{IsNodeOf};
-ghost use Rattle.kc_tree.specs.TreeValue.{choice_title};
+ghost use Rattle.kc_outline.specs.TreeValue.{choice_title};
 ghost use Rattle.kc_files.specs.Quoting.{quoted};
 ghost use Rattle.kc_session.specs.ChoiceLine.{choice_line_of, choices_text_of, member_text};
 

@@ -28,7 +28,7 @@ pub struct Session {
 
 impl Model for Session {
     ghost use Rattle.kc_session.specs.Session.{SessionValue};
-    ghost use Rattle.kc_tree.specs.contracts.expr.Expr as expr;
+    ghost use Rattle.kc_statement.specs.contracts.expr.Expr as expr;
     ghost use Rattle.std.specs.Coded.{codes};
 
     ghost Value = { SessionValue };
@@ -47,7 +47,7 @@ impl Session {
     ghost use Rattle.kc_tree.specs.declared.node.Node.TheVariants.{Vis};
     ghost use Rattle.kc_tree.specs.Nodes.{IsNodeOf};
     ghost use Rattle.kc_tree.specs.SymbolFaults.{is_tri_type};
-    ghost use Rattle.kc_tree.specs.TreeValue.{symbol_named};
+    ghost use Rattle.kc_outline.specs.TreeValue.{symbol_named};
     ghost use Rattle.kc_value.specs.UserValues.{with_chosen};
     ghost use Rattle.kc_files.specs.ConfigText.{type_of};
     ghost use Rattle.kc_session.specs.Effect.{IsApplied, IsOutcome, IsReplyTo, keeps_text, set_member, set_value, set_symbol, unset_outcome, unset_symbol, unchosen, reset_outcome, show_outcome, list_outcome, choices_outcome, config_outcome};

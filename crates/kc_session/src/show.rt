@@ -4,7 +4,7 @@ ghost use Rattle.std.specs.String.{string_bytes};
 ghost use Rattle.std.specs.Option.{option_copied};
 ghost use Rattle.kc_tree.specs.declared.node.Node.TheVariants.{Vis, Val};
 ghost use Rattle.kc_tree.specs.Nodes.{IsNodeOf};
-ghost use Rattle.kc_tree.specs.TreeValue.{name_of};
+ghost use Rattle.kc_outline.specs.TreeValue.{name_of};
 ghost use Rattle.kc_value.specs.Solution.{solution};
 ghost use Rattle.kc_value.specs.UserValues.{IsUserFor};
 ghost use Rattle.kc_files.specs.ConfigText.{type_of};

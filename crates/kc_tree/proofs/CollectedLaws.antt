@@ -1,23 +1,19 @@
 -- Rows of numbers while nodes are collected: one step after another, and lists without repeats.
-use Rattle.std.proofs.Common.{◌≡◌, ℕ, suc, ◌+◌, ◌<◌, ◌≤◌, ◌^◌, Bool, true, false, ◌||◌, eqb, Option, List, [], ◌∷◌, ◌++◌, length, get_or, take, map, Some, None, refl, sym, ap, subst, ◌∙◌, inl, inr, ◌⊎◌, arith}
-use Rattle.std.specs.List.{list_any, flat_map, slice_get, Contains, All}
+use Rattle.std.proofs.Common.{◌≡◌, ℕ, suc, ◌+◌, ◌<◌, ◌≤◌, Bool, true, false, ◌||◌, eqb, Option, List, [], ◌∷◌, ◌++◌, length, get_or, take, map, Some, None, refl, sym, ap, subst, ◌∙◌, inl, inr, ◌⊎◌, arith}
+use Rattle.std.specs.List.{list_any, flat_map, slice_get, Contains}
 use Rattle.std.specs.Option.{option_map_or}
 use Rattle.std.proofs.Math.Bool.{or_assoc}
 use Rattle.std.proofs.lemmas.Bool.{or_cases, eqb-true, eq-eqb, cases_lt}
 use Rattle.std.proofs.lemmas.List.{take_more, append-nil, length_push, get_or_push, get_or_past, get_or_append_left, map_push}
-use Rattle.std.proofs.lemmas.List.Elements.{All-contains, Contains-get_or}
 use Rattle.std.proofs.lemmas.Option.{slice_get_past, slice_get_cases}
 use Rattle.std.proofs.lemmas.List.Folds.{list_any-append, list_any_at}
 use Rattle.std.proofs.lemmas.Grind.{flat_map-append}
 use Rattle.kc_tree.specs.declared.node.Node.{Node}
-use Rattle.kc_tree.specs.declared.expr.Expr.{Expr}
-use Rattle.kc_tree.specs.Nodes.{number_in, node_in}
-use Rattle.kc_tree.specs.TreeValue.{TreeValue}
-use Rattle.kc_tree.specs.Grammar.{formula, joined, both, either}
-use Rattle.kc_tree.specs.Uses.{formula_nodes, value_nodes, has_bare_module}
-use Rattle.kc_tree.proofs.NodeNumbers.{number_in-node_in}
-use Rattle.kc_tree.specs.NodeRows.{AreNumbered}
-use Rattle.kc_tree.proofs.NodeRowLaws.{AreNumbered-none, AreNumbered-push}
+use Rattle.kc_statement.specs.declared.expr.Expr.{Expr}
+use Rattle.kc_tree.specs.Nodes.{number_in}
+use Rattle.kc_outline.specs.TreeValue.{TreeValue}
+use Rattle.kc_statement.specs.Grammar.{formula, all_joined, any_joined}
+use Rattle.kc_tree.specs.Uses.{formula_nodes, value_nodes}
 use Rattle.kc_tree.specs.Collected.{has_number, has_node, Adds, HaveSame, HasNodes, Holds}
 
 -- ---- tests of lists
@@ -82,31 +78,21 @@ one_within {X} n xs k h = go (slice_get_cases xs k).1
 
 -- ---- expressions
 -- what the parts of an expression read, however they are joined
-pub joined_both : (t : TreeValue) (es : List Expr) → formula_nodes t (joined both (map formula es)) ≡ flat_map (value_nodes t) es
+pub joined_both : (t : TreeValue) (es : List Expr) → formula_nodes t (all_joined (map formula es)) ≡ flat_map (value_nodes t) es
 joined_both t [] = refl
 joined_both t (e ∷ []) = sym (append-nil (value_nodes t e))
 joined_both t (e ∷ f ∷ es) = ap (λ ns. value_nodes t e ++ ns) (joined_both t (f ∷ es))
 
-pub joined_either : (t : TreeValue) (es : List Expr) → formula_nodes t (joined either (map formula es)) ≡ flat_map (value_nodes t) es
+pub joined_either : (t : TreeValue) (es : List Expr) → formula_nodes t (any_joined (map formula es)) ≡ flat_map (value_nodes t) es
 joined_either t [] = refl
 joined_either t (e ∷ []) = sym (append-nil (value_nodes t e))
 joined_either t (e ∷ f ∷ es) = ap (λ ns. value_nodes t e ++ ns) (joined_either t (f ∷ es))
 
-pub bare_both : (es : List Expr) → has_bare_module (joined both (map formula es)) ≡ list_any (λ e. has_bare_module (formula e)) es
-bare_both [] = refl
-bare_both (e ∷ []) = or_false (has_bare_module (formula e))
-bare_both (e ∷ f ∷ es) = ap (λ b. has_bare_module (formula e) || b) (bare_both (f ∷ es))
-
-pub bare_either : (es : List Expr) → has_bare_module (joined either (map formula es)) ≡ list_any (λ e. has_bare_module (formula e)) es
-bare_either [] = refl
-bare_either (e ∷ []) = or_false (has_bare_module (formula e))
-bare_either (e ∷ f ∷ es) = ap (λ b. has_bare_module (formula e) || b) (bare_either (f ∷ es))
-
 -- ---- lists with the same numbers
-number_there : (xs : List ℕ) (k : ℕ) → has_number xs k ≡ true → Contains xs k
+pub number_there : (xs : List ℕ) (k : ℕ) → has_number xs k ≡ true → Contains xs k
 number_there xs k e = let r = found (λ j. eqb j k) xs e in subst (λ (j : ℕ). Contains xs j) (eqb-true r.0 k r.2) r.1
 
-number_found : (xs : List ℕ) (k : ℕ) → Contains xs k → has_number xs k ≡ true
+pub number_found : (xs : List ℕ) (k : ℕ) → Contains xs k → has_number xs k ≡ true
 number_found xs k c = any_contains (λ j. eqb j k) xs k c (eq-eqb k k refl)
 
 pub any_same : (p : ℕ → Bool) (xs ys : List ℕ) → HaveSame xs ys → list_any p xs ≡ list_any p ys
@@ -165,21 +151,18 @@ module _ (symbols : ℕ) where
   adds_equal a b xs ys e f = subst (λ ns. Adds symbols a b ns) e f
 
   -- ---- rows and their nodes
-  pub adds_numbers : (a b : List ℕ) (ns : List Node) → b ≡ a ++ map (number_in symbols) ns → Adds symbols a b ns
-  adds_numbers a b ns e = record {
+  -- numbers are added that stand for nodes
+  pub adds_row : (a b ks : List ℕ) (ns : List Node) → b ≡ a ++ ks → ((k : ℕ) → has_number ks k ≡ has_node symbols ns k) → Adds symbols a b ns
+  adds_row a b ks ns e f = record {
     has = λ k.
         ap (λ r. has_number r k) e
-        ∙ list_any-append (λ j. eqb j k) a (map (number_in symbols) ns)
-        ∙ ap (λ x. has_number a k || x) (any_map (λ j. eqb j k) (number_in symbols) ns);
+        ∙ list_any-append (λ j. eqb j k) a ks
+        ∙ ap (λ x. has_number a k || x) (f k);
   }
 
   -- a row that was empty, and is then put in order
   pub has_nodes : (a b c : List ℕ) (ns : List Node) → a ≡ [] → Adds symbols a b ns → HaveSame c b → HasNodes symbols ns c
   has_nodes a b c ns e f h = record { has = λ k. h.has k ∙ f.has k ∙ ap (λ r. has_number r k || has_node symbols ns k) e }
-
-  -- the nodes of the numbers of a row
-  pub node_row : (row : List ℕ) (k : ℕ) → has_node symbols (map (node_in symbols) row) k ≡ has_number row k
-  node_row row k = any_map (λ n. eqb (number_in symbols n) k) (node_in symbols) row ∙ any_alike (λ j. eqb (number_in symbols (node_in symbols j)) k) (λ j. eqb j k) row (λ j. ap (λ i. eqb i k) (number_in-node_in symbols j))
 
   pub node_found : (ns : List Node) (k : ℕ) → has_node symbols ns k ≡ true → (n : Node) × Contains ns n × (number_in symbols n ≡ k)
   node_found ns k e = let r = found (λ n. eqb (number_in symbols n) k) ns e in (r.0, r.1, eqb-true (number_in symbols r.0) k r.2)
@@ -187,54 +170,43 @@ module _ (symbols : ℕ) where
   pub node_has : (ns : List Node) (n : Node) → Contains ns n → has_node symbols ns (number_in symbols n) ≡ true
   node_has ns n c = any_contains (λ m. eqb (number_in symbols m) (number_in symbols n)) ns n c (eq-eqb (number_in symbols n) (number_in symbols n) refl)
 
-  -- the numbers of a row of nodes are small where those of the nodes are
-  pub numbers_small : (ns : List Node) (row : List ℕ) → All (λ n. number_in symbols n < 2 ^ 32) ns → HasNodes symbols ns row → All (λ k. k < 2 ^ 32) row
-  numbers_small ns row small h = λ i d l.
-      let k = get_or row i d in
-      let c = Contains-get_or row i d l in
-      let r = node_found ns k (sym (h.has k) ∙ number_found row k c) in
-      let below = All-contains (λ n. number_in symbols n < 2 ^ 32) ns r.0 small r.1 in
-      omega (arith, r.2)
-
   -- ---- tables
-  pub holds_none : (rows : List (List Node)) → rows ≡ [] → Holds symbols [] rows
+  pub holds_none : (rows : List (List ℕ)) → rows ≡ [] → Holds symbols [] rows
   holds_none rows e = record {
     whole = ap length e;
-    each = λ j k. ap (λ rs. has_node symbols (get_or rs j []) k) e;
-    numbered = subst (λ rs. AreNumbered symbols rs) (sym e) (AreNumbered-none symbols);
+    each = λ j k. ap (λ rs. has_number (get_or rs j []) k) e;
   }
 
-  pub holds_push : (lists rows : List (List Node)) (l r : List Node) → Holds symbols lists rows → AreNumbered symbols (rows ++ r ∷ []) → ((k : ℕ) → has_node symbols r k ≡ has_node symbols l k) → Holds symbols (lists ++ l ∷ []) (rows ++ r ∷ [])
-  holds_push lists rows l r h made e = record {
+  pub holds_push : (lists : List (List Node)) (rows : List (List ℕ)) (l : List Node) (r : List ℕ) → Holds symbols lists rows → HasNodes symbols l r → Holds symbols (lists ++ l ∷ []) (rows ++ r ∷ [])
+  holds_push lists rows l r h made = record {
     whole = omega (arith, length_push rows r, length_push lists l, h.whole);
     each = λ j k. at j k (cases_lt j (length rows));
-    numbered = made;
   }
     where
-      past : (j k : ℕ) → length rows ≤ j → (j < length rows + 1) ⊎ (length rows + 1 ≤ j) → has_node symbols (get_or (rows ++ r ∷ []) j []) k ≡ has_node symbols (get_or (lists ++ l ∷ []) j []) k
+      past : (j k : ℕ) → length rows ≤ j → (j < length rows + 1) ⊎ (length rows + 1 ≤ j) → has_number (get_or (rows ++ r ∷ []) j []) k ≡ has_node symbols (get_or (lists ++ l ∷ []) j []) k
       past j k i (inl m) =
-          ap (λ ns. has_node symbols ns k) (get_or_push rows r [] j (omega arith))
-          ∙ e k
+          ap (λ ks. has_number ks k) (get_or_push rows r [] j (omega arith))
+          ∙ made.has k
           ∙ sym (ap (λ ns. has_node symbols ns k) (get_or_push lists l [] j (omega (arith, h.whole))))
       past j k i (inr m) =
-          ap (λ ns. has_node symbols ns k) (get_or_past (rows ++ r ∷ []) j [] (omega (arith, length_push rows r)))
+          ap (λ ks. has_number ks k) (get_or_past (rows ++ r ∷ []) j [] (omega (arith, length_push rows r)))
           ∙ sym (ap (λ ns. has_node symbols ns k) (get_or_past (lists ++ l ∷ []) j [] (omega (arith, length_push lists l, h.whole))))
 
-      at : (j k : ℕ) → (j < length rows) ⊎ (length rows ≤ j) → has_node symbols (get_or (rows ++ r ∷ []) j []) k ≡ has_node symbols (get_or (lists ++ l ∷ []) j []) k
+      at : (j k : ℕ) → (j < length rows) ⊎ (length rows ≤ j) → has_number (get_or (rows ++ r ∷ []) j []) k ≡ has_node symbols (get_or (lists ++ l ∷ []) j []) k
       at j k (inl i) =
-          ap (λ ns. has_node symbols ns k) (get_or_append_left rows (r ∷ []) [] j i)
+          ap (λ ks. has_number ks k) (get_or_append_left rows (r ∷ []) [] j i)
           ∙ h.each j k
           ∙ sym (ap (λ ns. has_node symbols ns k) (get_or_append_left lists (l ∷ []) [] j (omega (arith, h.whole))))
       at j k (inr i) = past j k i (cases_lt j (length rows + 1))
 
   -- a row that was made is added
-  pub holds_row : (lists rows new : List (List Node)) (l : List Node) (count : ℕ) (row items : List ℕ) → Holds symbols lists rows → new ≡ rows ++ map (node_in count) row ∷ [] → count ≡ symbols → row ≡ items → HasNodes symbols l items → Holds symbols (lists ++ l ∷ []) new
-  holds_row lists rows new l count row items h e n r k =
-      subst (λ (rs : List (List Node)). Holds symbols (lists ++ l ∷ []) rs) (sym (e ∙ ap (λ i. rows ++ map (node_in i) row ∷ []) n))
-      (holds_push lists rows l (map (node_in symbols) row) h (AreNumbered-push symbols rows row h.numbered) (λ j. node_row row j ∙ ap (λ ks. has_number ks j) r ∙ k.has j))
+  pub holds_row : (lists : List (List Node)) (rows new : List (List ℕ)) (l : List Node) (row items : List ℕ) → Holds symbols lists rows → new ≡ rows ++ row ∷ [] → row ≡ items → HasNodes symbols l items → Holds symbols (lists ++ l ∷ []) new
+  holds_row lists rows new l row items h e r k =
+      subst (λ (rs : List (List ℕ)). Holds symbols (lists ++ l ∷ []) rs) (sym e)
+      (holds_push lists rows l row h (subst (λ (ks : List ℕ). HasNodes symbols l ks) (sym r) k))
 
   -- the table of one more list
-  pub holds_more : {X : Type 0} (f : X → List Node) (xs : List X) (i : ℕ) (x : X) (rows : List (List Node)) → i < length xs → x ≡ get_or xs i x → Holds symbols (map f (take i xs) ++ f x ∷ []) rows → Holds symbols (map f (take (i + 1) xs)) rows
+  pub holds_more : {X : Type 0} (f : X → List Node) (xs : List X) (i : ℕ) (x : X) (rows : List (List ℕ)) → i < length xs → x ≡ get_or xs i x → Holds symbols (map f (take i xs) ++ f x ∷ []) rows → Holds symbols (map f (take (i + 1) xs)) rows
   holds_more f xs i x rows h e g =
       let one : take (i + 1) xs ≡ take i xs ++ x ∷ [] = take_more xs i x h ∙ ap (λ y. take i xs ++ y ∷ []) (sym e) in
       subst (λ ls. Holds symbols ls rows) (sym (ap (map f) one ∙ map_push f (take i xs) x)) g

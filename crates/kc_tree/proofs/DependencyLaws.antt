@@ -6,12 +6,12 @@ use Rattle.std.proofs.Math.Bool.{or_assoc}
 use Rattle.std.proofs.lemmas.List.{append-nil}
 use Rattle.std.proofs.lemmas.Option.{slice_get_past, slice_get_read}
 use Rattle.std.proofs.lemmas.List.Folds.{list_any-append}
-use Rattle.kc_tree.specs.declared.id.BlockId.{BlockId}
-use Rattle.kc_tree.specs.declared.definition.Prompt.{Prompt}
-use Rattle.kc_tree.specs.declared.symbol.Reverse.{Reverse}
+use Rattle.kc_outline.specs.declared.id.BlockId.{BlockId}
+use Rattle.kc_statement.specs.declared.attribute.Prompt.{Prompt}
+use Rattle.kc_outline.specs.declared.symbol.Reverse.{Reverse}
 use Rattle.kc_tree.specs.declared.node.Node.{Node}
 use Rattle.kc_tree.specs.Nodes.{number_in}
-use Rattle.kc_tree.specs.TreeValue.{TreeValue, BlockValue, DefinitionValue, blocks_from, blocks_around}
+use Rattle.kc_outline.specs.TreeValue.{TreeValue, BlockValue, DefinitionValue, blocks_from, blocks_around}
 use Rattle.kc_tree.specs.Uses.{symbol_nodes, conditions_nodes, own_condition_nodes, depends_nodes, visible_nodes, dependency_nodes, default_nodes, range_nodes, definition_nodes, prompt_nodes, reverse_nodes}
 use Rattle.kc_tree.specs.Collected.{has_number, has_node, HaveSame, Holds, own_lists, depends_lists, visible_lists, dependency_at, depends_at, visible_at, block_numbers, block_numbers_at, innermost_at, defaults_at, ranges_at, prompt_own_at, prompted_at, source_nodes}
 use Rattle.kc_tree.proofs.CollectedLaws.{any_same, any_alike, any_or, any_flat, any_map, or_false}
@@ -129,11 +129,11 @@ module _ (symbols : ℕ) where
   has_both : (xs ys : List Node) (k : ℕ) → has_node symbols (xs ++ ys) k ≡ (has_node symbols xs k || has_node symbols ys k)
   has_both xs ys k = list_any-append (λ n. eqb (number_in symbols n) k) xs ys
 
-  pub around_same : (t : TreeValue) (f : BlockValue → List Node) (rows : List (List Node)) (js bs : List ℕ) (k : ℕ) → Holds symbols (map f t.blocks) rows → HaveSame bs (flat_map (block_numbers_at t) js) → has_node symbols (flat_map (λ b. get_or rows b []) bs) k ≡ list_any (λ j. has_node symbols (option_map_or (λ d. flat_map f (blocks_around t d.block)) (slice_get t.definitions j) []) k) js
+  pub around_same : (t : TreeValue) (f : BlockValue → List Node) (rows : List (List ℕ)) (js bs : List ℕ) (k : ℕ) → Holds symbols (map f t.blocks) rows → HaveSame bs (flat_map (block_numbers_at t) js) → has_number (flat_map (λ b. get_or rows b []) bs) k ≡ list_any (λ j. has_node symbols (option_map_or (λ d. flat_map f (blocks_around t d.block)) (slice_get t.definitions j) []) k) js
   around_same t f rows js bs k h e =
-      any_flat test (λ b. get_or rows b []) bs
-      ∙ any_same (λ b. has_node symbols (get_or rows b []) k) bs (flat_map (block_numbers_at t) js) e
-      ∙ any_alike (λ b. has_node symbols (get_or rows b []) k) (λ b. has_node symbols (get_or (map f t.blocks) b []) k) (flat_map (block_numbers_at t) js) (λ b. h.each b k)
+      any_flat (λ j. eqb j k) (λ b. get_or rows b []) bs
+      ∙ any_same (λ b. has_number (get_or rows b []) k) bs (flat_map (block_numbers_at t) js) e
+      ∙ any_alike (λ b. has_number (get_or rows b []) k) (λ b. has_node symbols (get_or (map f t.blocks) b []) k) (flat_map (block_numbers_at t) js) (λ b. h.each b k)
       ∙ any_flat (λ b. has_node symbols (get_or (map f t.blocks) b []) k) (block_numbers_at t) js
       ∙ any_alike (λ j. list_any (λ b. has_node symbols (get_or (map f t.blocks) b []) k) (block_numbers_at t j)) (λ j. has_node symbols (option_map_or (λ d. flat_map f (blocks_around t d.block)) (slice_get t.definitions j) []) k) js
       (λ j. sym (any_flat test (λ b. get_or (map f t.blocks) b []) (block_numbers_at t j)) ∙ ap (λ ns. has_node symbols ns k) (around_nodes t f j))
@@ -142,26 +142,16 @@ module _ (symbols : ℕ) where
       test n = eqb (number_in symbols n) k
 
   -- what the blocks from one outwards read
-  pub blocks_alike : (t : TreeValue) (f : BlockValue → List Node) (rows : List (List Node)) (id : Option BlockId) (bs : List ℕ) → Holds symbols (map f t.blocks) rows → bs ≡ block_numbers t.blocks 64 id → (k : ℕ) → has_node symbols (flat_map (λ b. get_or rows b []) bs) k ≡ has_node symbols (flat_map f (blocks_around t id)) k
+  pub blocks_alike : (t : TreeValue) (f : BlockValue → List Node) (rows : List (List ℕ)) (id : Option BlockId) (bs : List ℕ) → Holds symbols (map f t.blocks) rows → bs ≡ block_numbers t.blocks 64 id → (k : ℕ) → has_number (flat_map (λ b. get_or rows b []) bs) k ≡ has_node symbols (flat_map f (blocks_around t id)) k
   blocks_alike t f rows id bs h e k =
-      any_flat test (λ b. get_or rows b []) bs
-      ∙ ap (list_any (λ b. has_node symbols (get_or rows b []) k)) e
-      ∙ any_alike (λ b. has_node symbols (get_or rows b []) k) (λ b. has_node symbols (option_map_or f (slice_get t.blocks b) []) k) (block_numbers t.blocks 64 id) (λ b. h.each b k ∙ ap (λ ns. has_node symbols ns k) (get_or_mapped f t.blocks b))
+      any_flat (λ j. eqb j k) (λ b. get_or rows b []) bs
+      ∙ ap (list_any (λ b. has_number (get_or rows b []) k)) e
+      ∙ any_alike (λ b. has_number (get_or rows b []) k) (λ b. has_node symbols (option_map_or f (slice_get t.blocks b) []) k) (block_numbers t.blocks 64 id) (λ b. h.each b k ∙ ap (λ ns. has_node symbols ns k) (get_or_mapped f t.blocks b))
       ∙ sym (any_flat test (λ b. option_map_or f (slice_get t.blocks b) []) (block_numbers t.blocks 64 id))
       ∙ ap (λ ns. has_node symbols ns k) (sym (block_nodes f t.blocks 64 id))
     where
       test : Node → Bool
       test n = eqb (number_in symbols n) k
-
-  -- what the prompt of a choice reads
-  pub choice_prompt_alike : (t : TreeValue) (depends visible : List (List Node)) (own : List Node) (id : BlockId) (bs : List ℕ) → Holds symbols (depends_lists t) depends → Holds symbols (visible_lists t) visible → bs ≡ block_numbers t.blocks 64 (Some id) → (k : ℕ) → has_node symbols (own ++ (flat_map (λ b. get_or depends b []) bs ++ flat_map (λ b. get_or visible b []) bs)) k ≡ has_node symbols (own ++ (depends_nodes t (blocks_around t (Some id)) ++ visible_nodes t (blocks_around t (Some id)))) k
-  choice_prompt_alike t depends visible own id bs f g e k =
-      has_both own (flat_map (λ b. get_or depends b []) bs ++ flat_map (λ b. get_or visible b []) bs) k
-      ∙ ap (λ b. has_node symbols own k || b) (has_both (flat_map (λ b. get_or depends b []) bs) (flat_map (λ b. get_or visible b []) bs) k
-      ∙ ap (λ b. b || has_node symbols (flat_map (λ b. get_or visible b []) bs) k) (blocks_alike t (λ b. conditions_nodes t b.depends) depends (Some id) bs f e k)
-      ∙ ap (λ b. has_node symbols (depends_nodes t (blocks_around t (Some id))) k || b) (blocks_alike t (λ b. conditions_nodes t b.visible) visible (Some id) bs g e k)
-      ∙ sym (has_both (depends_nodes t (blocks_around t (Some id))) (visible_nodes t (blocks_around t (Some id))) k))
-      ∙ sym (has_both own (depends_nodes t (blocks_around t (Some id)) ++ visible_nodes t (blocks_around t (Some id))) k)
 
   -- ---- the dependencies of definitions
   dependency_parts : (t : TreeValue) (k j : ℕ) → (has_node symbols (option_map_or (λ d. conditions_nodes t d.depends) (slice_get t.definitions j) []) k || has_node symbols (depends_at t j) k) ≡ has_node symbols (dependency_at t j) k
@@ -171,10 +161,10 @@ module _ (symbols : ℕ) where
       at None = refl
       at (Some d) = sym (has_both (conditions_nodes t d.depends) (depends_nodes t (blocks_around t d.block)) k)
 
-  pub dependencies : (t : TreeValue) (own depends : List (List Node)) (js js₂ bs : List ℕ) → Holds symbols (own_lists t) own → Holds symbols (depends_lists t) depends → HaveSame js₂ js → HaveSame bs (flat_map (block_numbers_at t) js₂) → (k : ℕ) → has_node symbols (flat_map (λ j. get_or own j []) js₂ ++ flat_map (λ b. get_or depends b []) bs) k ≡ has_node symbols (flat_map (dependency_at t) js) k
+  pub dependencies : (t : TreeValue) (own depends : List (List ℕ)) (js js₂ bs : List ℕ) → Holds symbols (own_lists t) own → Holds symbols (depends_lists t) depends → HaveSame js₂ js → HaveSame bs (flat_map (block_numbers_at t) js₂) → (k : ℕ) → has_number (flat_map (λ j. get_or own j []) js₂ ++ flat_map (λ b. get_or depends b []) bs) k ≡ has_node symbols (flat_map (dependency_at t) js) k
   dependencies t own depends js js₂ bs f g e h k =
-      has_both (flat_map (λ j. get_or own j []) js₂) (flat_map (λ b. get_or depends b []) bs) k
-      ∙ ap (λ b. b || has_node symbols (flat_map (λ b. get_or depends b []) bs) k) first
+      list_any-append (λ i. eqb i k) (flat_map (λ j. get_or own j []) js₂) (flat_map (λ b. get_or depends b []) bs)
+      ∙ ap (λ b. b || has_number (flat_map (λ b. get_or depends b []) bs) k) first
       ∙ ap (λ b. list_any (λ j. has_node symbols (option_map_or (λ d. conditions_nodes t d.depends) (slice_get t.definitions j) []) k) js₂ || b) (around_same t (λ b. conditions_nodes t b.depends) depends js₂ bs k g h)
       ∙ sym (any_or (λ j. has_node symbols (option_map_or (λ d. conditions_nodes t d.depends) (slice_get t.definitions j) []) k) (λ j. has_node symbols (depends_at t j) k) js₂)
       ∙ any_alike (λ j. has_node symbols (option_map_or (λ d. conditions_nodes t d.depends) (slice_get t.definitions j) []) k || has_node symbols (depends_at t j) k) (λ j. has_node symbols (dependency_at t j) k) js₂ (dependency_parts t k)
@@ -184,10 +174,10 @@ module _ (symbols : ℕ) where
       test : Node → Bool
       test n = eqb (number_in symbols n) k
 
-      first : has_node symbols (flat_map (λ j. get_or own j []) js₂) k ≡ list_any (λ j. has_node symbols (option_map_or (λ d. conditions_nodes t d.depends) (slice_get t.definitions j) []) k) js₂
+      first : has_number (flat_map (λ j. get_or own j []) js₂) k ≡ list_any (λ j. has_node symbols (option_map_or (λ d. conditions_nodes t d.depends) (slice_get t.definitions j) []) k) js₂
       first =
-          any_flat test (λ j. get_or own j []) js₂
-          ∙ any_alike (λ j. has_node symbols (get_or own j []) k) (λ j. has_node symbols (option_map_or (λ d. conditions_nodes t d.depends) (slice_get t.definitions j) []) k) js₂
+          any_flat (λ i. eqb i k) (λ j. get_or own j []) js₂
+          ∙ any_alike (λ j. has_number (get_or own j []) k) (λ j. has_node symbols (option_map_or (λ d. conditions_nodes t d.depends) (slice_get t.definitions j) []) k) js₂
           (λ j. f.each j k ∙ ap (λ ns. has_node symbols ns k) (get_or_mapped (λ d. conditions_nodes t d.depends) t.definitions j))
 
   -- ---- what is computed from definitions
@@ -255,10 +245,16 @@ module _ (symbols : ℕ) where
       at None e = refl
       at (Some d) e = of_prompt d d.prompt e
 
-  pub prompts_alike : (t : TreeValue) (visible : List (List Node)) (js ps bs : List ℕ) → ps ≡ flat_map (prompted_at t) js → Holds symbols (visible_lists t) visible → HaveSame bs (flat_map (block_numbers_at t) ps) → (k : ℕ) → has_node symbols (flat_map (prompt_own_at t) js ++ (flat_map (dependency_at t) ps ++ flat_map (λ b. get_or visible b []) bs)) k ≡ has_node symbols (flat_map (prompt_nodes t) (filter_map (slice_get t.definitions) js)) k
-  prompts_alike t visible js ps bs e h g k =
-      has_both (flat_map (prompt_own_at t) js) (flat_map (dependency_at t) ps ++ flat_map (λ b. get_or visible b []) bs) k
-      ∙ ap (λ b. has_node symbols (flat_map (prompt_own_at t) js) k || b) (has_both (flat_map (dependency_at t) ps) (flat_map (λ b. get_or visible b []) bs) k ∙ ap (λ b. b || has_node symbols (flat_map (λ b. get_or visible b []) bs) k) depends_there ∙ ap (λ b. list_any (λ j. list_any dep (prompted_at t j)) js || b) visible_there)
+  -- what the `visible if` lines around prompted definitions read
+  pub visible_same : (t : TreeValue) (visible : List (List ℕ)) (ps bs : List ℕ) → Holds symbols (visible_lists t) visible → HaveSame bs (flat_map (block_numbers_at t) ps) → (k : ℕ) → has_number (flat_map (λ b. get_or visible b []) bs) k ≡ has_node symbols (flat_map (visible_at t) ps) k
+  visible_same t visible ps bs h g k =
+      around_same t (λ b. conditions_nodes t b.visible) visible ps bs k h g
+      ∙ sym (any_flat (λ n. eqb (number_in symbols n) k) (visible_at t) ps)
+
+  pub prompts_alike : (t : TreeValue) (js ps : List ℕ) → ps ≡ flat_map (prompted_at t) js → (k : ℕ) → has_node symbols (flat_map (prompt_own_at t) js ++ (flat_map (dependency_at t) ps ++ flat_map (visible_at t) ps)) k ≡ has_node symbols (flat_map (prompt_nodes t) (filter_map (slice_get t.definitions) js)) k
+  prompts_alike t js ps e k =
+      has_both (flat_map (prompt_own_at t) js) (flat_map (dependency_at t) ps ++ flat_map (visible_at t) ps) k
+      ∙ ap (λ b. has_node symbols (flat_map (prompt_own_at t) js) k || b) (has_both (flat_map (dependency_at t) ps) (flat_map (visible_at t) ps) k ∙ ap (λ b. b || has_node symbols (flat_map (visible_at t) ps) k) depends_there ∙ ap (λ b. list_any (λ j. list_any dep (prompted_at t j)) js || b) visible_there)
       ∙ ap (λ b. b || (list_any (λ j. list_any dep (prompted_at t j)) js || list_any (λ j. list_any vis (prompted_at t j)) js)) (any_flat test (prompt_own_at t) js)
       ∙ ap (λ b. list_any (λ j. has_node symbols (prompt_own_at t j) k) js || b) (sym (any_or (λ j. list_any dep (prompted_at t j)) (λ j. list_any vis (prompted_at t j)) js))
       ∙ sym (any_or (λ j. has_node symbols (prompt_own_at t j) k) (λ j. list_any dep (prompted_at t j) || list_any vis (prompted_at t j)) js)
@@ -278,5 +274,5 @@ module _ (symbols : ℕ) where
       depends_there : has_node symbols (flat_map (dependency_at t) ps) k ≡ list_any (λ j. list_any dep (prompted_at t j)) js
       depends_there = any_flat test (dependency_at t) ps ∙ ap (list_any dep) e ∙ any_flat dep (prompted_at t) js
 
-      visible_there : has_node symbols (flat_map (λ b. get_or visible b []) bs) k ≡ list_any (λ j. list_any vis (prompted_at t j)) js
-      visible_there = around_same t (λ b. conditions_nodes t b.visible) visible ps bs k h g ∙ ap (list_any vis) e ∙ any_flat vis (prompted_at t) js
+      visible_there : has_node symbols (flat_map (visible_at t) ps) k ≡ list_any (λ j. list_any vis (prompted_at t j)) js
+      visible_there = any_flat test (visible_at t) ps ∙ ap (list_any vis) e ∙ any_flat vis (prompted_at t) js

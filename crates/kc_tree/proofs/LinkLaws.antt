@@ -1,27 +1,29 @@
 -- From an order or a loop of numbers to what the tree says of its nodes.
-use Rattle.std.proofs.Common.{subst, Some, None, ◌^◌, ◌∷◌, ◌≡◌, ℕ, ◌+◌, ◌-◌, ◌<◌, ◌≤◌, List, [], length, get_or, map, refl, sym, ap, inl, inr, ◌⊎◌, arith}
+use Rattle.std.proofs.Common.{subst, ◌∙◌, Some, None, ◌^◌, ◌∷◌, ◌≡◌, ℕ, ◌+◌, ◌-◌, ◌<◌, ◌≤◌, List, [], length, get_or, map, refl, sym, ap, inl, inr, ◌⊎◌, arith}
 use Rattle.std.specs.List.{All, Contains}
 use Rattle.std.proofs.lemmas.List.{get_or_past}
 use Rattle.std.proofs.lemmas.List.Elements.{All-from_get_or, All-map}
 use Rattle.std.proofs.lemmas.Bool.{cases_lt}
+use Rattle.kc_tree.specs.declared.fault.ChoiceProblem.{ChoiceProblem}
 use Rattle.kc_tree.specs.declared.fault.NamedNode.{NamedNode}
+use Rattle.kc_tree.specs.Uses.{Uses}
+use Rattle.kc_tree.specs.Accepted.{IsTableOf}
 use Rattle.kc_tree.specs.declared.node.Node.{Node}
-use Rattle.kc_tree.specs.TreeValue.{TreeValue}
-use Rattle.kc_tree.specs.Nodes.{number_of, node_at}
-use Rattle.kc_tree.specs.NodeRows.{numbers_of, AreNumbered}
+use Rattle.kc_outline.specs.TreeValue.{TreeValue}
+use Rattle.kc_tree.specs.Nodes.{node_in, number_of, node_at}
 use Rattle.kc_tree.specs.Order.{IsOrder, IsLoop}
 use Rattle.kc_tree.specs.declared.tree.Tree.TheInside.{Inside}
-use Rattle.kc_tree.specs.Inside.{tree_view, IsWellMade}
-use Rattle.kc_tree.specs.Accepted.{IsEntryOf}
+use Rattle.kc_tree.specs.Inside.{IsWellMade}
+use Rattle.kc_outline.specs.Entries.{IsEntryOf}
 use Rattle.kc_text.specs.LineValue.{LineValue}
-use Rattle.kc_tree.specs.declared.id.ChoiceId.{ChoiceId}
+use Rattle.kc_outline.specs.declared.id.ChoiceId.{ChoiceId}
 use Rattle.kc_tree.specs.declared.fault.TreeFault.{TreeFault}
 use Rattle.kc_tree.specs.declared.fault.TreeFault.TheVariants.{Line, Symbol, Choice, Loop, NoMemory}
 use Rattle.kc_tree.specs.declared.outline_faults.OutlineFault.TheVariants as outline_problem
 use Rattle.kc_tree.specs.OutlineFaults.{outline_fault}
 use Rattle.kc_tree.specs.Faults.{IsNamed, IsNamedLoop, IsLoopless, IsTreeProblem}
-use Rattle.kc_tree.specs.Linked.{named_node, IsLinkFault, IsToldChoice}
-use Rattle.kc_tree.specs.Graph as graph
+use Rattle.kc_tree.specs.Linked.{named_node, IsLinkFault, IsReported}
+use Rattle.kc_graph.specs.Graph as graph
 use Rattle.kc_tree.specs.NodeGraph.{IsGraphOf}
 use Rattle.kc_tree.proofs.NodeNumbers.{at_below, below_at}
 use Rattle.kc_tree.proofs.WithinLaws.{used_within}
@@ -82,37 +84,39 @@ loopless_nodes t g none h nodes l = none (map (number_of t) nodes) (loop_of_numb
 pub link_problem : (lines : List LineValue) (t : TreeValue) → outline_fault t ≡ None → (fault : TreeFault) → IsLinkFault t fault → IsTreeProblem lines t fault
 link_problem lines t none (Line problem path number) h = h
 link_problem lines t none (Symbol problem name) h = absurd h
-link_problem lines t none (Choice path number) h = absurd h
+link_problem lines t none (Choice problem path number) h = absurd h
 link_problem lines t none (Loop nodes) h = (none, h)
 link_problem lines t none NoMemory h = h
 
--- the fault of a choice that is told is that of the choice
-pub choice_problem : (lines : List LineValue) (t : TreeValue) (c : ChoiceId) → outline_fault t ≡ Some (outline_problem.Choice c) → (fault : TreeFault) → IsToldChoice lines c fault → IsTreeProblem lines t fault
-choice_problem lines t c is (Line problem path number) h = h
-choice_problem lines t c is (Symbol problem name) h = absurd h
-choice_problem lines t c is (Choice path number) h = record {
+-- the problem of a choice that is reported is that of the choice
+pub choice_reported : (lines : List LineValue) (t : TreeValue) (p : ChoiceProblem) (c : ChoiceId) → outline_fault t ≡ Some (outline_problem.Choice p c) → (fault : TreeFault) → IsReported lines p c fault → IsTreeProblem lines t fault
+choice_reported lines t p c is (Line problem path number) h = h
+choice_reported lines t p c is (Symbol problem name) h = absurd h
+choice_reported lines t p c is (Choice problem path number) h = record {
   choice = c.0;
-  is = is;
-  line = h.line;
-  line_is = h.line_is;
-  path_is = h.path_is;
-  number_is = h.number_is;
+  is = is ∙ ap (λ (q : ChoiceProblem). Some (outline_problem.Choice q c)) (sym h.0);
+  line = h.1.line;
+  line_is = h.1.line_is;
+  path_is = h.1.path_is;
+  number_is = h.1.number_is;
 }
-choice_problem lines t c is (Loop nodes) h = absurd h
-choice_problem lines t c is NoMemory h = h
+choice_reported lines t p c is (Loop nodes) h = absurd h
+choice_reported lines t p c is NoMemory h = h
 
--- the fields of a tree, from the graph of its nodes
-pub well_made : (a : Inside) → length a.symbols.items ≤ 65535 → length a.choices.items ≤ 2 ^ 30 → length a.names ≡ length a.symbols.items → All (IsEntryOf (tree_view a)) a.entries.items → IsGraphOf (tree_view a) (numbers_of (length a.symbols.items) a.uses) → AreNumbered (length a.symbols.items) a.uses → IsOrder (tree_view a) a.order.items → graph.IsConverse (numbers_of (length a.symbols.items) a.uses) (numbers_of (length a.symbols.items) a.used_by) → AreNumbered (length a.symbols.items) a.used_by → IsWellMade a
-well_made a few few_choices named entries h uses_numbered order converse users_numbered = record {
+-- the fields of a tree, from the graph of its nodes and the users in it
+pub well_made : (a : Inside) (g users : List (List ℕ)) → length a.outline.symbols ≤ 65535 → length a.outline.choices ≤ 2 ^ 30 → length a.outline.names ≡ length a.outline.symbols → All (IsEntryOf a.outline) a.outline.entries
+    → IsGraphOf a.outline g → IsOrder a.outline a.order.items → graph.IsConverse g users
+    → a.uses ≡ map (map (node_in (length a.outline.symbols))) g → a.used_by ≡ map (map (node_in (length a.outline.symbols))) users → IsWellMade a
+well_made a g users few few_choices named entries h order converse is_uses is_users = record {
   accepted = record {
     few = few;
     few_choices = few_choices;
     named = named;
-    within = used_within (tree_view a);
+    within = used_within a.outline;
     ordered = (a.order.items, order);
     entries = entries;
   };
   order = order;
-  uses = table_of_uses (tree_view a) a.uses (used_within (tree_view a)) uses_numbered h;
-  used_by = table_of_users (tree_view a) (numbers_of (length a.symbols.items) a.uses) a.used_by users_numbered h converse;
+  uses = subst (λ (rows : List (List Node)). IsTableOf a.outline (Uses a.outline) rows) (sym is_uses) (table_of_uses a.outline g (used_within a.outline) h);
+  used_by = subst (λ (rows : List (List Node)). IsTableOf a.outline (λ n m. Uses a.outline m n) rows) (sym is_users) (table_of_users a.outline g users h converse);
 }

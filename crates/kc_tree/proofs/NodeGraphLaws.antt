@@ -3,20 +3,18 @@ use Rattle.std.proofs.Common.{subst, zero, suc, ◌∷◌, ◌≡◌, ℕ, ◌+�
 use Rattle.std.specs.List.{Contains, slice_get}
 use Rattle.std.specs.Option.{option_map_or}
 use Rattle.std.proofs.lemmas.Bool.{cases_lt}
-use Rattle.std.proofs.lemmas.List.{get_or-map, length-map, take-map, get_or-take, length-take-le, get_or_default, get_or_past}
-use Rattle.std.proofs.lemmas.List.Elements.{All-contains}
+use Rattle.std.proofs.lemmas.List.{get_or-map, length-map, take-map, get_or-take, length-take-le, get_or_default}
 use Rattle.std.proofs.lemmas.Option.{slice_get-get_or, slice_get_past}
 use Rattle.kc_tree.specs.declared.node.Node.{Node}
 use Rattle.kc_tree.specs.declared.node.Node.TheVariants.{Vis, Val, Mode, Sel}
-use Rattle.kc_tree.specs.Nodes.{number_in, number_of, node_at, IsNodeOf}
-use Rattle.kc_tree.specs.TreeValue.{TreeValue}
+use Rattle.kc_tree.specs.Nodes.{node_in, number_of, node_at, IsNodeOf, IsNumbered}
+use Rattle.kc_outline.specs.TreeValue.{TreeValue}
 use Rattle.kc_tree.specs.Uses.{Uses, visibility_nodes, symbol_value_nodes, choice_prompt_nodes, choice_value_nodes}
 use Rattle.kc_tree.specs.Order.{IsOrder, IsLoop}
 use Rattle.kc_tree.specs.Accepted.{IsTableOf}
 use Rattle.kc_tree.specs.NodeGraph.{IsGraphOf}
-use Rattle.kc_tree.specs.Graph as graph
-use Rattle.kc_tree.specs.NodeRows.{numbers_of, IsNumbered, AreNumbered}
-use Rattle.kc_tree.proofs.NodeNumbers.{node_in-number_in, same_numbered, Contains-map, Contains-from_map, number_below, at_below, Contains-at, Contains-from_at, place_at}
+use Rattle.kc_graph.specs.Graph as graph
+use Rattle.kc_tree.proofs.NodeNumbers.{node_in-number_in, number_below, at_below, Contains-at, Contains-from_at, place_at}
 
 -- a node that a node of the tree is computed from is one of the tree
 abbrev pub Within : TreeValue → Type 0
@@ -157,47 +155,40 @@ loop_of_numbers t g h nodes l = record {
         subst From (sym e) (subst To (sym f) (use_of_numbers t g h n m (known t n a) (known t m b) u))
 
 -- ---- tables of rows
--- the numbers of a row
-pub row_numbers : (symbols : ℕ) (rows : List (List Node)) (p : ℕ) → graph.row (numbers_of symbols rows) p ≡ map (number_in symbols) (get_or rows p [])
-row_numbers symbols [] p = refl
-row_numbers symbols (r ∷ rows) zero = refl
-row_numbers symbols (r ∷ rows) (suc p) = row_numbers symbols rows p
+-- the nodes of a row of numbers
+row_nodes : (symbols : ℕ) (g : List (List ℕ)) (p : ℕ) → get_or (map (map (node_in symbols)) g) p [] ≡ map (node_in symbols) (graph.row g p)
+row_nodes symbols [] p = refl
+row_nodes symbols (r ∷ g) zero = refl
+row_nodes symbols (r ∷ g) (suc p) = row_nodes symbols g p
 
--- a node of a row is the one of its number
-of_row : (symbols : ℕ) (rows : List (List Node)) → AreNumbered symbols rows → (p : ℕ) (m : Node) → Contains (get_or rows p []) m → IsNumbered symbols m
-of_row symbols rows all p m c = elim (cases_lt p (length rows)) [
-  | inl h ↦ All-contains (IsNumbered symbols) (get_or rows p []) m (all p [] h) c
-  | inr h ↦ absurd (nothing m (subst (λ (r : List Node). Contains r m) (get_or_past rows p [] h) c))
-]
+module _ (t : TreeValue) (g : List (List ℕ)) (n m : Node) where
+  abbrev nodes_there : List Node
+  nodes_there = get_or (map (map (node_in (length t.symbols))) g) (number_of t n) []
 
-module _ (t : TreeValue) (rows : List (List Node)) where
-  abbrev numbers : List (List ℕ)
-  numbers = numbers_of (length t.symbols) rows
+  in_row : IsNumbered (length t.symbols) m → graph.Uses g (number_of t n) (number_of t m) → Contains nodes_there m
+  in_row b u =
+      subst (λ (ns : List Node). Contains ns m) (sym (row_nodes (length t.symbols) g (number_of t n)))
+      (Contains-at (length t.symbols) (graph.row g (number_of t n)) m b u)
 
-  in_row : (n m : Node) → Contains (get_or rows (number_of t n) []) m → graph.Uses numbers (number_of t n) (number_of t m)
-  in_row n m c = subst (λ (ks : List ℕ). Contains ks (number_of t m)) (sym (row_numbers (length t.symbols) rows (number_of t n))) (Contains-map (number_of t) (get_or rows (number_of t n) []) m c)
+  from_row : Contains nodes_there m → IsNumbered (length t.symbols) m × graph.Uses g (number_of t n) (number_of t m)
+  from_row c =
+      Contains-from_at (length t.symbols) (graph.row g (number_of t n)) m
+      (subst (λ (ns : List Node). Contains ns m) (row_nodes (length t.symbols) g (number_of t n)) c)
 
-  from_row : AreNumbered (length t.symbols) rows → (n m : Node) → IsNumbered (length t.symbols) m → graph.Uses numbers (number_of t n) (number_of t m) → Contains (get_or rows (number_of t n) []) m
-  from_row all n m b u =
-      let row = get_or rows (number_of t n) [] in
-      let r = Contains-from_map (number_of t) row (number_of t m) (subst (λ (ks : List ℕ). Contains ks (number_of t m)) (row_numbers (length t.symbols) rows (number_of t n)) u) in
-      let mine = of_row (length t.symbols) rows all (number_of t n) r.0 r.1 in
-      subst (λ (x : Node). Contains row x) (same_numbered (length t.symbols) r.0 m mine b r.2) r.1
-
-pub table_of_uses : (t : TreeValue) (rows : List (List Node)) → Within t → AreNumbered (length t.symbols) rows → IsGraphOf t (numbers_of (length t.symbols) rows) → IsTableOf t (Uses t) rows
-table_of_uses t rows within all h = record {
-  whole = sym (length-map rows (map (number_of t))) ∙ h.whole;
+pub table_of_uses : (t : TreeValue) (g : List (List ℕ)) → Within t → IsGraphOf t g → IsTableOf t (Uses t) (map (map (node_in (length t.symbols))) g)
+table_of_uses t g within h = record {
+  whole = length-map g (map (node_in (length t.symbols))) ∙ h.whole;
   exact = λ n m i. (
-    λ c. use_of_nodes t (numbers_of (length t.symbols) rows) h n m (known t n i) (of_row (length t.symbols) rows all (number_of t n) m c) (in_row t rows n m c),
-    λ u. let b = known t m (within n m i u) in from_row t rows all n m b (use_of_numbers t (numbers_of (length t.symbols) rows) h n m (known t n i) b u),
+    λ c. let r = from_row t g n m c in use_of_nodes t g h n m (known t n i) r.0 r.1,
+    λ u. let b = known t m (within n m i u) in in_row t g n m b (use_of_numbers t g h n m (known t n i) b u),
   );
 }
 
-pub table_of_users : (t : TreeValue) (g : List (List ℕ)) (rows : List (List Node)) → AreNumbered (length t.symbols) rows → IsGraphOf t g → graph.IsConverse g (numbers_of (length t.symbols) rows) → IsTableOf t (λ n m. Uses t m n) rows
-table_of_users t g rows all h c = record {
-  whole = sym (length-map rows (map (number_of t))) ∙ c.size ∙ h.whole;
+pub table_of_users : (t : TreeValue) (g users : List (List ℕ)) → IsGraphOf t g → graph.IsConverse g users → IsTableOf t (λ n m. Uses t m n) (map (map (node_in (length t.symbols))) users)
+table_of_users t g users h c = record {
+  whole = length-map users (map (node_in (length t.symbols))) ∙ c.size ∙ h.whole;
   exact = λ n m i. (
-    λ b. use_of_nodes t g h m n (of_row (length t.symbols) rows all (number_of t n) m b) (known t n i) (c.to_use (number_of t n) (number_of t m) (in_row t rows n m b)),
-    λ u. let b = known t m (user_is_node t m n u) in from_row t rows all n m b (c.from_use (number_of t m) (number_of t n) (use_of_numbers t g h m n b (known t n i) u)),
+    λ b. let r = from_row t users n m b in use_of_nodes t g h m n r.0 (known t n i) (c.to_use (number_of t n) (number_of t m) r.1),
+    λ u. let b = known t m (user_is_node t m n u) in in_row t users n m b (c.from_use (number_of t m) (number_of t n) (use_of_numbers t g h m n b (known t n i) u)),
   );
 }

@@ -6,9 +6,9 @@ use Rattle.std.proofs.lemmas.List.{get_or-map, length-map}
 use Rattle.std.proofs.lemmas.Option.{slice_get_within, get_or_from_slice_get}
 use Rattle.kc_tree.specs.declared.node.Node.{Node}
 use Rattle.kc_tree.specs.declared.node.Node.TheVariants.{Vis, Val, Mode, Sel}
-use Rattle.kc_tree.specs.TreeValue.{TreeValue}
+use Rattle.kc_outline.specs.TreeValue.{TreeValue}
 use Rattle.kc_tree.specs.Nodes.{number_in, node_in, symbol_node, choice_node, number_of, node_at, node_count, IsNodeOf}
-use Rattle.kc_tree.specs.NodeRows.{IsNumbered}
+use Rattle.kc_tree.specs.Nodes.{IsNumbered}
 
 even_rest : (k : ℕ) → (2 * k) % 2 ≡ 0
 even_rest k = omega arith

@@ -1,16 +1,16 @@
 -- What follows from an order of the nodes.
-use Rattle.std.proofs.Common.{◌≡◌, ℕ, ◌<◌, ◌≤◌, Bool, true, false, List, Some, length, get_or, map, eqb, refl, sym, ap, ◌∙◌, subst, arith}
-use Rattle.std.specs.List.{list_any}
+use Rattle.std.proofs.Common.{inl, inr, suc, [], ◌∷◌, ◌≡◌, ℕ, ◌<◌, ◌≤◌, Bool, true, false, List, Some, length, get_or, map, eqb, refl, sym, ap, ◌∙◌, subst, arith}
+use Rattle.std.specs.List.{Contains, list_any}
+use Rattle.std.proofs.lemmas.Bool.{or_cases}
 use Rattle.std.proofs.lemmas.List.{get_or-map, length-map}
 use Rattle.std.proofs.lemmas.List.Elements.{Contains-get_or}
 use Rattle.std.proofs.lemmas.Map.Keys.{IsDistinct-from_apart}
 use Rattle.std.proofs.lemmas.Map.Steps.{length-le_from_distinct_below}
 use Rattle.std.proofs.lemmas.Option.{slice_get-get_or}
-use Rattle.indexmap.proofs.CallerLemmas.{Contains-list_any}
 use borrow.Author.Tests.{eqb-true}
 use Rattle.kc_tree.specs.declared.node.Node.{Node}
 use Rattle.kc_tree.specs.declared.node.Node.TheVariants.{Vis, Val, Mode, Sel}
-use Rattle.kc_tree.specs.TreeValue.{TreeValue}
+use Rattle.kc_outline.specs.TreeValue.{TreeValue}
 use Rattle.kc_tree.specs.Nodes.{IsNodeOf, node_count, number_of}
 use Rattle.kc_tree.specs.Order.{IsOrder}
 use Rattle.kc_tree.proofs.NodeNumbers.{same_node}
@@ -21,6 +21,14 @@ number_of-below t (Vis s) h = omega arith
 number_of-below t (Val s) h = omega arith
 number_of-below t (Mode c) h = omega arith
 number_of-below t (Sel c) h = omega arith
+
+-- a number that one of a list equals is in the list
+equal_contained : (ks : List ℕ) (q : ℕ) → list_any (eqb q) ks ≡ true → Contains ks q
+equal_contained [] q h = cc
+equal_contained (k ∷ ks) q h = elim (or_cases (eqb q k) (list_any (eqb q) ks) h) [
+  | inl e ↦ (0, omega arith, sym (eqb-true q k e))
+  | inr rest ↦ let r = equal_contained ks q rest in (suc r.0, omega (arith, r.1), r.2)
+]
 
 module _ (t : TreeValue) (order : List Node) (ok : IsOrder t order) where
   abbrev numbers : List ℕ
@@ -55,7 +63,7 @@ module _ (t : TreeValue) (order : List Node) (ok : IsOrder t order) where
       below : (q : ℕ) → list_any (eqb q) numbers ≡ true → q < node_count t
       below q h =
           let n : Node = Vis (record { 0 = 0 }) in
-          let c = Contains-list_any eqb eqb-true numbers q h in
+          let c = equal_contained numbers q h in
           let long : length numbers ≡ length order = length-map order (number_of t) in
           let place : c.0 < length order = omega (arith, long, c.1) in
           let is : number_of t (get_or order c.0 n) ≡ q = sym (number_at c.0 q n place) ∙ c.2 in

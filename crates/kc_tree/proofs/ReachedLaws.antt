@@ -1,7 +1,7 @@
 -- Walks from the nodes that are asked.
 use Rattle.std.specs.Prelude.{List, Contains}
 use Rattle.kc_tree.specs.declared.node.Node.{Node}
-use Rattle.kc_tree.specs.TreeValue.{TreeValue}
+use Rattle.kc_outline.specs.TreeValue.{TreeValue}
 use Rattle.kc_tree.specs.Reached.{Reached}
 
 -- what is reached from some nodes is reached from more

@@ -3,16 +3,16 @@ use Rattle.std.proofs.Common.{◌≡◌, ℕ, zero, suc, ◌+◌, ◌<◌, ◌�
 use Rattle.std.specs.List.{find, range_with_len}
 use Rattle.std.specs.Option.{option_or}
 use Rattle.std.proofs.lemmas.Bool.{cases_lt}
-use Rattle.kc_tree.specs.declared.id.SymId.{SymId}
-use Rattle.kc_tree.specs.declared.id.ChoiceId.{ChoiceId}
-use Rattle.kc_tree.specs.declared.fault.TreeProblem.{TreeProblem}
-use Rattle.kc_tree.specs.declared.fault.TreeProblem.TheVariants.{NoType, TypeConflict, SecondPrompt, UnfitDefault, UnfitSelect, BadModules}
-use Rattle.kc_tree.specs.declared.outline_faults.OutlineFault.TheVariants.{Choice}
-use Rattle.kc_tree.specs.TreeValue.{TreeValue}
+use Rattle.kc_statement.specs.declared.id.SymId.{SymId}
+use Rattle.kc_outline.specs.declared.id.ChoiceId.{ChoiceId}
+use Rattle.kc_tree.specs.declared.fault.SymbolProblem.{SymbolProblem}
+use Rattle.kc_tree.specs.declared.fault.SymbolProblem.TheVariants.{NoType, TypeConflict, SecondPrompt, UnfitDefault, UnfitSelect, BadModules}
+use Rattle.kc_tree.specs.declared.fault.ChoiceProblem.{ChoiceProblem}
+use Rattle.kc_outline.specs.TreeValue.{TreeValue}
 use Rattle.kc_tree.specs.SymbolFaults.{fault_by}
 use Rattle.kc_tree.specs.SymbolTests.{test_of, has_problem, IsFaultless}
 use Rattle.kc_tree.specs.ChoiceFaults.{choice_fault}
-use Rattle.kc_tree.specs.OutlineFaults.{of_symbol, outline_fault}
+use Rattle.kc_tree.specs.OutlineFaults.{of_symbol, of_choice, outline_fault}
 
 pub find_none : (p : ℕ → Bool) (a n : ℕ) → ((k : ℕ) → a ≤ k → k < a + n → p k ≡ false) → find p (range_with_len a n) ≡ None
 find_none p a zero h = refl
@@ -34,15 +34,15 @@ or_none : {X : Type 0} (o : Option X) → option_or o None ≡ o
 or_none None = refl
 or_none (Some x) = refl
 
-none_by : (t : TreeValue) (problem : TreeProblem) → ((k : ℕ) → k < length t.symbols → has_problem t problem k ≡ false) → fault_by t problem (test_of problem) ≡ None
+none_by : (t : TreeValue) (problem : SymbolProblem) → ((k : ℕ) → k < length t.symbols → has_problem t problem k ≡ false) → fault_by t problem (test_of problem) ≡ None
 none_by t problem none =
     ap (option_map (λ (k : ℕ). (problem, record { 0 = k }))) (find_none (λ (k : ℕ). has_problem t problem k) 0 (length t.symbols) (λ k l m. none k (omega arith)))
 
-no_other : (a b c d e f : Option (TreeProblem × SymId)) (g : Option ChoiceId) → a ≡ None → b ≡ None → c ≡ None → d ≡ None → e ≡ None → f ≡ None → option_or (option_map of_symbol (option_or a (option_or b (option_or c (option_or d e))))) (option_or (option_map Choice g) (option_map of_symbol f)) ≡ option_map Choice g
-no_other a b c d e f g is_a is_b is_c is_d is_e is_f = rw (is_a, is_b, is_c, is_d, is_e, is_f) (or_none (option_map Choice g))
+no_other : (a b c d e f : Option (SymbolProblem × SymId)) (g : Option (ChoiceProblem × ChoiceId)) → a ≡ None → b ≡ None → c ≡ None → d ≡ None → e ≡ None → f ≡ None → option_or (option_map of_symbol (option_or a (option_or b (option_or c (option_or d e))))) (option_or (option_map of_choice g) (option_map of_symbol f)) ≡ option_map of_choice g
+no_other a b c d e f g is_a is_b is_c is_d is_e is_f = rw (is_a, is_b, is_c, is_d, is_e, is_f) (or_none (option_map of_choice g))
 
 -- only a choice can be at fault
-pub faultless_symbols : (t : TreeValue) → IsFaultless t → outline_fault t ≡ option_map Choice (choice_fault t)
+pub faultless_symbols : (t : TreeValue) → IsFaultless t → outline_fault t ≡ option_map of_choice (choice_fault t)
 faultless_symbols t none =
     let has = has_problem t in
     let Below : ℕ → Type 0 = λ k. k < length t.symbols in

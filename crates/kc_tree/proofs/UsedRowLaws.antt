@@ -1,22 +1,20 @@
 -- The rows of all nodes are the graph of the nodes.
-use Rattle.std.proofs.Common.{◌≡◌, ℕ, zero, suc, ◌+◌, ◌*◌, ◌<◌, true, List, [], ◌∷◌, ◌++◌, length, get_or, map, Option, refl, sym, ap, subst, ◌∙◌, inl, inr, arith}
+use Rattle.std.proofs.Common.{◌≡◌, ℕ, zero, suc, ◌+◌, ◌*◌, ◌<◌, true, List, [], ◌∷◌, ◌++◌, length, get_or, Option, refl, sym, ap, subst, ◌∙◌, inl, inr, arith}
 use Rattle.std.specs.List.{All, Contains}
 use Rattle.std.specs.Option.{option_map_or}
 use Rattle.std.proofs.lemmas.List.Elements.{All-contains}
 use Rattle.std.proofs.lemmas.Bool.{cases_lt}
-use Rattle.std.proofs.lemmas.List.{get_or_push, get_or_past, get_or_append_left, length_push, length-map}
+use Rattle.std.proofs.lemmas.List.{get_or_push, get_or_past, get_or_append_left, length_push}
 use Rattle.std.proofs.lemmas.Option.{slice_get_past}
 use Rattle.kc_tree.specs.declared.node.Node.{Node}
 use Rattle.kc_tree.specs.declared.node.Node.TheVariants.{Vis, Val, Mode, Sel}
-use Rattle.kc_tree.specs.TreeValue.{TreeValue, SymbolValue, ChoiceValue}
+use Rattle.kc_outline.specs.TreeValue.{TreeValue, SymbolValue, ChoiceValue}
 use Rattle.kc_tree.specs.Nodes.{number_in, node_in, node_count, IsNodeOf}
-use Rattle.kc_tree.specs.NodeRows.{numbers_of}
 use Rattle.kc_tree.specs.Uses.{visibility_nodes, symbol_value_nodes, choice_prompt_nodes, choice_value_nodes, used_nodes, Uses}
 use Rattle.kc_tree.specs.NodeGraph.{IsGraphOf}
-use Rattle.kc_tree.specs.Graph as graph
-use Rattle.kc_tree.specs.Collected.{has_node, Holds, used_lists, used_lists_with}
-use Rattle.kc_tree.proofs.NodeNumbers.{number_in-node_in, node_in-number_in, at_below, below_at, Contains-map, Contains-from_map}
-use Rattle.kc_tree.proofs.CollectedLaws.{node_found, node_has}
+use Rattle.kc_tree.specs.Collected.{has_number, has_node, Holds, used_lists, used_lists_with}
+use Rattle.kc_tree.proofs.NodeNumbers.{number_in-node_in, node_in-number_in, at_below, below_at}
+use Rattle.kc_tree.proofs.CollectedLaws.{number_found, number_there, node_found, node_has}
 use Rattle.kc_tree.proofs.WithinLaws.{used_nodes_within}
 
 lists_count : (t : TreeValue) (n : ℕ) → length (used_lists t n) ≡ 2 * n
@@ -143,7 +141,7 @@ module _ (t : TreeValue) where
   ]
 
   -- the node of a number among those of a list
-  there : (rows : List (List Node)) (p q : ℕ) → Holds (length t.symbols) all rows → has_node (length t.symbols) (get_or rows p []) q ≡ has_node (length t.symbols) (used_nodes t (node_in (length t.symbols) p)) q
+  there : (rows : List (List ℕ)) (p q : ℕ) → Holds (length t.symbols) all rows → has_number (get_or rows p []) q ≡ has_node (length t.symbols) (used_nodes t (node_in (length t.symbols) p)) q
   there rows p q h = h.each p q ∙ ap (λ ns. has_node (length t.symbols) ns q) (list_of p)
 
   contains_at : (ns : List Node) (q : ℕ) → All (λ m. IsNodeOf t m) ns → has_node (length t.symbols) ns q ≡ true → Contains ns (node_in (length t.symbols) q)
@@ -155,27 +153,12 @@ module _ (t : TreeValue) where
   has_at : (ns : List Node) (q : ℕ) → Contains ns (node_in (length t.symbols) q) → has_node (length t.symbols) ns q ≡ true
   has_at ns q c = ap (has_node (length t.symbols) ns) (sym (number_in-node_in (length t.symbols) q)) ∙ node_has (length t.symbols) ns (node_in (length t.symbols) q) c
 
-  has_numbered : (ns : List Node) (q : ℕ) → Contains (map (number_in (length t.symbols)) ns) q → has_node (length t.symbols) ns q ≡ true
-  has_numbered ns q c =
-      let r = Contains-from_map (number_in (length t.symbols)) ns q c in
-      ap (has_node (length t.symbols) ns) (sym r.2) ∙ node_has (length t.symbols) ns r.0 r.1
-
-  numbered : (ns : List Node) (q : ℕ) → has_node (length t.symbols) ns q ≡ true → Contains (map (number_in (length t.symbols)) ns) q
-  numbered ns q e =
-      let r = node_found (length t.symbols) ns q e in
-      subst (λ (k : ℕ). Contains (map (number_in (length t.symbols)) ns) k) r.2 (Contains-map (number_in (length t.symbols)) ns r.0 r.1)
-
-  row_of : (rows : List (List Node)) (p : ℕ) → graph.row (numbers_of (length t.symbols) rows) p ≡ map (number_in (length t.symbols)) (get_or rows p [])
-  row_of [] p = refl
-  row_of (r ∷ rows) zero = refl
-  row_of (r ∷ rows) (suc p) = row_of rows p
-
-  pub graph_of_rows : (rows : List (List Node)) → Holds (length t.symbols) all rows → IsGraphOf t (numbers_of (length t.symbols) rows)
+  pub graph_of_rows : (rows : List (List ℕ)) → Holds (length t.symbols) all rows → IsGraphOf t rows
   unfolding Uses
   graph_of_rows rows h = record {
-    whole = length-map rows (map (number_in (length t.symbols))) ∙ h.whole ∙ count;
+    whole = h.whole ∙ count;
     exact = λ p q. (
-      λ u. contains_at (used_nodes t (node_in (length t.symbols) p)) q (used_nodes_within t (node_in (length t.symbols) p)) (sym (there rows p q h) ∙ has_numbered (get_or rows p []) q (subst (λ (ks : List ℕ). Contains ks q) (row_of rows p) u)),
-      λ u. subst (λ (ks : List ℕ). Contains ks q) (sym (row_of rows p)) (numbered (get_or rows p []) q (there rows p q h ∙ has_at (used_nodes t (node_in (length t.symbols) p)) q u)),
+      λ u. contains_at (used_nodes t (node_in (length t.symbols) p)) q (used_nodes_within t (node_in (length t.symbols) p)) (sym (there rows p q h) ∙ number_found (get_or rows p []) q u),
+      λ u. number_there (get_or rows p []) q (there rows p q h ∙ has_at (used_nodes t (node_in (length t.symbols) p)) q u),
     );
   }

@@ -1,27 +1,27 @@
 -- What a node of a tree is computed from is a node of the tree.
-use Rattle.std.proofs.Common.{◌≡◌, ℕ, ◌<◌, ◌≤◌, ◌^◌, Bool, true, false, List, [], ◌∷◌, ◌++◌, length, Option, Some, None, refl, sym, subst, inl, inr, arith}
+use Rattle.std.proofs.Common.{◌≡◌, ℕ, ◌<◌, Bool, true, false, List, [], ◌∷◌, ◌++◌, length, Option, Some, None, refl, sym, subst, inl, inr}
 use Rattle.std.specs.List.{All, flat_map, slice_get}
 use Rattle.std.specs.Option.{option_map_or}
 use Rattle.std.proofs.lemmas.List.Elements.{All-nil, All-cons, All-append, All-contains}
 use Rattle.std.proofs.lemmas.Bool.{cases_lt}
 use Rattle.std.proofs.lemmas.Option.{slice_get_within}
-use Rattle.kc_tree.specs.declared.id.SymId.{SymId}
-use Rattle.kc_tree.specs.declared.id.ChoiceId.{ChoiceId}
-use Rattle.kc_tree.specs.declared.expr.Term.{Term}
-use Rattle.kc_tree.specs.declared.expr.Term.TheVariants.{Tri, Text, Symbol, Undefined}
-use Rattle.kc_tree.specs.declared.expr.Expr.{Expr}
-use Rattle.kc_tree.specs.declared.definition.DefaultValue.{DefaultValue}
-use Rattle.kc_tree.specs.declared.definition.Range.{Range}
-use Rattle.kc_tree.specs.declared.choice.ChoiceDefault.{ChoiceDefault}
-use Rattle.kc_tree.specs.declared.symbol.Reverse.{Reverse}
-use Rattle.kc_tree.specs.declared.symbol.SymbolType.TheVariants.{Tristate}
+use Rattle.kc_statement.specs.declared.id.SymId.{SymId}
+use Rattle.kc_outline.specs.declared.id.ChoiceId.{ChoiceId}
+use Rattle.kc_statement.specs.declared.expr.Term.{Term}
+use Rattle.kc_statement.specs.declared.expr.Term.TheVariants.{Tri, Text, Symbol, Undefined}
+use Rattle.kc_statement.specs.declared.expr.Expr.{Expr}
+use Rattle.kc_statement.specs.declared.attribute.DefaultValue.{DefaultValue}
+use Rattle.kc_statement.specs.declared.attribute.Range.{Range}
+use Rattle.kc_outline.specs.declared.choice.ChoiceDefault.{ChoiceDefault}
+use Rattle.kc_outline.specs.declared.symbol.Reverse.{Reverse}
+use Rattle.kc_statement.specs.declared.symbol_type.SymbolType.TheVariants.{Tristate}
 use Rattle.kc_tree.specs.declared.node.Node.{Node}
 use Rattle.kc_tree.specs.declared.node.Node.TheVariants.{Vis, Val, Mode, Sel}
-use Rattle.kc_tree.specs.TreeOf.{same_type}
-use Rattle.kc_tree.specs.TreeValue.{TreeValue, SymbolValue, DefinitionValue, BlockValue, ChoiceValue, modules_symbol, kind_of, definitions_of, blocks_around}
-use Rattle.kc_tree.specs.Nodes.{IsNodeOf, number_in}
-use Rattle.kc_tree.specs.Grammar.{Formula, atom, compare, negation, group, both, either, formula}
-use Rattle.kc_tree.specs.Uses.{symbol_nodes, term_nodes, formula_nodes, value_nodes, modules_nodes, has_bare_module, nodes_if, condition_nodes, conditions_nodes, own_condition_nodes, depends_nodes, visible_nodes, dependency_nodes, prompt_nodes, default_nodes, range_nodes, definition_nodes, reverse_nodes, mode_nodes, selection_nodes, visibility_node, choice_prompt_nodes, choice_default_nodes, choice_value_nodes, type_nodes, visibility_nodes, free_value_nodes, symbol_value_nodes, used_nodes, Uses}
+use Rattle.kc_outline.specs.TreeOf.{same_type}
+use Rattle.kc_outline.specs.TreeValue.{TreeValue, SymbolValue, DefinitionValue, BlockValue, ChoiceValue, modules_symbol, kind_of, definitions_of, blocks_around}
+use Rattle.kc_tree.specs.Nodes.{IsNodeOf}
+use Rattle.kc_statement.specs.Grammar.{Formula, atom, bare, compare, negation, group, both, either, formula}
+use Rattle.kc_tree.specs.Uses.{symbol_nodes, term_nodes, formula_nodes, value_nodes, modules_nodes, nodes_if, conditions_nodes, own_condition_nodes, depends_nodes, visible_nodes, dependency_nodes, prompt_nodes, default_nodes, range_nodes, definition_nodes, reverse_nodes, mode_nodes, selection_nodes, visibility_node, choice_prompt_nodes, choice_default_nodes, choice_value_nodes, type_nodes, visibility_nodes, free_value_nodes, symbol_value_nodes, used_nodes, Uses}
 use Rattle.kc_tree.proofs.CollectedLaws.{one_within, none_past}
 
 -- lists of nodes of which something holds
@@ -60,14 +60,6 @@ module _ (t : TreeValue) (P : Node → Type 0) (val : (s : SymId) → s.0 < leng
   term (Symbol s) = symbol s
   term (Undefined w) = none P
 
-  value : (f : Formula) → Are P (formula_nodes t f)
-  value (atom x) = term x
-  value (compare c x y) = joined P (term_nodes t x) (term_nodes t y) (term x) (term y)
-  value (negation f) = value f
-  value (group f) = value f
-  value (both f g) = joined P (formula_nodes t f) (formula_nodes t g) (value f) (value g)
-  value (either f g) = joined P (formula_nodes t f) (formula_nodes t g) (value f) (value g)
-
   modules : Are P (modules_nodes t)
   modules = option P (symbol_nodes t) (modules_symbol t) symbol
 
@@ -75,11 +67,20 @@ module _ (t : TreeValue) (P : Node → Type 0) (val : (s : SymId) → s.0 < leng
   modules_if true = modules
   modules_if false = none P
 
-  condition : (e : Expr) → Are P (condition_nodes t e)
-  condition e = joined P (value_nodes t e) _ (value (formula e)) (modules_if (has_bare_module (formula e)))
+  value : (f : Formula) → Are P (formula_nodes t f)
+  value (atom x) = term x
+  value (bare x) = modules
+  value (compare c x y) = joined P (term_nodes t x) (term_nodes t y) (term x) (term y)
+  value (negation f) = value f
+  value (group f) = value f
+  value (both f g) = joined P (formula_nodes t f) (formula_nodes t g) (value f) (value g)
+  value (either f g) = joined P (formula_nodes t f) (formula_nodes t g) (value f) (value g)
+
+  condition : (e : Expr) → Are P (value_nodes t e)
+  condition e = value (formula e)
 
   pub conditions : (es : List Expr) → Are P (conditions_nodes t es)
-  conditions es = flat P (condition_nodes t) es condition
+  conditions es = flat P (value_nodes t) es condition
 
   pub own_condition : (o : Option Expr) → Are P (own_condition_nodes t o)
   own_condition None = none P
@@ -170,10 +171,3 @@ used_nodes_within t n = used t (λ m. IsNodeOf t m) (λ s h. h) (λ s h. h) (λ 
 pub used_within : (t : TreeValue) (n m : Node) → IsNodeOf t n → Uses t n m → IsNodeOf t m
 unfolding Uses
 used_within t n m i u = All-contains (λ x. IsNodeOf t x) (used_nodes t n) m (used_nodes_within t n) u
-
--- the numbers of nodes of the tree are small
-pub conditions_small : (t : TreeValue) (es : List Expr) → length t.symbols ≤ 65535 → All (λ n. number_in (length t.symbols) n < 2 ^ 32) (conditions_nodes t es)
-conditions_small t es h = conditions t (λ n. number_in (length t.symbols) n < 2 ^ 32) (λ s i. omega (arith, h, i)) es
-
-pub used_small : (t : TreeValue) (n : Node) → length t.symbols ≤ 65535 → length t.choices ≤ 2 ^ 30 → All (λ m. number_in (length t.symbols) m < 2 ^ 32) (used_nodes t n)
-used_small t n h k = used t (λ m. number_in (length t.symbols) m < 2 ^ 32) (λ s i. omega (arith, h, i)) (λ s i. omega (arith, h, i)) (λ c i. omega (arith, h, k, i)) (λ c i. omega (arith, h, k, i)) n

@@ -1,21 +1,11 @@
 -- What is known of every tree that was read: this project's own.
-use Rattle.std.specs.Prelude.{◌≡◌, ◌≤◌, ◌<◌, ◌^◌, List, length, All, Contains, slice_index_or, [], ◌↔◌}
+use Rattle.std.specs.Prelude.{◌≡◌, ◌≤◌, ◌^◌, List, length, All, Contains, slice_index_or, [], ◌↔◌}
 use Rattle.kc_tree.specs.declared.node.Node.{Node}
-use Rattle.kc_tree.specs.declared.tree.Entry.{Entry}
-use Rattle.kc_tree.specs.declared.tree.Entry.TheVariants.{Symbol, Again, Menu, EndMenu, Choice, Comment}
-use Rattle.kc_tree.specs.TreeValue.{TreeValue}
+use Rattle.kc_outline.specs.TreeValue.{TreeValue}
+use Rattle.kc_outline.specs.Entries.{IsEntryOf}
 use Rattle.kc_tree.specs.Nodes.{IsNodeOf, node_count, number_of}
 use Rattle.kc_tree.specs.Uses.{Uses}
 use Rattle.kc_tree.specs.Order.{IsOrder}
-
--- an entry of a symbol names one of the tree
-abbrev pub IsEntryOf : TreeValue → Entry → Type 0
-IsEntryOf t (Symbol s) = s.0 < length t.symbols
-IsEntryOf t (Again s) = s.0 < length t.symbols
-IsEntryOf t (Menu b) = Unit {0}
-IsEntryOf t (EndMenu b) = Unit {0}
-IsEntryOf t (Choice c) = Unit {0}
-IsEntryOf t (Comment c) = Unit {0}
 
 -- symbols and choices, no more than their nodes have numbers for, each symbol with a name; the uses of a node are nodes; the nodes have an order; each entry of a
 -- symbol names one

@@ -1,12 +1,14 @@
 -- What is wrong with a choice: this project's own list, after kconfig-language.rst, "choices".
-use Rattle.std.specs.Prelude.{◌==◌, Bool, false, not, ◌||◌, Option, Some, None, is_some, option_map, length, find, slice_get}
+use Rattle.std.specs.Prelude.{ℕ, ◌==◌, Bool, false, not, List, Option, Some, None, if◌then◌else◌, is_some, option_map, option_and_then, length, find, slice_get}
 use Rattle.std.specs.Option.{option_map_or}
 use Rattle.std.specs.List.{list_any, range_with_len}
-use Rattle.kc_tree.specs.declared.id.SymId.{SymId}
-use Rattle.kc_tree.specs.declared.id.ChoiceId.{ChoiceId}
-use Rattle.kc_tree.specs.declared.symbol.SymbolType.TheVariants.{Bool as BoolType}
-use Rattle.kc_tree.specs.TreeOf.{same_type}
-use Rattle.kc_tree.specs.TreeValue.{TreeValue, SymbolValue, ChoiceValue, kind_of, choice_of, definitions_of}
+use Rattle.kc_statement.specs.declared.id.SymId.{SymId}
+use Rattle.kc_outline.specs.declared.id.ChoiceId.{ChoiceId}
+use Rattle.kc_statement.specs.declared.symbol_type.SymbolType.TheVariants.{Bool as BoolType}
+use Rattle.kc_outline.specs.TreeOf.{same_type}
+use Rattle.kc_outline.specs.TreeValue.{TreeValue, SymbolValue, ChoiceValue, kind_of, choice_of, definitions_of}
+use Rattle.kc_tree.specs.declared.fault.ChoiceProblem.{ChoiceProblem}
+use Rattle.kc_tree.specs.declared.fault.ChoiceProblem.TheVariants.{NoPrompt, SecondPrompt, ForeignDefault, MemberType, MemberWithoutPrompt, MemberDefinedAgain}
 
 abbrev pub same_choice : ChoiceId → Option ChoiceId → Bool
 same_choice c None = false
@@ -20,20 +22,42 @@ is_member t c (Some s) = same_choice c (choice_of t s)
 abbrev pub has_prompt : TreeValue → SymbolValue → Bool
 has_prompt t x = list_any (λ d. is_some d.prompt) (definitions_of t x)
 
--- no bool, without prompt, or defined more than once
-abbrev pub is_bad_symbol : TreeValue → SymbolValue → Bool
-is_bad_symbol t x = not (same_type (kind_of x) BoolType) || not (has_prompt t x) || not (length x.definitions == 1)
+-- ---- what a member may not be
+abbrev pub is_of_other_type : TreeValue → SymbolValue → Bool
+is_of_other_type t x = not (same_type (kind_of x) BoolType)
 
-abbrev pub is_bad_member : TreeValue → SymId → Bool
-is_bad_member t s = option_map_or (is_bad_symbol t) (slice_get t.symbols s.0) false
+abbrev pub lacks_prompt : TreeValue → SymbolValue → Bool
+lacks_prompt t x = not (has_prompt t x)
 
--- without prompt or with two, with a default that is no member, or with a bad member
-abbrev pub is_bad_choice : TreeValue → ChoiceId → ChoiceValue → Bool
-is_bad_choice t c x =
-    not (is_some x.prompt) || x.has_second_prompt || list_any (λ d. not (is_member t c d.symbol)) x.defaults
-    || list_any (is_bad_member t) x.members
+abbrev pub is_defined_again : TreeValue → SymbolValue → Bool
+is_defined_again t x = not (length x.definitions == 1)
 
--- the first choice with a fault
-abbrev pub choice_fault : TreeValue → Option ChoiceId
-choice_fault t = option_map (λ k. record { 0 = k })
-    (find (λ k. option_map_or (is_bad_choice t (record { 0 = k })) (slice_get t.choices k) false) (range_with_len 0 (length t.choices)))
+-- a test of the symbol of a number
+abbrev pub symbol_has : TreeValue → (TreeValue → SymbolValue → Bool) → SymId → Bool
+symbol_has t test s = option_map_or (test t) (slice_get t.symbols s.0) false
+
+-- each is sought among all members before the next
+abbrev pub member_problem : TreeValue → List SymId → Option ChoiceProblem
+member_problem t members =
+    if list_any (symbol_has t is_of_other_type) members then Some MemberType
+    else (if list_any (symbol_has t lacks_prompt) members then Some MemberWithoutPrompt
+    else (if list_any (symbol_has t is_defined_again) members then Some MemberDefinedAgain else None))
+
+-- ---- choices
+-- without prompt, with two, with a default that is no member, or with a bad member
+abbrev pub choice_problem : TreeValue → ChoiceId → ChoiceValue → Option ChoiceProblem
+choice_problem t c x =
+    if not (is_some x.prompt) then Some NoPrompt
+    else (if x.has_second_prompt then Some SecondPrompt
+    else (if list_any (λ d. not (is_member t c d.symbol)) x.defaults then Some ForeignDefault
+    else member_problem t x.members))
+
+-- the problem of the choice of a number
+abbrev pub problem_at : TreeValue → ℕ → Option ChoiceProblem
+problem_at t k = option_and_then (choice_problem t (record { 0 = k })) (slice_get t.choices k)
+
+-- the first choice with a problem
+abbrev pub choice_fault : TreeValue → Option (ChoiceProblem × ChoiceId)
+choice_fault t =
+    option_and_then (λ k. option_map (λ p. (p, record { 0 = k })) (problem_at t k))
+    (find (λ k. is_some (problem_at t k)) (range_with_len 0 (length t.choices)))

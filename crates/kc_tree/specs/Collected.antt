@@ -2,13 +2,12 @@
 use Rattle.std.specs.Prelude.{◌≡◌, ℕ, zero, suc, ◌==◌, Bool, ◌||◌, List, [], ◌∷◌, ◌++◌, Option, Some, None, map, length, flat_map, slice_get, slice_index_or}
 use Rattle.std.specs.Option.{option_map_or}
 use Rattle.std.specs.List.{list_any}
-use Rattle.kc_tree.specs.declared.id.BlockId.{BlockId}
-use Rattle.kc_tree.specs.declared.symbol.Reverse.{Reverse}
+use Rattle.kc_outline.specs.declared.id.BlockId.{BlockId}
+use Rattle.kc_outline.specs.declared.symbol.Reverse.{Reverse}
 use Rattle.kc_tree.specs.declared.node.Node.{Node}
 use Rattle.kc_tree.specs.declared.node.Node.TheVariants.{Vis, Val, Mode, Sel}
-use Rattle.kc_tree.specs.TreeValue.{TreeValue, BlockValue, blocks_around}
+use Rattle.kc_outline.specs.TreeValue.{TreeValue, BlockValue, blocks_around}
 use Rattle.kc_tree.specs.Nodes.{number_in}
-use Rattle.kc_tree.specs.NodeRows.{AreNumbered}
 use Rattle.kc_tree.specs.Uses.{symbol_nodes, conditions_nodes, own_condition_nodes, dependency_nodes, depends_nodes, visible_nodes, default_nodes, range_nodes, used_nodes}
 
 -- a number is in the row
@@ -31,11 +30,10 @@ pub record HaveSame (xs ys : List ℕ) : Type 0 where
 pub record HasNodes (symbols : ℕ) (nodes : List Node) (row : List ℕ) : Type 0 where
   pub has : (k : ℕ) → has_number row k ≡ has_node symbols nodes k
 
--- each row of a table has just the nodes of its list, as they are numbered
-pub record Holds (symbols : ℕ) (lists rows : List (List Node)) : Type 0 where
+-- each row of a table has just the numbers of the nodes of its list
+pub record Holds (symbols : ℕ) (lists : List (List Node)) (rows : List (List ℕ)) : Type 0 where
   pub whole : length rows ≡ length lists
-  pub each : (j k : ℕ) → has_node symbols (slice_index_or rows j []) k ≡ has_node symbols (slice_index_or lists j []) k
-  pub numbered : AreNumbered symbols rows
+  pub each : (j k : ℕ) → has_number (slice_index_or rows j []) k ≡ has_node symbols (slice_index_or lists j []) k
 
 -- ---- what is collected once
 -- what the own `depends on` lines of each definition read

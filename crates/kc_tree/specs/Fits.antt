@@ -1,14 +1,14 @@
 -- Which user values a symbol takes: kconfig-language.rst, "Menu attributes".
 use Rattle.std.specs.Prelude.{Bool, true, false, not, ◌&&◌, is_some, slice_get}
 use Rattle.std.specs.Option.{option_map_or}
-use Rattle.kc_tree.specs.declared.id.SymId.{SymId}
-use Rattle.kc_tree.specs.declared.tri.Tri.TheVariants.{No, Module, Yes}
-use Rattle.kc_tree.specs.declared.symbol.SymbolType.{SymbolType}
-use Rattle.kc_tree.specs.declared.symbol.SymbolType.TheVariants as kind
+use Rattle.kc_statement.specs.declared.id.SymId.{SymId}
+use Rattle.kc_statement.specs.declared.tri.Tri.TheVariants.{No, Module, Yes}
+use Rattle.kc_statement.specs.declared.symbol_type.SymbolType.{SymbolType}
+use Rattle.kc_statement.specs.declared.symbol_type.SymbolType.TheVariants as kind
 use Rattle.kc_tree.specs.declared.user_value.UserVal.{UserVal}
 use Rattle.kc_tree.specs.declared.user_value.UserVal.TheVariants.{Tri, Text}
-use Rattle.kc_tree.specs.Numerals.{numeral_in}
-use Rattle.kc_tree.specs.TreeValue.{TreeValue, kind_of}
+use Rattle.kc_statement.specs.Numerals.{numeral_in}
+use Rattle.kc_outline.specs.TreeValue.{TreeValue, kind_of}
 
 -- a bool takes n and y, a tristate m too, a string all texts, an int and a hex the numerals of their types
 abbrev pub fits_type : SymbolType → UserVal → Bool

@@ -1,9 +1,9 @@
 -- The graph of the nodes of a tree, by number: this project's own.
 use Rattle.std.specs.Prelude.{◌≡◌, ℕ, List, length, ◌↔◌}
-use Rattle.kc_tree.specs.TreeValue.{TreeValue}
+use Rattle.kc_outline.specs.TreeValue.{TreeValue}
 use Rattle.kc_tree.specs.Nodes.{node_at, node_count}
 use Rattle.kc_tree.specs.Uses.{Uses}
-use Rattle.kc_tree.specs.Graph as graph
+use Rattle.kc_graph.specs.Graph as graph
 
 -- each node has a row, and a row has the numbers of just the nodes that its node is computed from
 pub record IsGraphOf (t : TreeValue) (g : List (List ℕ)) : Type 0 where

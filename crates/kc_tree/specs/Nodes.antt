@@ -1,9 +1,9 @@
 -- The nodes of a tree and their numbers: this project's own.
-use Rattle.std.specs.Prelude.{ℕ, ◌+◌, ◌-◌, ◌*◌, ◌/◌, ◌%◌, ◌<◌, ◌==◌, if◌then◌else◌, nat_lt, List, length, map}
+use Rattle.std.specs.Prelude.{◌≡◌, ℕ, ◌+◌, ◌-◌, ◌*◌, ◌/◌, ◌%◌, ◌<◌, ◌==◌, if◌then◌else◌, nat_lt, List, length, map}
 use Rattle.std.specs.List.{range_with_len}
 use Rattle.kc_tree.specs.declared.node.Node.{Node}
 use Rattle.kc_tree.specs.declared.node.Node.TheVariants.{Vis, Val, Mode, Sel}
-use Rattle.kc_tree.specs.TreeValue.{TreeValue, name_of, choice_title}
+use Rattle.kc_outline.specs.TreeValue.{TreeValue, name_of, choice_title}
 
 -- In a tree of so many symbols: the visibility of symbol k has the number 2 k, its value 2 k + 1. The mode and the
 -- selection of each choice follow those of all symbols, in the same way.
@@ -21,6 +21,10 @@ choice_node k = if k % 2 == 0 then Mode (record { 0 = k / 2 }) else Sel (record 
 
 abbrev pub node_in : ℕ → ℕ → Node
 node_in symbols k = if nat_lt k (2 * symbols) then symbol_node k else choice_node (k - 2 * symbols)
+
+-- the node is the one of its number, in a tree of so many symbols
+abbrev pub IsNumbered : ℕ → Node → Type 0
+IsNumbered symbols n = node_in symbols (number_in symbols n) ≡ n
 
 abbrev pub number_of : TreeValue → Node → ℕ
 number_of t n = number_in (length t.symbols) n

@@ -1,7 +1,7 @@
 -- Which nodes a node is computed from through others: this project's own.
 use Rattle.std.specs.Prelude.{List, Contains}
 use Rattle.kc_tree.specs.declared.node.Node.{Node}
-use Rattle.kc_tree.specs.TreeValue.{TreeValue}
+use Rattle.kc_outline.specs.TreeValue.{TreeValue}
 use Rattle.kc_tree.specs.Uses.{Uses}
 
 -- a walk along Uses, of any length, leads from the one node to the other

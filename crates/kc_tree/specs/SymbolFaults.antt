@@ -4,22 +4,22 @@ use Rattle.std.specs.Prelude.{ℕ, ◌==◌, Bool, true, false, not, ◌&&◌, �
 use Rattle.std.specs.Option.{option_map_or, option_or}
 use Rattle.std.specs.List.{list_any, range_with_len}
 use Rattle.std.specs.Str.{bytes_eq}
-use Rattle.kc_tree.specs.declared.id.SymId.{SymId}
-use Rattle.kc_tree.specs.declared.symbol.SymbolType.{SymbolType}
-use Rattle.kc_tree.specs.declared.symbol.SymbolType.TheVariants as kind
-use Rattle.kc_tree.specs.declared.symbol.SymbolType.TheVariants.{Bool as BoolType}
-use Rattle.kc_tree.specs.declared.symbol.Reverse.{Reverse}
-use Rattle.kc_tree.specs.declared.definition.DefaultValue.{DefaultValue}
-use Rattle.kc_tree.specs.declared.definition.Range.{Range}
-use Rattle.kc_tree.specs.declared.expr.Term.{Term}
-use Rattle.kc_tree.specs.declared.expr.Term.TheVariants.{Tri, Text, Symbol, Undefined}
-use Rattle.kc_tree.specs.declared.fault.TreeProblem.{TreeProblem}
-use Rattle.kc_tree.specs.declared.fault.TreeProblem.TheVariants.{NoType, TypeConflict, SecondPrompt, UnfitDefault, UnfitSelect, BadModules}
+use Rattle.kc_statement.specs.declared.id.SymId.{SymId}
+use Rattle.kc_statement.specs.declared.symbol_type.SymbolType.{SymbolType}
+use Rattle.kc_statement.specs.declared.symbol_type.SymbolType.TheVariants as kind
+use Rattle.kc_statement.specs.declared.symbol_type.SymbolType.TheVariants.{Bool as BoolType}
+use Rattle.kc_outline.specs.declared.symbol.Reverse.{Reverse}
+use Rattle.kc_statement.specs.declared.attribute.DefaultValue.{DefaultValue}
+use Rattle.kc_statement.specs.declared.attribute.Range.{Range}
+use Rattle.kc_statement.specs.declared.expr.Term.{Term}
+use Rattle.kc_statement.specs.declared.expr.Term.TheVariants.{Tri, Text, Symbol, Undefined}
+use Rattle.kc_tree.specs.declared.fault.SymbolProblem.{SymbolProblem}
+use Rattle.kc_tree.specs.declared.fault.SymbolProblem.TheVariants.{NoType, TypeConflict, SecondPrompt, UnfitDefault, UnfitSelect, BadModules}
 use Rattle.std.specs.Char.{is_ascii_digit}
-use Rattle.kc_tree.specs.Grammar.{formula, lone_term}
-use Rattle.kc_tree.specs.Numerals.{numeral_in}
-use Rattle.kc_tree.specs.TreeOf.{same_type}
-use Rattle.kc_tree.specs.TreeValue.{TreeValue, SymbolValue, DefinitionValue, kind_of, name_of, definitions_of}
+use Rattle.kc_statement.specs.Grammar.{lone_term}
+use Rattle.kc_statement.specs.Numerals.{numeral_in}
+use Rattle.kc_outline.specs.TreeOf.{same_type}
+use Rattle.kc_outline.specs.TreeValue.{TreeValue, SymbolValue, DefinitionValue, kind_of, name_of, definitions_of}
 
 -- no definition gives it a type; a member of a choice is a bool then
 abbrev pub lacks_type : TreeValue → SymId → SymbolValue → Bool
@@ -62,7 +62,7 @@ is_unfit_value kind.Int x = option_map_or (is_unfit_term kind.Int) x true
 is_unfit_value kind.Hex x = option_map_or (is_unfit_term kind.Hex) x true
 
 abbrev pub is_unfit_default : SymbolType → DefaultValue → Bool
-is_unfit_default k d = is_unfit_value k (lone_term (formula d.value))
+is_unfit_default k d = is_unfit_value k (lone_term d.value)
 
 -- an int and a hex alone have ranges
 abbrev pub is_unfit_range : SymbolType → Range → Bool
@@ -82,8 +82,8 @@ is_empty [] = true
 is_empty (r ∷ rs) = false
 
 -- a string, an int or a hex that selects or implies, or that is selected or implied
-abbrev pub has_unfit_select : TreeValue → SymId → SymbolValue → Bool
-has_unfit_select t s x =
+abbrev pub has_unfit_select : SymbolValue → Bool
+has_unfit_select x =
     not (is_tri_type (kind_of x)) && (x.has_selections || not (is_empty x.selected) || not (is_empty x.implied))
 
 -- MODULES is no bool, or another symbol has `modules`
@@ -96,18 +96,18 @@ abbrev pub first_symbol : TreeValue → (TreeValue → SymId → SymbolValue →
 first_symbol t test =
     find (λ k. option_map_or (test t (record { 0 = k })) (slice_get t.symbols k) false) (range_with_len 0 (length t.symbols))
 
-abbrev pub fault_by : TreeValue → TreeProblem → (TreeValue → SymId → SymbolValue → Bool) → Option (TreeProblem × SymId)
+abbrev pub fault_by : TreeValue → SymbolProblem → (TreeValue → SymId → SymbolValue → Bool) → Option (SymbolProblem × SymId)
 fault_by t problem test = option_map (λ k. (problem, record { 0 = k })) (first_symbol t test)
 
 -- the first of these faults of a symbol, if there is one
-abbrev pub symbol_fault : TreeValue → Option (TreeProblem × SymId)
+abbrev pub symbol_fault : TreeValue → Option (SymbolProblem × SymId)
 symbol_fault t =
     option_or (fault_by t NoType lacks_type)
     (option_or (fault_by t TypeConflict has_types)
     (option_or (fault_by t SecondPrompt has_two_prompts)
     (option_or (fault_by t UnfitDefault has_unfit_default)
-    (fault_by t UnfitSelect has_unfit_select))))
+    (fault_by t UnfitSelect (λ t s. has_unfit_select)))))
 
 -- and the last, which comes after those of choices
-abbrev pub modules_fault : TreeValue → Option (TreeProblem × SymId)
+abbrev pub modules_fault : TreeValue → Option (SymbolProblem × SymId)
 modules_fault t = fault_by t BadModules is_bad_modules

@@ -1,23 +1,21 @@
 -- Which nodes a node is computed from: kconfig-language.rst, "Menu dependencies" and "Menu attributes".
-use Rattle.std.specs.Prelude.{Bool, true, false, ◌||◌, List, [], ◌∷◌, ◌++◌, Option, Some, None, Contains, flat_map, slice_get, codes}
+use Rattle.std.specs.Prelude.{Bool, true, false, List, [], ◌∷◌, ◌++◌, Option, Some, None, Contains, flat_map, slice_get}
 use Rattle.std.specs.Option.{option_map_or}
-use Rattle.std.specs.Str.{bytes_eq}
-use Rattle.kc_tree.specs.declared.id.SymId.{SymId}
-use Rattle.kc_tree.specs.declared.id.ChoiceId.{ChoiceId}
-use Rattle.kc_tree.specs.declared.tri.Tri.TheVariants.{No, Module, Yes}
-use Rattle.kc_tree.specs.declared.expr.Term.{Term}
-use Rattle.kc_tree.specs.declared.expr.Term.TheVariants.{Tri, Text, Symbol, Undefined}
-use Rattle.kc_tree.specs.declared.expr.Expr.{Expr}
-use Rattle.kc_tree.specs.declared.definition.DefaultValue.{DefaultValue}
-use Rattle.kc_tree.specs.declared.definition.Range.{Range}
-use Rattle.kc_tree.specs.declared.choice.ChoiceDefault.{ChoiceDefault}
-use Rattle.kc_tree.specs.declared.symbol.Reverse.{Reverse}
-use Rattle.kc_tree.specs.declared.symbol.SymbolType.TheVariants.{Tristate}
+use Rattle.kc_statement.specs.declared.id.SymId.{SymId}
+use Rattle.kc_outline.specs.declared.id.ChoiceId.{ChoiceId}
+use Rattle.kc_statement.specs.declared.expr.Term.{Term}
+use Rattle.kc_statement.specs.declared.expr.Term.TheVariants.{Tri, Text, Symbol, Undefined}
+use Rattle.kc_statement.specs.declared.expr.Expr.{Expr}
+use Rattle.kc_statement.specs.declared.attribute.DefaultValue.{DefaultValue}
+use Rattle.kc_statement.specs.declared.attribute.Range.{Range}
+use Rattle.kc_outline.specs.declared.choice.ChoiceDefault.{ChoiceDefault}
+use Rattle.kc_outline.specs.declared.symbol.Reverse.{Reverse}
+use Rattle.kc_statement.specs.declared.symbol_type.SymbolType.TheVariants.{Tristate}
 use Rattle.kc_tree.specs.declared.node.Node.{Node}
 use Rattle.kc_tree.specs.declared.node.Node.TheVariants.{Vis, Val, Mode, Sel}
-use Rattle.kc_tree.specs.Grammar.{Formula, atom, compare, negation, group, both, either, formula}
-use Rattle.kc_tree.specs.TreeOf.{same_type}
-use Rattle.kc_tree.specs.TreeValue.{TreeValue, SymbolValue, DefinitionValue, BlockValue, ChoiceValue, modules_symbol, kind_of, definitions_of, blocks_around}
+use Rattle.kc_statement.specs.Grammar.{Formula, atom, bare, compare, negation, group, both, either, formula}
+use Rattle.kc_outline.specs.TreeOf.{same_type}
+use Rattle.kc_outline.specs.TreeValue.{TreeValue, SymbolValue, DefinitionValue, BlockValue, ChoiceValue, modules_symbol, kind_of, definitions_of, blocks_around}
 
 -- ---- what an expression reads
 -- the value of a symbol of the tree
@@ -31,52 +29,30 @@ term_nodes t (Text w) = []
 term_nodes t (Symbol s) = symbol_nodes t s
 term_nodes t (Undefined w) = []
 
+-- the value of MODULES, where it is defined
+abbrev pub modules_nodes : TreeValue → List Node
+modules_nodes t = option_map_or (symbol_nodes t) (modules_symbol t) []
+
+-- a bare m means `m && MODULES`
 abbrev pub formula_nodes : TreeValue → Formula → List Node
 formula_nodes t (atom x) = term_nodes t x
+formula_nodes t (bare x) = modules_nodes t
 formula_nodes t (compare c x y) = term_nodes t x ++ term_nodes t y
 formula_nodes t (negation f) = formula_nodes t f
 formula_nodes t (group f) = formula_nodes t f
 formula_nodes t (both f g) = formula_nodes t f ++ formula_nodes t g
 formula_nodes t (either f g) = formula_nodes t f ++ formula_nodes t g
 
+-- of the value of a default and of a condition alike
 abbrev pub value_nodes : TreeValue → Expr → List Node
 value_nodes t e = formula_nodes t (formula e)
 
--- the value of MODULES, where it is defined
-abbrev pub modules_nodes : TreeValue → List Node
-modules_nodes t = option_map_or (symbol_nodes t) (modules_symbol t) []
-
-abbrev pub is_module_term : Term → Bool
-is_module_term (Tri Module) = true
-is_module_term (Tri No) = false
-is_module_term (Tri Yes) = false
-is_module_term (Text w) = bytes_eq w (codes "m")
-is_module_term (Symbol s) = false
-is_module_term (Undefined w) = false
-
--- whether `m` stands alone in it, not in a comparison
-abbrev pub has_bare_module : Formula → Bool
-has_bare_module (atom x) = is_module_term x
-has_bare_module (compare c x y) = false
-has_bare_module (negation f) = has_bare_module f
-has_bare_module (group f) = has_bare_module f
-has_bare_module (both f g) = has_bare_module f || has_bare_module g
-has_bare_module (either f g) = has_bare_module f || has_bare_module g
-
--- a condition reads MODULES too where `m` stands alone in it
-abbrev pub nodes_if : Bool → List Node → List Node
-nodes_if true nodes = nodes
-nodes_if false nodes = []
-
-abbrev pub condition_nodes : TreeValue → Expr → List Node
-condition_nodes t e = value_nodes t e ++ nodes_if (has_bare_module (formula e)) (modules_nodes t)
-
 abbrev pub conditions_nodes : TreeValue → List Expr → List Node
-conditions_nodes t es = flat_map (condition_nodes t) es
+conditions_nodes t es = flat_map (value_nodes t) es
 
 abbrev pub own_condition_nodes : TreeValue → Option Expr → List Node
 own_condition_nodes t None = []
-own_condition_nodes t (Some e) = condition_nodes t e
+own_condition_nodes t (Some e) = value_nodes t e
 
 -- ---- what the parts of a definition read
 -- what all inside some blocks depends on
@@ -140,6 +116,10 @@ choice_value_nodes t c x =
     mode_nodes t c ++ (flat_map (visibility_node t) x.members ++ flat_map (choice_default_nodes t) x.defaults)
 
 -- ---- what a node is computed from
+abbrev pub nodes_if : Bool → List Node → List Node
+nodes_if true nodes = nodes
+nodes_if false nodes = []
+
 -- a tristate acts as bool where there are no modules
 abbrev pub type_nodes : TreeValue → SymbolValue → List Node
 type_nodes t x = nodes_if (same_type (kind_of x) Tristate) (modules_nodes t)

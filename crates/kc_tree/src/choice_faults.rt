@@ -1,21 +1,20 @@
 //! What is wrong with a choice.
 
-ghost use Rattle.std.specs.Prelude.{◌≡◌, ◌<◌, ◌≤◌, ◌^◌, false, is_some, length, not, slice_get};
+ghost use Rattle.std.specs.Prelude.{◌≡◌, ◌<◌, ◌≤◌, ◌^◌, IfSome, false, is_some, length, not, slice_get};
 ghost use Rattle.std.specs.List.{list_any};
 ghost use Rattle.std.specs.Option.{option_map_or};
-ghost use Rattle.kc_tree.specs.TreeValue.{choice_of};
-ghost use Rattle.kc_tree.specs.ChoiceFaults.{choice_fault, has_prompt, is_bad_choice, is_bad_member, is_bad_symbol, is_member};
+ghost use Rattle.kc_outline.specs.TreeValue.{choice_of};
+ghost use Rattle.kc_tree.specs.ChoiceFaults.{choice_fault, choice_problem, has_prompt, is_member, is_of_other_type, lacks_prompt, is_defined_again, member_problem, problem_at, symbol_has};
 
-use crate::choice::{Choice, ChoiceDefault};
-use crate::id::{ChoiceId, SymId};
-use crate::outline::Outline;
-use crate::symbol::{Symbol, SymbolType};
+use crate::fault::ChoiceProblem;
+use kc_outline::{Choice, ChoiceDefault, ChoiceId, Outline, Symbol};
+use kc_statement::{SymId, SymbolType};
 
 /// The choice that a symbol is a member of.
 fn choice_of(outline: &Outline, symbol: SymId) -> Option<ChoiceId>
     ensures { result ≡ choice_of outline.now symbol }
 {
-    let symbol = outline.symbols.get(symbol.0 as usize)?;
+    let symbol = outline.symbols().get(symbol.0 as usize)?;
     symbol.choice()
 }
 
@@ -33,7 +32,7 @@ fn is_member(outline: &Outline, choice: ChoiceId, symbol: Option<SymId>) -> bool
 fn is_prompted(outline: &Outline, definition: usize) -> bool
     ensures { result ≡ option_map_or (λ d. is_some d.prompt) (slice_get outline.now.definitions definition) false }
 {
-    match outline.definitions.get(definition) {
+    match outline.definitions().get(definition) {
         Some(definition) => definition.prompt().is_some(),
         None => false,
     }
@@ -51,27 +50,38 @@ fn has_prompt(outline: &Outline, symbol: &Symbol) -> bool
     false
 }
 
-/// Whether a symbol can't be a member: it is no bool, has no prompt, or more than one definition.
-fn is_bad_symbol(outline: &Outline, symbol: &Symbol) -> bool
-    ensures { result ≡ is_bad_symbol outline.now symbol.now }
+/// Whether the symbol of a number is no bool.
+fn is_of_other_type(outline: &Outline, symbol: SymId) -> bool
+    ensures { result ≡ symbol_has outline.now is_of_other_type symbol }
 {
-    !matches!(symbol.kind(), SymbolType::Bool)
-        || !has_prompt(outline, symbol)
-        || symbol.definitions().len() != 1
+    match outline.symbols().get(symbol.0 as usize) {
+        Some(symbol) => !matches!(symbol.kind(), SymbolType::Bool),
+        None => false,
+    }
 }
 
-/// Whether the symbol of a number can't be a member.
-fn is_bad_member(outline: &Outline, symbol: SymId) -> bool
-    ensures { result ≡ is_bad_member outline.now symbol }
+/// Whether the symbol of a number has no prompt.
+fn lacks_prompt(outline: &Outline, symbol: SymId) -> bool
+    ensures { result ≡ symbol_has outline.now lacks_prompt symbol }
 {
-    match outline.symbols.get(symbol.0 as usize) {
-        Some(symbol) => is_bad_symbol(outline, symbol),
+    match outline.symbols().get(symbol.0 as usize) {
+        Some(symbol) => !has_prompt(outline, symbol),
+        None => false,
+    }
+}
+
+/// Whether the symbol of a number has another count of definitions than one.
+fn is_defined_again(outline: &Outline, symbol: SymId) -> bool
+    ensures { result ≡ symbol_has outline.now is_defined_again symbol }
+{
+    match outline.symbols().get(symbol.0 as usize) {
+        Some(symbol) => symbol.definitions().len() != 1,
         None => false,
     }
 }
 
 /// Whether one of some defaults names no member.
-fn has_bad_default(outline: &Outline, choice: ChoiceId, defaults: &[ChoiceDefault]) -> bool
+fn has_foreign_default(outline: &Outline, choice: ChoiceId, defaults: &[ChoiceDefault]) -> bool
     ensures { result ≡ list_any (λ d. not (is_member outline.now choice d.symbol)) defaults.now }
 {
     defaults
@@ -79,42 +89,76 @@ fn has_bad_default(outline: &Outline, choice: ChoiceId, defaults: &[ChoiceDefaul
         .any(|default| !is_member(outline, choice, default.symbol))
 }
 
-/// Whether one of some members can't be one.
-fn has_bad_member(outline: &Outline, members: &[SymId]) -> bool
-    ensures { result ≡ list_any (is_bad_member outline.now) members.now }
+/// Whether one of some members is no bool.
+fn has_other_type(outline: &Outline, members: &[SymId]) -> bool
+    ensures { result ≡ list_any (symbol_has outline.now is_of_other_type) members.now }
 {
-    members.iter().any(|member| is_bad_member(outline, *member))
+    members.iter().any(|member| is_of_other_type(outline, *member))
 }
 
-/// Whether a choice of a number has a fault.
-fn is_bad_choice(outline: &Outline, id: ChoiceId, choice: &Choice) -> bool
-    ensures { result ≡ is_bad_choice outline.now id choice.now }
+/// Whether one of some members has no prompt.
+fn has_no_prompt(outline: &Outline, members: &[SymId]) -> bool
+    ensures { result ≡ list_any (symbol_has outline.now lacks_prompt) members.now }
 {
-    choice.prompt().is_none()
-        || choice.has_second_prompt
-        || has_bad_default(outline, id, choice.defaults())
-        || has_bad_member(outline, choice.members())
+    members.iter().any(|member| lacks_prompt(outline, *member))
 }
 
-/// Whether the choice of a number has a fault.
-fn has_fault(outline: &Outline, number: usize) -> bool
-    requires { number < 2 ^ 32 }
-    ensures { result ≡ option_map_or (is_bad_choice outline.now (record { 0 = number })) (slice_get outline.now.choices number) false }
+/// Whether one of some members is defined again.
+fn has_other_definition(outline: &Outline, members: &[SymId]) -> bool
+    ensures { result ≡ list_any (symbol_has outline.now is_defined_again) members.now }
 {
-    match outline.choices.get(number) {
-        Some(choice) => is_bad_choice(outline, ChoiceId(number as u32), choice),
-        None => false,
+    members.iter().any(|member| is_defined_again(outline, *member))
+}
+
+/// The first problem of the members of a choice, where each is sought among all members before the next.
+fn member_problem(outline: &Outline, members: &[SymId]) -> Option<ChoiceProblem>
+    ensures { result ≡ member_problem outline.now members.now }
+{
+    if has_other_type(outline, members) {
+        Some(ChoiceProblem::MemberType)
+    } else if has_no_prompt(outline, members) {
+        Some(ChoiceProblem::MemberWithoutPrompt)
+    } else if has_other_definition(outline, members) {
+        Some(ChoiceProblem::MemberDefinedAgain)
+    } else {
+        None
     }
 }
 
-/// The first choice with a fault, if there is one.
-pub(crate) fn choice_fault(outline: &Outline) -> Option<ChoiceId>
-    requires { length outline.now.choices ≤ 2 ^ 30 }
-    ensures { result ≡ choice_fault outline.now }
+/// The first problem of a choice of a number, if it has one.
+fn problem_of(outline: &Outline, id: ChoiceId, choice: &Choice) -> Option<ChoiceProblem>
+    ensures { result ≡ choice_problem outline.now id choice.now }
 {
-    for number in 0..outline.choices.len() {
-        if has_fault(outline, number) {
-            return Some(ChoiceId(number as u32));
+    if choice.prompt().is_none() {
+        Some(ChoiceProblem::NoPrompt)
+    } else if choice.has_second_prompt() {
+        Some(ChoiceProblem::SecondPrompt)
+    } else if has_foreign_default(outline, id, choice.defaults()) {
+        Some(ChoiceProblem::ForeignDefault)
+    } else {
+        member_problem(outline, choice.members())
+    }
+}
+
+/// The problem of the choice of a number, if there is such a choice and it has one.
+fn problem_at(outline: &Outline, number: usize) -> Option<ChoiceProblem>
+    requires { number < 2 ^ 32 }
+    ensures { result ≡ problem_at outline.now number }
+{
+    let choice = outline.choices().get(number)?;
+    problem_of(outline, ChoiceId(number as u32), choice)
+}
+
+/// The first choice with a problem, if there is one.
+pub(crate) fn choice_fault(outline: &Outline) -> Option<(ChoiceProblem, ChoiceId)>
+    requires { length outline.now.choices ≤ 2 ^ 30 }
+    ensures first { result ≡ choice_fault outline.now }
+    ensures inside { IfSome result (λ f. f.1.0 < length outline.now.choices) }
+{
+    let count = outline.choices().len();
+    for number in 0..count {
+        if let Some(problem) = problem_at(outline, number) {
+            return Some((problem, ChoiceId(number as u32)));
         }
     }
     None

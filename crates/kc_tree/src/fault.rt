@@ -1,24 +1,17 @@
+//! Why lines have no tree.
+
 ghost use Rattle.std.specs.Prelude.{◌≡◌};
-ghost use Rattle.kc_tree.specs.Faults.{problem_number};
+ghost use Rattle.kc_tree.specs.Faults.{symbol_problem_number};
 
 use crate::node::Node;
+use kc_outline::{LineFault, LineProblem};
 use kc_text::Text;
 use std::alloc::AllocError;
 use thiserror::Error;
 
-/// What is wrong with a line or a symbol.
+/// What is wrong with a symbol (this project's own list, after kconfig-language.rst).
 #[derive(Clone, Copy, Debug, PartialEq, Eq)]
-pub enum TreeProblem {
-    /// A limit is passed (K01): of blocks in one another, parentheses, `!` in a row, or symbols.
-    Limit,
-    /// A line that begins with no known word (K04).
-    UnknownStatement,
-    /// A line that has not the form of a statement (K05).
-    Malformed,
-    /// An attribute whose nearest statement doesn't take it, or without one (K06).
-    StrayAttribute,
-    /// A block closed wrongly, or not closed in its file (K07).
-    UnbalancedBlock,
+pub enum SymbolProblem {
     /// A symbol that no definition gives a type (K12).
     NoType,
     /// A symbol with two types (K13).
@@ -31,8 +24,48 @@ pub enum TreeProblem {
     UnfitSelect,
     /// `MODULES` that is no bool, or `modules` in another symbol (K18).
     BadModules,
-    /// A word or a form of Kconfig that is left out (K20).
-    LeftOut,
+}
+
+impl SymbolProblem {
+    /// The number that is printed, as 12 in `K12`.
+    pub fn number(self) -> u8
+        ensures { result ≡ symbol_problem_number self }
+    {
+        match self {
+            SymbolProblem::NoType => 12,
+            SymbolProblem::TypeConflict => 13,
+            SymbolProblem::SecondPrompt => 14,
+            SymbolProblem::UnfitDefault => 15,
+            SymbolProblem::UnfitSelect => 16,
+            SymbolProblem::BadModules => 18,
+        }
+    }
+}
+
+/// What is wrong with a choice (this project's own list, after kconfig-language.rst, "choices"). Each is printed as K17.
+#[derive(Clone, Copy, Debug, PartialEq, Eq)]
+pub enum ChoiceProblem {
+    /// No line gives it a prompt.
+    NoPrompt,
+    /// It has two prompts.
+    SecondPrompt,
+    /// A default names no member of the choice.
+    ForeignDefault,
+    /// A member is no bool.
+    MemberType,
+    /// A member has no prompt.
+    MemberWithoutPrompt,
+    /// A member has more than one definition.
+    MemberDefinedAgain,
+}
+
+impl ChoiceProblem {
+    /// The number that is printed: 17 for each.
+    pub fn number(self) -> u8
+        ensures { result ≡ 17 }
+    {
+        17
+    }
 }
 
 /// A node with the name of its symbol, or the prompt of its choice.
@@ -48,20 +81,20 @@ pub enum TreeFault {
     /// The problem of a line, with the path of its file and its number.
     #[error("{path}:{line}: K{:02}", .problem.number())]
     Line {
-        problem: TreeProblem,
+        problem: LineProblem,
         path: Text,
         line: usize,
     },
     /// The problem of a symbol, with its name.
     #[error("K{:02} {name}", .problem.number())]
     Symbol {
-        problem: TreeProblem,
+        problem: SymbolProblem,
         name: Text,
     },
-    /// A choice without a prompt or with two, with a default that is not one of its members, or with a member that is
-    /// no bool, has no prompt or more than one definition (K17): the path of its file and the number of its line.
-    #[error("{path}:{line}: K17")]
+    /// The problem of a choice, with the path of its file and the number of its line.
+    #[error("{path}:{line}: K{:02}", .problem.number())]
     Choice {
+        problem: ChoiceProblem,
         path: Text,
         line: usize,
     },
@@ -84,24 +117,24 @@ impl From<AllocError> for TreeFault {
     }
 }
 
-impl TreeProblem {
-    /// The number that is printed, as 5 in `K05`.
-    pub fn number(self) -> u8
-        ensures { result ≡ problem_number self }
-    {
-        match self {
-            TreeProblem::Limit => 1,
-            TreeProblem::UnknownStatement => 4,
-            TreeProblem::Malformed => 5,
-            TreeProblem::StrayAttribute => 6,
-            TreeProblem::UnbalancedBlock => 7,
-            TreeProblem::NoType => 12,
-            TreeProblem::TypeConflict => 13,
-            TreeProblem::SecondPrompt => 14,
-            TreeProblem::UnfitDefault => 15,
-            TreeProblem::UnfitSelect => 16,
-            TreeProblem::BadModules => 18,
-            TreeProblem::LeftOut => 20,
+impl From<LineFault> for TreeFault {
+    ghost use Rattle.std.specs.Prelude.{◌≡◌};
+    ghost use Rattle.kc_tree.specs.Faults.{line_fault};
+
+    ghost from_gives = { λ fault e. e ≡ line_fault fault };
+
+    fn from(fault: LineFault) -> TreeFault {
+        match fault {
+            LineFault::At {
+                problem,
+                path,
+                line,
+            } => TreeFault::Line {
+                problem,
+                path,
+                line,
+            },
+            LineFault::NoMemory => TreeFault::NoMemory,
         }
     }
 }

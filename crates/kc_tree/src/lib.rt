@@ -1,52 +1,29 @@
-//! From logical lines to the tree of a Kconfig: its symbols, its nodes, and their order or a loop.
+//! From what the lines of a Kconfig define to its tree: the faults of symbols and choices, the nodes with what each is
+//! computed from, and their order or a loop.
 #![tactic(auto)]
 
-mod block;
-mod boxed_text;
-mod choice;
 mod choice_faults;
-mod definition;
-mod expr;
-mod expression;
 mod fault;
-mod graph;
-mod id;
-mod keyword;
-mod line_faults;
 mod link;
-mod lone_terms;
-mod name;
-mod names;
 mod node;
 mod node_rows;
 mod nodes;
-mod numerals;
-mod outline;
 mod outline_faults;
-mod place;
-mod reading;
-mod room;
-mod statement;
-mod statement_forms;
-mod symbol;
 mod symbol_faults;
 mod tree;
-mod tri;
 mod user_value;
 mod uses;
 
-pub use block::{Block, BlockKind, Comment};
-pub use boxed_text::BoxedText;
-pub use choice::{Choice, ChoiceDefault};
-pub use definition::{DefaultValue, Definition, Prompt, Range};
-pub use expr::{Comparison, Expr, Negations, Operands, Term};
-pub use fault::{NamedNode, TreeFault, TreeProblem};
-pub use id::{BlockId, ChoiceId, CommentId, SymId};
-pub use lone_terms::lone_term;
+pub use fault::{ChoiceProblem, NamedNode, SymbolProblem, TreeFault};
+pub use kc_outline::{
+    Block, BlockId, BlockKind, Choice, ChoiceDefault, ChoiceId, Comment, CommentId, Definition,
+    Entry, LineProblem, Reverse, Symbol,
+};
+pub use kc_statement::{
+    BoxedText, Comparison, DefaultValue, Expr, Negations, Operands, Prompt, Range, SymId,
+    SymbolType, Term, Tri, lone_term, numeral,
+};
 pub use node::Node;
 pub use nodes::Nodes;
-pub use numerals::numeral;
-pub use symbol::{Reverse, Symbol, SymbolType};
-pub use tree::{Entry, Tree};
-pub use tri::Tri;
+pub use tree::Tree;
 pub use user_value::UserVal;

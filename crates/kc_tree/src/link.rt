@@ -1,47 +1,35 @@
 //! From what lines define to a tree: the faults of symbols, the order of the nodes or a loop, and what each node uses
 //! and is used by.
 
-ghost use Rattle.std.specs.Prelude.{◌≡◌, ◌≤◌, ◌<◌, ◌^◌, IfErr, IfOk, OnOk, None, All, filter, length, map, slice_get};
+ghost use Rattle.std.specs.Prelude.{◌≡◌, ◌≤◌, ◌<◌, ◌^◌, IfErr, IfOk, OnOk, None, All, count_by, filter, length, map, slice_get};
 ghost use Rattle.std.specs.Option.{option_copied};
-ghost use Rattle.kc_tree.specs.Keywords.{is_choice};
-ghost use Rattle.kc_tree.specs.TreeValue.{choice_title};
+ghost use Rattle.kc_statement.specs.Keywords.{is_choice};
+ghost use Rattle.kc_outline.specs.TreeValue.{choice_title};
 ghost use Rattle.kc_tree.specs.Nodes.{node_in, node_name};
 ghost use Rattle.kc_tree.specs.NodeGraph.{IsGraphOf};
 ghost use Rattle.kc_tree.specs.Order.{IsOrder};
-ghost use Rattle.kc_tree.specs.Accepted.{IsEntryOf};
+ghost use Rattle.kc_outline.specs.Entries.{IsEntryOf};
 ghost use Rattle.kc_tree.specs.OutlineFaults.{outline_fault};
 ghost use Rattle.kc_tree.specs.Faults.{IsLoopless, IsTreeProblem};
-ghost use Rattle.kc_tree.specs.Linked.{named_node, IsLinkFault, IsToldChoice};
+ghost use Rattle.kc_tree.specs.Linked.{named_node, IsLinkFault, IsReported};
 
-use crate::fault::{NamedNode, TreeFault};
-use crate::graph::{Graph, OrderFault};
-use crate::id::ChoiceId;
-use crate::keyword::{Keyword, read_keyword};
+use crate::fault::{ChoiceProblem, NamedNode, TreeFault};
 use crate::node::Node;
-use crate::outline::Outline;
+use crate::node_rows::{NodeRows, nodes_of};
 use crate::outline_faults::{OutlineFault, outline_fault};
 use crate::tree::Tree;
 use crate::uses::used_rows;
+use kc_graph::{Graph, OrderFault};
+use kc_outline::{ChoiceId, Outline};
+use kc_statement::{Keyword, read_keyword};
 use kc_text::{Line, Text};
 use std::alloc::{AllocError, Global};
-
-/// The nodes of numbers, in a tree of so many symbols.
-fn nodes(alloc: Global, symbols: usize, numbers: &[u32]) -> Result<Vec<Node>, AllocError>
-    requires few { symbols ≤ 65535 }
-    requires small { All (λ k. k < 2 ^ 32) numbers.now }
-    ensures { IfOk result (λ nodes. nodes.items ≡ map (node_in symbols) numbers.now) }
-{
-    numbers
-        .iter()
-        .map(|number| Node::in_tree(symbols, *number as usize))
-        .collect(alloc)
-}
 
 /// The text of a choice's prompt, empty where it has none.
 fn choice_title(outline: &Outline, choice: ChoiceId) -> &str
     ensures { result.now ≡ choice_title outline.now choice }
 {
-    match outline.choices.get(choice.0 as usize) {
+    match outline.choices().get(choice.0 as usize) {
         Some(choice) => match choice.prompt() {
             Some(prompt) => prompt.text.as_str(),
             None => "",
@@ -55,7 +43,7 @@ fn node_name(outline: &Outline, node: Node) -> &str
     ensures { result.now ≡ node_name outline.now node }
 {
     match node {
-        Node::Vis(symbol) | Node::Val(symbol) => outline.names.get(symbol.0 as usize),
+        Node::Vis(symbol) | Node::Val(symbol) => outline.names().get(symbol.0 as usize),
         Node::Mode(choice) | Node::Sel(choice) => choice_title(outline, choice),
     }
 }
@@ -66,13 +54,12 @@ fn named_nodes(
     outline: &Outline,
     numbers: &[u32],
 ) -> Result<Vec<NamedNode>, AllocError>
-    requires few { length outline.now.symbols ≤ 65535 }
-    requires small { All (λ k. k < 2 ^ 32) numbers.now }
+    requires { length outline.now.symbols ≤ 65535 }
     ensures { IfOk result (λ nodes. nodes.items ≡ map (named_node outline.now) numbers.now) }
 {
     let mut nodes = Vec::with_capacity(alloc, numbers.len())?;
     for number in numbers {
-        let node = Node::in_tree(outline.symbols.len(), *number as usize);
+        let node = Node::in_tree(outline.symbols().len(), *number as usize);
         let name = Text::copy_of(alloc, node_name(outline, node))?;
         nodes.push(NamedNode { node, name })?;
     }
@@ -84,7 +71,6 @@ fn named_nodes(
 /// It fails where nodes form a loop, with the nodes of one, and where memory is refused.
 fn node_order(alloc: Global, outline: &Outline, graph: &Graph<'_>) -> Result<Vec<Node>, TreeFault>
     requires few { length outline.now.symbols ≤ 65535 }
-    requires small { length graph.now < 2 ^ 32 }
     requires graph { IsGraphOf outline.now graph.now }
     ensures order { IfOk result (λ order. IsOrder outline.now order.items) }
     ensures loopless { OnOk result (IsLoopless outline.now) }
@@ -98,7 +84,7 @@ fn node_order(alloc: Global, outline: &Outline, graph: &Graph<'_>) -> Result<Vec
         }
         Err(OrderFault::NoMemory) => return Err(TreeFault::NoMemory),
     };
-    Ok(nodes(alloc, outline.symbols.len(), numbers.as_slice())?)
+    Ok(nodes_of(alloc, outline.symbols().len(), numbers.as_slice())?)
 }
 
 /// Whether a line begins a choice.
@@ -125,15 +111,22 @@ fn choice_line<'a, 'b>(lines: &'a [Line<'b>], choice: usize) -> Option<&'a Line<
     None
 }
 
-/// The fault of a choice, with the path and the number of its line.
-fn choice_fault(alloc: Global, lines: &[Line<'_>], choice: ChoiceId) -> TreeFault
-    ensures { IsToldChoice lines.now choice result }
+/// The problem of a choice, with the path and the number of its line.
+fn reported_choice(
+    alloc: Global,
+    lines: &[Line<'_>],
+    problem: ChoiceProblem,
+    choice: ChoiceId,
+) -> TreeFault
+    requires { choice.0 < count_by is_choice lines.now }
+    ensures { IsReported lines.now problem choice result }
 {
     let Some(line) = choice_line(lines, choice.0 as usize) else {
-        return TreeFault::NoMemory;
+        unreachable!()
     };
     match Text::copy_of(alloc, line.path()) {
         Ok(path) => TreeFault::Choice {
+            problem,
             path,
             line: line.number(),
         },
@@ -141,20 +134,23 @@ fn choice_fault(alloc: Global, lines: &[Line<'_>], choice: ChoiceId) -> TreeFaul
     }
 }
 
-/// The first fault of a symbol or a choice, told with its name or its line.
+/// The first fault of a symbol or a choice, reported with its name or its line.
 fn check_outline(alloc: Global, lines: &[Line<'_>], outline: &Outline) -> Result<(), TreeFault>
     requires few { length outline.now.symbols ≤ 65535 }
     requires few_choices { length outline.now.choices ≤ 2 ^ 30 }
+    requires choices { length outline.now.choices ≡ count_by is_choice lines.now }
     ensures faultless { OnOk result (outline_fault outline.now ≡ None) }
     ensures fault { IfErr result (IsTreeProblem lines.now outline.now) }
 {
     match outline_fault(outline) {
         None => Ok(()),
         Some(OutlineFault::Symbol(problem, symbol)) => {
-            let name = Text::copy_of(alloc, outline.names.get(symbol.0 as usize))?;
+            let name = Text::copy_of(alloc, outline.names().get(symbol.0 as usize))?;
             Err(TreeFault::Symbol { problem, name })
         }
-        Some(OutlineFault::Choice(choice)) => Err(choice_fault(alloc, lines, choice)),
+        Some(OutlineFault::Choice(problem, choice)) => {
+            Err(reported_choice(alloc, lines, problem, choice))
+        }
     }
 }
 
@@ -165,6 +161,7 @@ fn check_outline(alloc: Global, lines: &[Line<'_>], outline: &Outline) -> Result
 pub(crate) fn link(alloc: Global, lines: &[Line<'_>], outline: Outline) -> Result<Tree, TreeFault>
     requires few { length outline.symbols ≤ 65535 }
     requires few_choices { length outline.choices ≤ 2 ^ 30 }
+    requires choices { length outline.choices ≡ count_by is_choice lines.now }
     requires named { length outline.names ≡ length outline.symbols }
     requires entries { All (IsEntryOf outline) outline.entries }
     ensures tree { IfOk result (λ tree. tree ≡ outline) }
@@ -173,20 +170,15 @@ pub(crate) fn link(alloc: Global, lines: &[Line<'_>], outline: Outline) -> Resul
     ensures fault { IfErr result (IsTreeProblem lines.now outline) }
 {
     check_outline(alloc, lines, &outline)?;
-    let uses = used_rows(alloc, &outline)?;
-    let graph = Graph::of(outline.symbols.len(), &uses);
+    let symbols = outline.symbols().len();
+    let used = used_rows(alloc, &outline)?;
+    let graph = Graph::of(&used);
     let order = node_order(alloc, &outline, &graph)?;
-    let used_by = graph.users(alloc, outline.symbols.len())?;
+    let users = graph.users(alloc)?;
     Ok(Tree {
-        names: outline.names,
-        symbols: outline.symbols,
-        definitions: outline.definitions,
-        blocks: outline.blocks,
-        choices: outline.choices,
-        comments: outline.comments,
-        entries: outline.entries,
+        outline,
         order,
-        uses,
-        used_by,
+        uses: NodeRows::of(alloc, symbols, used)?,
+        used_by: NodeRows::of(alloc, symbols, users)?,
     })
 }

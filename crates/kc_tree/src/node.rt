@@ -1,7 +1,8 @@
 ghost use Rattle.std.specs.Prelude.{◌≡◌, ◌<◌, ◌≤◌, ◌*◌, ◌+◌, ◌^◌};
 ghost use Rattle.kc_tree.specs.Nodes.{number_in, node_in, symbol_node, choice_node};
 
-use crate::id::{ChoiceId, SymId};
+use kc_outline::ChoiceId;
+use kc_statement::SymId;
 
 /// What is computed of a tree: two nodes for each symbol, and two for each choice.
 #[derive(Clone, Copy, Debug, PartialEq, Eq)]
@@ -32,6 +33,15 @@ impl Node {
             Node::Val(_) | Node::Sel(_) => 1,
         };
         2 * place + second
+    }
+
+    /// The same in 32 bits.
+    pub(crate) fn index_in(self, symbols: usize) -> u32
+        requires few { symbols ≤ 65535 }
+        requires small { number_in symbols self < 2 ^ 32 }
+        ensures { result ≡ number_in symbols self }
+    {
+        self.number_in(symbols) as u32
     }
 
     /// The node of a symbol by a number that no symbols stand before.

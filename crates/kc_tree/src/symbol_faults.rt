@@ -3,25 +3,20 @@
 ghost use Rattle.std.specs.Prelude.{◌≡◌, ◌≤◌, false, length, slice_get, IsTrue};
 ghost use Rattle.std.specs.List.{list_any};
 ghost use Rattle.std.specs.Option.{option_map_or};
-ghost use Rattle.kc_tree.specs.TreeValue.{definitions_of, kind_of};
+ghost use Rattle.kc_outline.specs.TreeValue.{definitions_of, kind_of};
 ghost use Rattle.kc_tree.specs.SymbolFaults.{symbol_fault, modules_fault, fault_by, is_bad_modules, is_tri_type, begins_as_number, is_unfit_term, is_unfit_default, is_unfit_range, has_unfit, has_unfit_select};
 ghost use Rattle.kc_tree.specs.SymbolTests.{test_of, has_any_problem, IsFaultless};
 
-use crate::definition::{DefaultValue, Range};
-use crate::expr::Term;
-use crate::fault::TreeProblem;
-use crate::id::SymId;
-use crate::lone_terms::lone_term;
-use crate::numerals::numeral;
-use crate::outline::Outline;
-use crate::symbol::{Symbol, SymbolType};
+use crate::fault::SymbolProblem;
+use kc_outline::{Outline, Symbol};
+use kc_statement::{DefaultValue, Range, SymId, SymbolType, Term, lone_term, numeral};
 
 /// Whether a definition has two prompts.
 fn has_second_prompt(outline: &Outline, definition: usize) -> bool
     ensures { result ≡ option_map_or (λ d. d.has_second_prompt) (slice_get outline.now.definitions definition) false }
 {
-    match outline.definitions.get(definition) {
-        Some(definition) => definition.has_second_prompt,
+    match outline.definitions().get(definition) {
+        Some(definition) => definition.has_second_prompt(),
         None => false,
     }
 }
@@ -113,7 +108,7 @@ fn has_unfit_range(kind: SymbolType, ranges: &[Range]) -> bool
 fn has_unfit(outline: &Outline, kind: SymbolType, definition: usize) -> bool
     ensures { result ≡ option_map_or (has_unfit kind) (slice_get outline.now.definitions definition) false }
 {
-    match outline.definitions.get(definition) {
+    match outline.definitions().get(definition) {
         Some(definition) => {
             has_unfit_value(kind, definition.defaults())
                 || has_unfit_range(kind, definition.ranges())
@@ -136,11 +131,11 @@ fn has_unfit_default(outline: &Outline, symbol: &Symbol) -> bool
 }
 
 /// Whether a symbol that is no bool and no tristate selects or implies, or is selected or implied.
-fn has_unfit_select(outline: &Outline, number: usize, symbol: &Symbol) -> bool
-    ensures { result ≡ has_unfit_select outline.now (record { 0 = number }) symbol.now }
+fn has_unfit_select(symbol: &Symbol) -> bool
+    ensures { result ≡ has_unfit_select symbol.now }
 {
     !is_tri_type(symbol.kind())
-        && (symbol.has_selections || !symbol.selected().is_empty() || !symbol.implied().is_empty())
+        && (symbol.has_selections() || !symbol.selected().is_empty() || !symbol.implied().is_empty())
 }
 
 /// Whether the symbol is `MODULES` and no bool, or another one with `modules`. Few symbols need a look at their name.
@@ -148,28 +143,27 @@ fn is_bad_modules(outline: &Outline, number: usize, symbol: &Symbol) -> bool
     ensures { result ≡ is_bad_modules outline.now (record { 0 = number }) symbol.now }
 {
     if matches!(symbol.kind(), SymbolType::Bool) {
-        symbol.has_modules && outline.names.get(number) != "MODULES"
+        symbol.has_modules() && outline.names().get(number) != "MODULES"
     } else {
-        symbol.has_modules || outline.names.get(number) == "MODULES"
+        symbol.has_modules() || outline.names().get(number) == "MODULES"
     }
 }
 
 /// Whether the symbol of a number has a problem of the kinds that symbols have.
 #[inline(always)]
-fn has_problem(outline: &Outline, problem: TreeProblem, number: usize) -> bool
+fn has_problem(outline: &Outline, problem: SymbolProblem, number: usize) -> bool
     ensures { result ≡ option_map_or (test_of problem outline.now (record { 0 = number })) (slice_get outline.now.symbols number) false }
 {
-    let Some(symbol) = outline.symbols.get(number) else {
+    let Some(symbol) = outline.symbols().get(number) else {
         return false;
     };
     match problem {
-        TreeProblem::NoType => symbol.kind.is_none() && symbol.choice.is_none(),
-        TreeProblem::TypeConflict => symbol.has_other_type,
-        TreeProblem::SecondPrompt => has_two_prompts(outline, symbol),
-        TreeProblem::UnfitDefault => has_unfit_default(outline, symbol),
-        TreeProblem::UnfitSelect => has_unfit_select(outline, number, symbol),
-        TreeProblem::BadModules => is_bad_modules(outline, number, symbol),
-        _ => false,
+        SymbolProblem::NoType => !symbol.has_type() && symbol.choice().is_none(),
+        SymbolProblem::TypeConflict => symbol.has_other_type(),
+        SymbolProblem::SecondPrompt => has_two_prompts(outline, symbol),
+        SymbolProblem::UnfitDefault => has_unfit_default(outline, symbol),
+        SymbolProblem::UnfitSelect => has_unfit_select(symbol),
+        SymbolProblem::BadModules => is_bad_modules(outline, number, symbol),
     }
 }
 
@@ -177,19 +171,20 @@ fn has_problem(outline: &Outline, problem: TreeProblem, number: usize) -> bool
 fn has_any_problem(outline: &Outline, number: usize) -> bool
     ensures { result ≡ has_any_problem outline.now number }
 {
-    has_problem(outline, TreeProblem::NoType, number)
-        || has_problem(outline, TreeProblem::TypeConflict, number)
-        || has_problem(outline, TreeProblem::SecondPrompt, number)
-        || has_problem(outline, TreeProblem::UnfitDefault, number)
-        || has_problem(outline, TreeProblem::UnfitSelect, number)
-        || has_problem(outline, TreeProblem::BadModules, number)
+    has_problem(outline, SymbolProblem::NoType, number)
+        || has_problem(outline, SymbolProblem::TypeConflict, number)
+        || has_problem(outline, SymbolProblem::SecondPrompt, number)
+        || has_problem(outline, SymbolProblem::UnfitDefault, number)
+        || has_problem(outline, SymbolProblem::UnfitSelect, number)
+        || has_problem(outline, SymbolProblem::BadModules, number)
 }
 
 /// Whether no symbol has a problem: one walk over all symbols, where a walk for each kind finds the first of them.
 pub(crate) fn are_symbols_faultless(outline: &Outline) -> bool
     ensures { IsTrue result → IsFaultless outline.now }
 {
-    for number in 0..outline.symbols.len() {
+    let count = outline.symbols().len();
+    for number in 0..count {
         if has_any_problem(outline, number) {
             return false;
         }
@@ -199,11 +194,12 @@ pub(crate) fn are_symbols_faultless(outline: &Outline) -> bool
 
 /// The first symbol with a problem, if there is one.
 #[inline(never)]
-fn first_with(outline: &Outline, problem: TreeProblem) -> Option<(TreeProblem, SymId)>
+fn first_with(outline: &Outline, problem: SymbolProblem) -> Option<(SymbolProblem, SymId)>
     requires { length outline.now.symbols ≤ 65535 }
     ensures { result ≡ fault_by outline.now problem (test_of problem) }
 {
-    for number in 0..outline.symbols.len() {
+    let count = outline.symbols().len();
+    for number in 0..count {
         if has_problem(outline, problem, number) {
             return Some((problem, SymId(number as u32)));
         }
@@ -211,30 +207,30 @@ fn first_with(outline: &Outline, problem: TreeProblem) -> Option<(TreeProblem, S
     None
 }
 
-/// The first fault of a symbol but for `modules`, if there is one: each kind is looked for among all symbols before the next.
-pub(crate) fn symbol_fault(outline: &Outline) -> Option<(TreeProblem, SymId)>
+/// The first fault of a symbol but for `modules`, if there is one: each kind is sought among all symbols before the next.
+pub(crate) fn symbol_fault(outline: &Outline) -> Option<(SymbolProblem, SymId)>
     requires { length outline.now.symbols ≤ 65535 }
     ensures { result ≡ symbol_fault outline.now }
 {
-    if let Some(fault) = first_with(outline, TreeProblem::NoType) {
+    if let Some(fault) = first_with(outline, SymbolProblem::NoType) {
         return Some(fault);
     }
-    if let Some(fault) = first_with(outline, TreeProblem::TypeConflict) {
+    if let Some(fault) = first_with(outline, SymbolProblem::TypeConflict) {
         return Some(fault);
     }
-    if let Some(fault) = first_with(outline, TreeProblem::SecondPrompt) {
+    if let Some(fault) = first_with(outline, SymbolProblem::SecondPrompt) {
         return Some(fault);
     }
-    if let Some(fault) = first_with(outline, TreeProblem::UnfitDefault) {
+    if let Some(fault) = first_with(outline, SymbolProblem::UnfitDefault) {
         return Some(fault);
     }
-    first_with(outline, TreeProblem::UnfitSelect)
+    first_with(outline, SymbolProblem::UnfitSelect)
 }
 
 /// The fault of `modules`, if there is one.
-pub(crate) fn modules_fault(outline: &Outline) -> Option<(TreeProblem, SymId)>
+pub(crate) fn modules_fault(outline: &Outline) -> Option<(SymbolProblem, SymId)>
     requires { length outline.now.symbols ≤ 65535 }
     ensures { result ≡ modules_fault outline.now }
 {
-    first_with(outline, TreeProblem::BadModules)
+    first_with(outline, SymbolProblem::BadModules)
 }

@@ -1,75 +1,45 @@
 ghost use Rattle.std.specs.Prelude.{◌≡◌, ◌<◌, IfSome, IfOk, IfErr, length, Contains, ◌↔◌};
-ghost use Rattle.kc_tree.specs.TreeValue.{symbol_named, name_of, modules_symbol};
+ghost use Rattle.kc_outline.specs.TreeValue.{symbol_named, name_of, modules_symbol};
 ghost use Rattle.kc_tree.specs.Nodes.{all_nodes, node_count, number_of, IsNodeOf};
 ghost use Rattle.kc_tree.specs.Uses.{Uses};
 ghost use Rattle.kc_tree.specs.Order.{IsOrder};
 ghost use Rattle.kc_tree.specs.Accepted.{IsAccepted};
 ghost use Rattle.kc_tree.specs.Fits.{fits, fits_type};
 
-use crate::block::{Block, Comment};
-use crate::choice::Choice;
-use crate::definition::Definition;
 use crate::fault::TreeFault;
-use crate::id::{BlockId, ChoiceId, CommentId, SymId};
 use crate::link::link;
-use crate::names::Names;
 use crate::node::Node;
 use crate::node_rows::NodeRows;
 use crate::nodes::Nodes;
-use crate::numerals::numeral;
-use crate::reading::read_outline;
-use crate::symbol::{Symbol, SymbolType};
-use crate::tri::Tri;
 use crate::user_value::UserVal;
+use kc_outline::{Block, Choice, Comment, Definition, Entry, Outline, Symbol, read_outline};
+use kc_statement::{SymId, SymbolType, Tri, numeral};
 use kc_text::Line;
 use std::alloc::Global;
 use std::marker::Model;
-
-/// An entry of the tree: what can have lines of its own in a `.config`, and the ends of menus.
-#[derive(Clone, Copy, Debug, PartialEq, Eq)]
-pub enum Entry {
-    /// The first definition of a symbol.
-    Symbol(SymId),
-    /// Another definition of a symbol.
-    Again(SymId),
-    /// A menu, whose entries follow up to its end.
-    Menu(BlockId),
-    /// The end of a menu.
-    EndMenu(BlockId),
-    /// A choice, whose members follow.
-    Choice(ChoiceId),
-    /// A comment.
-    Comment(CommentId),
-}
 
 /// The tree of a Kconfig: its symbols, choices and entries, and the nodes with what each uses, in a topological
 /// order. Contracts see all but the order and what nodes use.
 #[derive(Drop)]
 pub struct Tree {
-    pub(crate) names: Names,
-    pub(crate) symbols: Vec<Symbol>,
-    pub(crate) definitions: Vec<Definition>,
-    pub(crate) blocks: Vec<Block>,
-    pub(crate) choices: Vec<Choice>,
-    pub(crate) comments: Vec<Comment>,
-    pub(crate) entries: Vec<Entry>,
+    pub(crate) outline: Outline,
     pub(crate) order: Vec<Node>,
     pub(crate) uses: NodeRows,
     pub(crate) used_by: NodeRows,
 }
 
 impl Model for Tree {
-    ghost use Rattle.kc_tree.specs.TreeValue.{TreeValue};
-    ghost use Rattle.kc_tree.specs.contracts.expr.Expr as expr;
+    ghost use Rattle.kc_outline.specs.TreeValue.{TreeValue};
+    ghost use Rattle.kc_statement.specs.contracts.expr.Expr as expr;
     ghost use Rattle.std.specs.Coded.{codes};
 
     ghost Value = { TreeValue };
 
     ghost coded = { Prim.hlevel (codes, expr.the_row.coded) };
 
-    ghost use Rattle.kc_tree.specs.Inside.{tree_view, IsWellMade};
+    ghost use Rattle.kc_tree.specs.Inside.{IsWellMade};
 
-    ghost view = { tree_view };
+    ghost view = { λ a. a.outline };
 
     ghost invariant = { IsWellMade };
 }
@@ -120,15 +90,15 @@ impl Tree {
         ensures symbol { result ≡ symbol_named self.now name.now }
         ensures inside { IfSome result (λ s. s.0 < length self.now.symbols) }
     {
-        let place = self.names.find(name)?;
-        Some(SymId(place as u32))
+        let number = self.outline.names().find(name)?;
+        Some(SymId(number as u32))
     }
 
     /// The name of a symbol, empty for one that the tree doesn't have.
     pub fn name(&self, symbol: SymId) -> &str
         ensures { result.now ≡ name_of self.now symbol }
     {
-        self.names.get(symbol.0 as usize)
+        self.outline.names().get(symbol.0 as usize)
     }
 
     /// The symbols by number.
@@ -136,14 +106,14 @@ impl Tree {
         ensures symbols { result.now ≡ self.now.symbols }
         ensures accepted { IsAccepted self.now }
     {
-        self.symbols.as_slice()
+        self.outline.symbols()
     }
 
     /// The definitions of symbols by number, which is the order of their lines.
     pub fn definitions(&self) -> &[Definition]
         ensures { result.now ≡ self.now.definitions }
     {
-        self.definitions.as_slice()
+        self.outline.definitions()
     }
 
     /// The choices by number, which is the order of their lines.
@@ -151,21 +121,21 @@ impl Tree {
         ensures choices { result.now ≡ self.now.choices }
         ensures accepted { IsAccepted self.now }
     {
-        self.choices.as_slice()
+        self.outline.choices()
     }
 
     /// The menus, `if` blocks and choices' blocks by number, which is the order of the lines that open them.
     pub fn blocks(&self) -> &[Block]
         ensures { result.now ≡ self.now.blocks }
     {
-        self.blocks.as_slice()
+        self.outline.blocks()
     }
 
     /// The comments by number, which is the order of their lines.
     pub fn comments(&self) -> &[Comment]
         ensures { result.now ≡ self.now.comments }
     {
-        self.comments.as_slice()
+        self.outline.comments()
     }
 
     /// The symbol `MODULES`, which says whether modules are built, if it is defined.
@@ -180,7 +150,7 @@ impl Tree {
         ensures entries { result.now ≡ self.now.entries }
         ensures accepted { IsAccepted self.now }
     {
-        self.entries.as_slice()
+        self.outline.entries()
     }
 
     /// How many nodes there are: two for each symbol, and two for each choice.
@@ -188,7 +158,7 @@ impl Tree {
         ensures count { result ≡ node_count self.now }
         ensures accepted { IsAccepted self.now }
     {
-        2 * (self.symbols.len() + self.choices.len())
+        2 * (self.outline.symbols().len() + self.outline.choices().len())
     }
 
     /// All nodes, by number.
@@ -204,7 +174,7 @@ impl Tree {
         ensures number { result ≡ number_of self.now node }
         ensures accepted { IsAccepted self.now }
     {
-        node.number_in(self.symbols.len())
+        node.number_in(self.outline.symbols().len())
     }
 
     /// Each node once, after all that it uses.
@@ -239,7 +209,7 @@ impl Tree {
     pub fn fits(&self, symbol: SymId, value: &UserVal) -> bool
         ensures { result ≡ fits self.now symbol value.now }
     {
-        let Some(symbol) = self.symbols.get(symbol.0 as usize) else {
+        let Some(symbol) = self.outline.symbols().get(symbol.0 as usize) else {
             return false;
         };
         symbol.choice().is_none() && fits_type(symbol.kind(), value)

@@ -1,4 +1,4 @@
-use crate::tri::Tri;
+use kc_statement::Tri;
 use kc_text::Text;
 
 /// A value that a user gives to a symbol.

@@ -1,65 +1,49 @@
 -- A rule reads the nodes that its node uses, and no others.
 use Rattle.std.proofs.Common.{◌≡◌, ◌<◌, ◌⊎◌, inl, inr, Bool, true, false, cond, not, List, [], ◌∷◌, ◌++◌, map, Option, Some, None, find, slice_get, option_map, unwrap_or, refl, sym, ap, subst, ◌∙◌, arith, length, ◌||◌, ◌&&◌, true≢false, ℕ, ℤ, if◌then◌else◌}
-use Rattle.std.specs.Prelude.{codes, option_and_then, is_some}
+use Rattle.std.specs.Prelude.{option_and_then, is_some}
 use Rattle.std.specs.List.{Contains, AllByRecursion, flat_map, filter_map, cons_option}
 use Rattle.std.specs.Option.{option_map_or, option_or}
-use Rattle.std.specs.Str.{bytes_eq}
 use Rattle.std.specs.Cmp.Lexicographic.{slice_cmp}
 use Rattle.std.specs.declared.cmp.Ordering.{Ordering}
 use Rattle.std.specs.Ordering.{nat_cmp}
 use Rattle.std.proofs.lemmas.List.Elements.{Contains-append_right}
-use Rattle.kc_tree.specs.declared.expr.Term.{Term}
-use Rattle.kc_tree.specs.declared.expr.Term.TheVariants.{Tri as Constant, Text as TextTerm, Symbol, Undefined}
-use Rattle.kc_tree.specs.declared.expr.Expr.{Expr}
-use Rattle.kc_tree.specs.declared.definition.Prompt.{Prompt}
-use Rattle.kc_tree.specs.declared.definition.DefaultValue.{DefaultValue}
-use Rattle.kc_tree.specs.declared.definition.Range.{Range}
-use Rattle.kc_tree.specs.declared.choice.ChoiceDefault.{ChoiceDefault}
-use Rattle.kc_tree.specs.declared.symbol.Reverse.{Reverse}
-use Rattle.kc_tree.specs.declared.symbol.SymbolType.{SymbolType}
-use Rattle.kc_tree.specs.declared.symbol.SymbolType.TheVariants.{Tristate}
-use Rattle.kc_tree.specs.declared.id.SymId.{SymId}
-use Rattle.kc_tree.specs.declared.id.ChoiceId.{ChoiceId}
+use Rattle.kc_statement.specs.declared.expr.Term.{Term}
+use Rattle.kc_statement.specs.declared.expr.Term.TheVariants.{Tri as Constant, Text as TextTerm, Symbol, Undefined}
+use Rattle.kc_statement.specs.declared.expr.Expr.{Expr, Group'}
+use Rattle.kc_statement.specs.declared.expr.Expr.TheVariants as expr
+use Rattle.kc_statement.specs.declared.attribute.Prompt.{Prompt}
+use Rattle.kc_statement.specs.declared.attribute.DefaultValue.{DefaultValue}
+use Rattle.kc_statement.specs.declared.attribute.Range.{Range}
+use Rattle.kc_outline.specs.declared.choice.ChoiceDefault.{ChoiceDefault}
+use Rattle.kc_outline.specs.declared.symbol.Reverse.{Reverse}
+use Rattle.kc_statement.specs.declared.symbol_type.SymbolType.{SymbolType}
+use Rattle.kc_statement.specs.declared.symbol_type.SymbolType.TheVariants.{Tristate}
+use Rattle.kc_statement.specs.declared.id.SymId.{SymId}
+use Rattle.kc_outline.specs.declared.id.ChoiceId.{ChoiceId}
 use Rattle.kc_tree.specs.declared.node.Node.{Node}
 use Rattle.kc_tree.specs.declared.node.Node.TheVariants.{Vis, Val, Mode, Sel}
-use Rattle.kc_tree.specs.declared.tri.Tri.{Tri}
-use Rattle.kc_tree.specs.declared.tri.Tri.TheVariants.{No, Module, Yes}
+use Rattle.kc_statement.specs.declared.tri.Tri.{Tri}
+use Rattle.kc_statement.specs.declared.tri.Tri.TheVariants.{No, Module, Yes}
 use Rattle.kc_tree.specs.declared.user_value.UserVal.{UserVal}
 use Rattle.kc_tree.specs.declared.user_value.UserVal.TheVariants.{Tri as TriVal, Text as TextVal}
-use Rattle.kc_tree.specs.Grammar.{Formula, atom, compare, negation, group, both, either, formula, lone_term}
+use Rattle.kc_statement.specs.Grammar.{Formula, atom, bare, compare, negation, group, both, either, formula}
 use Rattle.kc_tree.specs.SymbolFaults.{is_tri_type}
-use Rattle.kc_tree.specs.TreeOf.{same_type}
-use Rattle.kc_tree.specs.TreeValue.{TreeValue, SymbolValue, DefinitionValue, BlockValue, ChoiceValue, modules_symbol, kind_of, definitions_of, blocks_around}
-use Rattle.kc_tree.specs.Tristate.{least, greatest, least_of, greatest_of, complement, is_no}
-use Rattle.kc_tree.specs.Uses.{Uses, used_nodes, symbol_nodes, term_nodes, formula_nodes, value_nodes, modules_nodes, is_module_term, has_bare_module, nodes_if, condition_nodes, conditions_nodes, own_condition_nodes, depends_nodes, visible_nodes, dependency_nodes, prompt_nodes, default_nodes, range_nodes, definition_nodes, reverse_nodes, mode_nodes, selection_nodes, visibility_node, choice_prompt_nodes, choice_default_nodes, choice_value_nodes, type_nodes, visibility_nodes, free_value_nodes, symbol_value_nodes}
+use Rattle.kc_outline.specs.TreeOf.{same_type}
+use Rattle.kc_outline.specs.TreeValue.{TreeValue, SymbolValue, DefinitionValue, BlockValue, ChoiceValue, modules_symbol, kind_of, definitions_of, blocks_around}
+use Rattle.kc_statement.specs.Tristate.{least, greatest, least_of, greatest_of, complement, is_no}
+use Rattle.kc_tree.specs.Uses.{Uses, used_nodes, symbol_nodes, term_nodes, formula_nodes, value_nodes, modules_nodes, nodes_if, conditions_nodes, own_condition_nodes, depends_nodes, visible_nodes, dependency_nodes, prompt_nodes, default_nodes, range_nodes, definition_nodes, reverse_nodes, mode_nodes, selection_nodes, visibility_node, choice_prompt_nodes, choice_default_nodes, choice_value_nodes, type_nodes, visibility_nodes, free_value_nodes, symbol_value_nodes}
 use Rattle.kc_value.specs.declared.value.Value.{Value}
 use Rattle.kc_value.specs.declared.value.Value.TheVariants.{Tri as Level, Shown, Member}
 use Rattle.kc_value.specs.declared.bounds.Bounds.{Bounds}
+use Rattle.kc_statement.proofs.FormulaLaws.{formula_term, formula_group}
 use Rattle.kc_value.specs.Assignment.{Assignment, as_tri, as_text, as_member, tri_letter}
 use Rattle.kc_value.specs.UserValues.{UserValues, user_value, chosen_in}
-use Rattle.kc_value.specs.ExprValue.{symbol_tri, modules_value, constant_tri, term_tri, term_text, tri_number, number_in_type, term_number, is_string_term, number_or_text_order, text_order, term_order, is_related, yes_if, formula_value, expr_value, condition_value, conditions_value, own_condition}
+use Rattle.kc_value.specs.ExprValue.{symbol_tri, modules_value, term_tri, term_text, tri_number, number_in_type, term_number, is_string_term, number_or_text_order, text_order, term_order, is_related, yes_if, formula_value, expr_value, conditions_value, own_condition}
 use Rattle.kc_value.specs.Conditions.{blocks_depend, blocks_visible, dependency, prompt_value, mode_around}
 use Rattle.kc_value.specs.Defaults.{default_condition, is_active}
 use Rattle.kc_value.specs.TextRule.{value_text, definition_text, default_text, number_or_zero, is_range_active, bounds_in, definition_bounds, is_number_type, bounds_of, user_text, clamped, text_rule}
 use Rattle.kc_value.specs.ChoiceRule.{mode, is_visible, is_symbol, visible_if, default_member, selection, selected_in, member_rule}
 use Rattle.kc_value.specs.Rule.{rule, in_type, has_modules, visibility, definition_default, default_value, reverse_value, reverse_values, direct, user_part, tri_rule, free_rule, symbol_rule}
-
-or-left : (x y : Bool) → x ≡ true → (x || y) ≡ true
-or-left true y h = refl
-or-left false y h = absurd (true≢false (sym h))
-
-or-right : (x y : Bool) → y ≡ true → (x || y) ≡ true
-or-right true y h = refl
-or-right false y h = h
-
--- a text in quotes reads what m stands for where it is m
-constant_agrees : (p q : Tri) (n m y : Bool) → (m ≡ true → p ≡ q)
-    → option_map_or (constant_tri p) (if n then Some No else (if m then Some Module else (if y then Some Yes else None))) No
-    ≡ option_map_or (constant_tri q) (if n then Some No else (if m then Some Module else (if y then Some Yes else None))) No
-constant_agrees p q true m y h = refl
-constant_agrees p q false true y h = h refl
-constant_agrees p q false false true h = refl
-constant_agrees p q false false false h = refl
 
 module _ (a b : Assignment) where
   -- both give each of the nodes the same value
@@ -134,13 +118,11 @@ module _ (a b : Assignment) where
     modules_agree : Agree (modules_nodes t) → modules_value t a ≡ modules_value t b
     modules_agree h = found_modules_agree (modules_symbol t) h
 
-    term_agrees : (p q : Tri) (x : Term) → Agree (term_nodes t x) → (is_module_term x ≡ true → p ≡ q) → term_tri t a p x ≡ term_tri t b q x
-    term_agrees p q (Constant No) h bare = refl
-    term_agrees p q (Constant Module) h bare = bare refl
-    term_agrees p q (Constant Yes) h bare = refl
-    term_agrees p q (TextTerm w) h bare = constant_agrees p q (bytes_eq w (codes "n")) (bytes_eq w (codes "m")) (bytes_eq w (codes "y")) bare
-    term_agrees p q (Symbol s) h bare = symbol_tri_agrees s h
-    term_agrees p q (Undefined w) h bare = refl
+    term_agrees : (x : Term) → Agree (term_nodes t x) → term_tri t a x ≡ term_tri t b x
+    term_agrees (Constant v) h = refl
+    term_agrees (TextTerm w) h = refl
+    term_agrees (Symbol s) h = symbol_tri_agrees s h
+    term_agrees (Undefined w) h = refl
 
     found_text_agrees : (s : SymId) (o : Option SymbolValue) → Agree (option_map_or (λ x. Val s ∷ []) o [])
         → option_map_or (λ x. as_text (a (Val s))) o (tri_letter No) ≡ option_map_or (λ x. as_text (b (Val s))) o (tri_letter No)
@@ -177,36 +159,29 @@ module _ (a b : Assignment) where
         ∙ ap (λ n. of (term_number t b x) n (text_order t a x y)) (number_agrees y k)
         ∙ ap (λ o. of (term_number t b x) (term_number t b y) o) (text_order_agrees x y h k)
 
-    -- m alone may stand for two things where it does not stand alone
-    formula_value_agrees : (p q : Tri) (f : Formula) → Agree (formula_nodes t f) → (has_bare_module f ≡ true → p ≡ q) → formula_value t a p f ≡ formula_value t b q f
-    formula_value_agrees p q (atom x) h bare = term_agrees p q x h bare
-    formula_value_agrees p q (compare c x y) h bare =
+    formula_value_agrees : (f : Formula) → Agree (formula_nodes t f) → formula_value t a f ≡ formula_value t b f
+    formula_value_agrees (atom x) h = term_agrees x h
+    formula_value_agrees (bare x) h = ap (least Module) (modules_agree h)
+    formula_value_agrees (compare c x y) h =
         ap (λ o. yes_if (is_related c o)) (order_agrees x y (Agree-left (term_nodes t x) (term_nodes t y) h) (Agree-right (term_nodes t x) (term_nodes t y) h))
-    formula_value_agrees p q (negation f) h bare = ap complement (formula_value_agrees p q f h bare)
-    formula_value_agrees p q (group f) h bare = formula_value_agrees p q f h bare
-    formula_value_agrees p q (both f g) h bare =
-        ap (λ v. least v (formula_value t a p g)) (formula_value_agrees p q f (Agree-left (formula_nodes t f) (formula_nodes t g) h) (λ e. bare (or-left (has_bare_module f) (has_bare_module g) e)))
-        ∙ ap (λ v. least (formula_value t b q f) v) (formula_value_agrees p q g (Agree-right (formula_nodes t f) (formula_nodes t g) h) (λ e. bare (or-right (has_bare_module f) (has_bare_module g) e)))
-    formula_value_agrees p q (either f g) h bare =
-        ap (λ v. greatest v (formula_value t a p g)) (formula_value_agrees p q f (Agree-left (formula_nodes t f) (formula_nodes t g) h) (λ e. bare (or-left (has_bare_module f) (has_bare_module g) e)))
-        ∙ ap (λ v. greatest (formula_value t b q f) v) (formula_value_agrees p q g (Agree-right (formula_nodes t f) (formula_nodes t g) h) (λ e. bare (or-right (has_bare_module f) (has_bare_module g) e)))
+    formula_value_agrees (negation f) h = ap complement (formula_value_agrees f h)
+    formula_value_agrees (group f) h = formula_value_agrees f h
+    formula_value_agrees (both f g) h =
+        ap (λ v. least v (formula_value t a g)) (formula_value_agrees f (Agree-left (formula_nodes t f) (formula_nodes t g) h))
+        ∙ ap (λ v. least (formula_value t b f) v) (formula_value_agrees g (Agree-right (formula_nodes t f) (formula_nodes t g) h))
+    formula_value_agrees (either f g) h =
+        ap (λ v. greatest v (formula_value t a g)) (formula_value_agrees f (Agree-left (formula_nodes t f) (formula_nodes t g) h))
+        ∙ ap (λ v. greatest (formula_value t b f) v) (formula_value_agrees g (Agree-right (formula_nodes t f) (formula_nodes t g) h))
 
     expr_agrees : (e : Expr) → Agree (value_nodes t e) → expr_value t a e ≡ expr_value t b e
-    expr_agrees e h = formula_value_agrees Module Module (formula e) h (λ k. refl)
-
-    condition_agrees : (e : Expr) → Agree (condition_nodes t e) → condition_value t a e ≡ condition_value t b e
-    condition_agrees e h =
-        let bare = has_bare_module (formula e) in
-        formula_value_agrees (least Module (modules_value t a)) (least Module (modules_value t b)) (formula e)
-        (Agree-left (value_nodes t e) (nodes_if bare (modules_nodes t)) h)
-        (λ k. ap (least Module) (modules_agree (Agree-if bare (modules_nodes t) (Agree-right (value_nodes t e) (nodes_if bare (modules_nodes t)) h) k)))
+    expr_agrees e h = formula_value_agrees (formula e) h
 
     pub conditions_agree : (es : List Expr) → Agree (conditions_nodes t es) → conditions_value t a es ≡ conditions_value t b es
-    conditions_agree es h = ap least_of (map_agrees (condition_value t a) (condition_value t b) (condition_nodes t) condition_agrees es h)
+    conditions_agree es h = ap least_of (map_agrees (expr_value t a) (expr_value t b) (value_nodes t) expr_agrees es h)
 
     own_condition_agrees : (o : Option Expr) → Agree (own_condition_nodes t o) → own_condition t a o ≡ own_condition t b o
     own_condition_agrees None h = refl
-    own_condition_agrees (Some e) h = condition_agrees e h
+    own_condition_agrees (Some e) h = expr_agrees e h
 
     -- ---- definitions
     pub blocks_depend_agrees : (blocks : List BlockValue) → Agree (depends_nodes t blocks) → blocks_depend t a blocks ≡ blocks_depend t b blocks
@@ -307,19 +282,16 @@ module _ (a b : Assignment) where
     has_modules_agrees x h = has_modules_if (same_type (kind_of x) Tristate) h
 
     -- ---- texts
-    lone_text_agrees : (f : Formula) → Agree (formula_nodes t f) → option_map_or (term_text t a) (lone_term f) [] ≡ option_map_or (term_text t b) (lone_term f) []
-    lone_text_agrees (atom x) h = text_agrees x h
-    lone_text_agrees (compare c x y) h = refl
-    lone_text_agrees (negation f) h = refl
-    lone_text_agrees (group f) h = lone_text_agrees f h
-    lone_text_agrees (both f g) h = refl
-    lone_text_agrees (either f g) h = refl
+    lone_text_agrees : (e : Expr) → Agree (value_nodes t e) → value_text t a e ≡ value_text t b e
+    lone_text_agrees (expr.Term x) h = text_agrees x (subst (λ (f : Formula). Agree (formula_nodes t f)) (formula_term x) h)
+    lone_text_agrees (Group' p e) h = lone_text_agrees e (subst (λ (f : Formula). Agree (formula_nodes t f)) (formula_group (record { ptr = p.ptr; value = e; alloc = p.alloc })) h)
+    lone_text_agrees _ h = refl
 
     definition_text_agrees : (d : DefinitionValue) → Agree (definition_nodes t d) → definition_text t a d ≡ definition_text t b d
     definition_text_agrees d h =
         found_agrees (is_active t a d) (is_active t b d) (λ v. value_text t a v.value) (λ v. value_text t b v.value) (default_nodes t)
         (active_agrees d (definition_dependency_agrees d h))
-        (λ v k. lone_text_agrees (formula v.value) (Agree-left (value_nodes t v.value) (own_condition_nodes t v.condition) k))
+        (λ v k. lone_text_agrees v.value (Agree-left (value_nodes t v.value) (own_condition_nodes t v.condition) k))
         d.defaults (Agree-left (flat_map (default_nodes t) d.defaults) (flat_map (range_nodes t) d.ranges ++ dependency_nodes t d) h)
 
     default_text_agrees : (x : SymbolValue) → Agree (flat_map (definition_nodes t) (definitions_of t x)) → default_text t a x ≡ default_text t b x

@@ -3,21 +3,21 @@ use Rattle.std.proofs.Common.{◌≡◌, ◌<◌, Bool, true, false, true≢fals
 use Rattle.std.specs.Prelude.{is_some, option_and_then}
 use Rattle.std.specs.List.{slice_get, filter, list_any}
 use Rattle.std.specs.Option.{option_map_or}
-use Rattle.kc_tree.specs.declared.id.SymId.{SymId}
-use Rattle.kc_tree.specs.declared.id.ChoiceId.{ChoiceId}
+use Rattle.kc_statement.specs.declared.id.SymId.{SymId}
+use Rattle.kc_outline.specs.declared.id.ChoiceId.{ChoiceId}
 use Rattle.kc_tree.specs.declared.node.Node.{Node}
 use Rattle.kc_tree.specs.declared.node.Node.TheVariants.{Vis, Val}
-use Rattle.kc_tree.specs.declared.symbol.SymbolType.{SymbolType}
-use Rattle.kc_tree.specs.declared.symbol.SymbolType.TheVariants.{Bool as BoolType, Tristate, String as StringType, Int as IntType, Hex as HexType}
-use Rattle.kc_tree.specs.declared.tri.Tri.{Tri}
-use Rattle.kc_tree.specs.declared.tri.Tri.TheVariants.{No, Module, Yes}
+use Rattle.kc_statement.specs.declared.symbol_type.SymbolType.{SymbolType}
+use Rattle.kc_statement.specs.declared.symbol_type.SymbolType.TheVariants.{Bool as BoolType, Tristate, String as StringType, Int as IntType, Hex as HexType}
+use Rattle.kc_statement.specs.declared.tri.Tri.{Tri}
+use Rattle.kc_statement.specs.declared.tri.Tri.TheVariants.{No, Module, Yes}
 use Rattle.kc_tree.specs.declared.user_value.UserVal.TheVariants.{Tri as TriVal}
 use Rattle.kc_tree.specs.SymbolFaults.{is_tri_type}
-use Rattle.kc_tree.specs.TreeOf.{same_type}
-use Rattle.kc_tree.specs.TreeValue.{TreeValue, SymbolValue, kind_of, choice_of}
+use Rattle.kc_outline.specs.TreeOf.{same_type}
+use Rattle.kc_outline.specs.TreeValue.{TreeValue, SymbolValue, kind_of, choice_of}
 use Rattle.kc_tree.specs.Uses.{Uses}
 use Rattle.kc_value.specs.declared.value.Value.TheVariants.{Tri as Level}
-use Rattle.kc_tree.specs.Tristate.{is_no}
+use Rattle.kc_statement.specs.Tristate.{is_no}
 use Rattle.kc_value.specs.declared.value.Value.{Value}
 use Rattle.kc_value.specs.Assignment.{Assignment, as_tri, assignment_of}
 use Rattle.kc_value.specs.UserValues.{UserValues, IsUserFor, user_value, with_value}

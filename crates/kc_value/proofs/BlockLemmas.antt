@@ -1,11 +1,11 @@
 -- The blocks around, one after the other.
 use Rattle.std.proofs.Common.{◌≡◌, ℕ, suc, List, ◌∷◌, Option, Some, None, refl, slice_get}
 use Rattle.std.specs.Prelude.{option_and_then}
-use Rattle.kc_tree.specs.declared.id.BlockId.{BlockId}
-use Rattle.kc_tree.specs.declared.tri.Tri.{Tri}
-use Rattle.kc_tree.specs.declared.tri.Tri.TheVariants.{No, Module, Yes}
-use Rattle.kc_tree.specs.Tristate.{least}
-use Rattle.kc_tree.specs.TreeValue.{BlockValue, blocks_from}
+use Rattle.kc_outline.specs.declared.id.BlockId.{BlockId}
+use Rattle.kc_statement.specs.declared.tri.Tri.{Tri}
+use Rattle.kc_statement.specs.declared.tri.Tri.TheVariants.{No, Module, Yes}
+use Rattle.kc_statement.specs.Tristate.{least}
+use Rattle.kc_outline.specs.TreeValue.{BlockValue, blocks_from}
 
 pub least_least : (x y z : Tri) → least (least x y) z ≡ least x (least y z)
 least_least No y z = refl

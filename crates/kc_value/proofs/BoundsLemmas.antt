@@ -6,9 +6,9 @@ use Rattle.std.specs.List.{list_all}
 use Rattle.std.specs.Str.{bytes_eq}
 use Rattle.std.specs.Str.Parse.{digits_value}
 use Rattle.std.proofs.lemmas.Bool.Decides.{nat_tests}
-use Rattle.kc_tree.specs.declared.symbol.SymbolType.{SymbolType}
-use Rattle.kc_tree.specs.declared.symbol.SymbolType.TheVariants as kind
-use Rattle.kc_tree.specs.Numerals.{up_to, hex_digits}
+use Rattle.kc_statement.specs.declared.symbol_type.SymbolType.{SymbolType}
+use Rattle.kc_statement.specs.declared.symbol_type.SymbolType.TheVariants as kind
+use Rattle.kc_statement.specs.Numerals.{up_to, hex_digits}
 use Rattle.kc_value.specs.BoundsRange.{IsHexNumber, IsSmall}
 use Rattle.kc_value.specs.TextRule.{number_or_zero}
 

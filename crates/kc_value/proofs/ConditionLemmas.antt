@@ -1,23 +1,23 @@
 -- Assignments that agree on all nodes of a tree give its menus and comments the same condition.
-use Rattle.std.proofs.Common.{◌≡◌, ℕ, ◌<◌, Bool, true, false, length, List, [], ◌∷◌, ◌++◌, Option, Some, None, refl, ap, ◌∙◌}
+use Rattle.std.proofs.Common.{◌≡◌, ℕ, ◌<◌, length, List, [], ◌∷◌, ◌++◌, Option, Some, None, refl, ap, ◌∙◌}
 use Rattle.std.specs.List.{flat_map, slice_get}
 use Rattle.std.specs.Option.{option_map_or}
 use Rattle.std.proofs.lemmas.Option.{slice_get_within}
-use Rattle.kc_tree.specs.declared.expr.Term.{Term}
-use Rattle.kc_tree.specs.declared.expr.Term.TheVariants.{Tri as Constant, Text, Symbol, Undefined}
-use Rattle.kc_tree.specs.declared.expr.Expr.{Expr}
-use Rattle.kc_tree.specs.declared.id.SymId.{SymId}
-use Rattle.kc_tree.specs.declared.id.BlockId.{BlockId}
-use Rattle.kc_tree.specs.declared.id.CommentId.{CommentId}
-use Rattle.kc_tree.specs.declared.id.ChoiceId.{ChoiceId}
+use Rattle.kc_statement.specs.declared.expr.Term.{Term}
+use Rattle.kc_statement.specs.declared.expr.Term.TheVariants.{Tri as Constant, Text, Symbol, Undefined}
+use Rattle.kc_statement.specs.declared.expr.Expr.{Expr}
+use Rattle.kc_statement.specs.declared.id.SymId.{SymId}
+use Rattle.kc_outline.specs.declared.id.BlockId.{BlockId}
+use Rattle.kc_outline.specs.declared.id.CommentId.{CommentId}
+use Rattle.kc_outline.specs.declared.id.ChoiceId.{ChoiceId}
 use Rattle.kc_tree.specs.declared.node.Node.{Node}
 use Rattle.kc_tree.specs.declared.node.Node.TheVariants.{Val, Mode}
-use Rattle.kc_tree.specs.declared.tri.Tri.TheVariants.{No, Yes}
-use Rattle.kc_tree.specs.Grammar.{Formula, atom, compare, negation, group, both, either, formula}
+use Rattle.kc_statement.specs.declared.tri.Tri.TheVariants.{No, Yes}
+use Rattle.kc_statement.specs.Grammar.{Formula, atom, bare, compare, negation, group, both, either, formula}
 use Rattle.kc_tree.specs.Nodes.{IsNodeOf}
-use Rattle.kc_tree.specs.TreeValue.{TreeValue, SymbolValue, BlockValue, ChoiceValue, CommentValue, modules_symbol, blocks_around}
-use Rattle.kc_tree.specs.Tristate.{least}
-use Rattle.kc_tree.specs.Uses.{symbol_nodes, term_nodes, formula_nodes, value_nodes, modules_nodes, has_bare_module, nodes_if, condition_nodes, conditions_nodes}
+use Rattle.kc_outline.specs.TreeValue.{TreeValue, SymbolValue, BlockValue, ChoiceValue, CommentValue, modules_symbol, blocks_around}
+use Rattle.kc_statement.specs.Tristate.{least}
+use Rattle.kc_tree.specs.Uses.{symbol_nodes, term_nodes, formula_nodes, value_nodes, conditions_nodes}
 use Rattle.kc_value.specs.Assignment.{Assignment, as_tri}
 use Rattle.kc_value.specs.ExprValue.{conditions_value}
 use Rattle.kc_value.specs.Conditions.{blocks_depend, mode_around, menu_value, comment_value, menu_condition, comment_condition}
@@ -51,24 +51,21 @@ module _ (t : TreeValue) (a b : Assignment) (same : (n : Node) → IsNodeOf t n 
 
   at_formula : (f : Formula) → Agree a b (formula_nodes t f)
   at_formula (atom x) = at_term x
+  at_formula (bare x) = at_modules (modules_symbol t)
   at_formula (compare c x y) = in_both_parts (term_nodes t x) (term_nodes t y) (at_term x) (at_term y)
   at_formula (negation f) = at_formula f
   at_formula (group f) = at_formula f
   at_formula (both f g) = in_both_parts (formula_nodes t f) (formula_nodes t g) (at_formula f) (at_formula g)
   at_formula (either f g) = in_both_parts (formula_nodes t f) (formula_nodes t g) (at_formula f) (at_formula g)
 
-  at_if : (test : Bool) → Agree a b (nodes_if test (modules_nodes t))
-  at_if true = at_modules (modules_symbol t)
-  at_if false = tt
-
-  at_condition : (e : Expr) → Agree a b (condition_nodes t e)
-  at_condition e = in_both_parts (value_nodes t e) (nodes_if (has_bare_module (formula e)) (modules_nodes t)) (at_formula (formula e)) (at_if (has_bare_module (formula e)))
+  at_condition : (e : Expr) → Agree a b (value_nodes t e)
+  at_condition e = at_formula (formula e)
 
   same_conditions : (es : List Expr) → conditions_value t a es ≡ conditions_value t b es
-  same_conditions es = conditions_agree a b t es (in_each (condition_nodes t) at_condition es)
+  same_conditions es = conditions_agree a b t es (in_each (value_nodes t) at_condition es)
 
   same_blocks_depend : (blocks : List BlockValue) → blocks_depend t a blocks ≡ blocks_depend t b blocks
-  same_blocks_depend blocks = blocks_depend_agrees a b t blocks (in_each (λ x. conditions_nodes t x.depends) (λ x. in_each (condition_nodes t) at_condition x.depends) blocks)
+  same_blocks_depend blocks = blocks_depend_agrees a b t blocks (in_each (λ x. conditions_nodes t x.depends) (λ x. in_each (value_nodes t) at_condition x.depends) blocks)
 
   same_menu_value : (x : BlockValue) → menu_value t a x ≡ menu_value t b x
   same_menu_value x =

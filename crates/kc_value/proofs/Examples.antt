@@ -1,31 +1,27 @@
 -- What the definitions give for small texts and trees.
-use Rattle.std.proofs.Common.{◌≡◌, ℕ, Bool, true, false, List, [], ◌∷◌, Option, Some, None, ◌==◌, if◌then◌else◌, codes, pos, negsuc, refl, ap}
+use Rattle.std.proofs.Common.{◌≡◌, ℕ, Bool, true, false, List, [], ◌∷◌, Option, Some, None, ◌==◌, if◌then◌else◌, codes, pos, negsuc, refl}
 use Rattle.std.specs.Fmt.{digits}
-use Rattle.std.specs.Option.{option_map_or}
-use Rattle.kc_tree.specs.declared.id.SymId.{SymId}
-use Rattle.kc_tree.specs.declared.block.BlockKind.TheVariants.{Choice}
-use Rattle.kc_tree.specs.declared.choice.ChoiceDefault.{ChoiceDefault}
+use Rattle.kc_statement.specs.declared.id.SymId.{SymId}
+use Rattle.kc_outline.specs.declared.block.BlockKind.TheVariants.{Choice}
+use Rattle.kc_outline.specs.declared.choice.ChoiceDefault.{ChoiceDefault}
 use Rattle.kc_tree.specs.declared.node.Node.{Node}
 use Rattle.kc_tree.specs.declared.node.Node.TheVariants.{Vis, Val, Mode, Sel}
-use Rattle.kc_tree.specs.declared.expr.Expr.TheVariants.{Term as TermExpr}
-use Rattle.kc_tree.specs.declared.expr.Term.TheVariants.{Tri as Constant, Text, Undefined}
-use Rattle.kc_tree.specs.declared.expr.Comparison.TheVariants as comparison
-use Rattle.kc_tree.specs.declared.symbol.SymbolType.{SymbolType}
-use Rattle.kc_tree.specs.declared.symbol.SymbolType.TheVariants.{Bool as BoolType, Tristate, Int, Hex}
-use Rattle.kc_tree.specs.declared.symbol.Reverse.{Reverse}
-use Rattle.kc_tree.specs.declared.tri.Tri.TheVariants.{No, Module, Yes}
+use Rattle.kc_statement.specs.declared.expr.Expr.TheVariants.{Term as TermExpr}
+use Rattle.kc_statement.specs.declared.expr.Term.TheVariants.{Tri as Constant, Text, Undefined}
+use Rattle.kc_statement.specs.declared.expr.Comparison.TheVariants as comparison
+use Rattle.kc_statement.specs.declared.symbol_type.SymbolType.{SymbolType}
+use Rattle.kc_statement.specs.declared.symbol_type.SymbolType.TheVariants.{Bool as BoolType, Tristate, Int, Hex}
+use Rattle.kc_outline.specs.declared.symbol.Reverse.{Reverse}
+use Rattle.kc_statement.specs.declared.tri.Tri.TheVariants.{No, Yes}
 use Rattle.kc_tree.specs.declared.user_value.UserVal.{UserVal}
 use Rattle.kc_tree.specs.declared.user_value.UserVal.TheVariants.{Tri as TriVal, Text as TextVal}
-use Rattle.kc_tree.specs.Grammar.{Formula, compare, lone_term}
-use Rattle.kc_tree.specs.TreeValue.{TreeValue, SymbolValue, DefinitionValue, ChoiceValue}
-use Rattle.kc_tree.proofs.FormulaLaws.{formula_term}
-use Rattle.kc_value.specs.declared.value.Value.{Value}
+use Rattle.kc_statement.specs.Grammar.{compare}
+use Rattle.kc_outline.specs.TreeValue.{TreeValue, SymbolValue, DefinitionValue, ChoiceValue}
 use Rattle.kc_value.specs.declared.value.Value.TheVariants.{Tri as Level, Shown, Member}
 use Rattle.kc_value.specs.Assignment.{Assignment}
-use Rattle.kc_value.specs.ExprValue.{formula_value, term_text}
+use Rattle.kc_value.specs.ExprValue.{formula_value}
 use Rattle.kc_value.specs.Numerals.{number_of_text}
 use Rattle.kc_value.specs.Rule.{rule}
-use Rattle.kc_value.specs.TextRule.{bounds_of, clamped}
 use Rattle.kc_value.specs.UserValues.{UserValues}
 
 -- ---- which texts count as numbers
@@ -60,13 +56,13 @@ empty_tree = record { names = []; symbols = []; definitions = []; blocks = []; c
 abbrev nothing : Assignment
 nothing n = Level No
 
-by_number : formula_value empty_tree nothing Module (compare comparison.Less (Text (codes "9")) (Undefined (codes "10"))) ≡ Yes
+by_number : formula_value empty_tree nothing (compare comparison.Less (Text (codes "9")) (Undefined (codes "10"))) ≡ Yes
 by_number = refl
 
-by_text : formula_value empty_tree nothing Module (compare comparison.Less (Text (codes "9a")) (Undefined (codes "10"))) ≡ No
+by_text : formula_value empty_tree nothing (compare comparison.Less (Text (codes "9a")) (Undefined (codes "10"))) ≡ No
 by_text = refl
 
-two_is_y : formula_value empty_tree nothing Module (compare comparison.Equal (Text (codes "2")) (Constant Yes)) ≡ Yes
+two_is_y : formula_value empty_tree nothing (compare comparison.Equal (Text (codes "2")) (Constant Yes)) ≡ Yes
 two_is_y = refl
 
 -- ---- a tristate with a prompt that another one selects; MODULES is not defined
@@ -157,13 +153,6 @@ user_says v = record { values = v ∷ []; chosen = [] }
 abbrev visible : Assignment
 visible n = Level Yes
 
--- what such a symbol shows where the user gave nothing that counts: its default, clamped
-abbrev by_default : SymbolType → DefinitionValue → Formula → Value
-by_default kind d f =
-    let t = number kind d in
-    let text = option_map_or (term_text t visible) (lone_term f) [] in
-    Shown (TextVal (clamped kind (bounds_of t visible (symbol kind 0 [])) text)) true
-
 abbrev first : Node
 first = Val (record { 0 = 0 })
 
@@ -173,12 +162,12 @@ one_to_five value = number Int (with_range value (codes "1") (codes "5"))
 -- a default past the range
 above : rule (one_to_five (codes "9")) (user_says None) visible first ≡ Shown (TextVal (codes "5")) true
 unfolding rule digits
-above = ap (by_default Int (with_range (codes "9") (codes "1") (codes "5"))) (formula_term (Text (codes "9")))
+above = refl
 
 -- a bound of a hex has its sign and lower-case digits
 above_hex : rule (number Hex (with_range (codes "0x20") (codes "0x0") (codes "0X1F"))) (user_says None) visible first ≡ Shown (TextVal (codes "0x1f")) true
 unfolding rule digits
-above_hex = ap (by_default Hex (with_range (codes "0x20") (codes "0x0") (codes "0X1F"))) (formula_term (Text (codes "0x20")))
+above_hex = refl
 
 -- the user's value inside the range shows
 inside : rule (one_to_five (codes "3")) (user_says (Some (TextVal (codes "04")))) visible first ≡ Shown (TextVal (codes "04")) true
@@ -188,12 +177,12 @@ inside = refl
 -- one outside of it does not, and is not clamped: the default shows
 outside : rule (one_to_five (codes "3")) (user_says (Some (TextVal (codes "7")))) visible first ≡ Shown (TextVal (codes "3")) true
 unfolding rule
-outside = ap (by_default Int (with_range (codes "3") (codes "1") (codes "5"))) (formula_term (Text (codes "3")))
+outside = refl
 
 -- where the bounds are the wrong way round the low one counts first
 wrong_way_round : rule (number Int (with_range (codes "3") (codes "5") (codes "1"))) (user_says None) visible first ≡ Shown (TextVal (codes "5")) true
 unfolding rule digits
-wrong_way_round = ap (by_default Int (with_range (codes "3") (codes "5") (codes "1"))) (formula_term (Text (codes "3")))
+wrong_way_round = refl
 
 -- ---- a choice of A, B and C
 abbrev letter : ℕ → SymbolValue

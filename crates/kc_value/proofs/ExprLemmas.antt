@@ -1,15 +1,15 @@
 -- The value of expressions that one operator joins, and of those behind a run of `!`.
-use Rattle.std.proofs.Common.{◌≡◌, ◌≢◌, Box, ◌%◌, ◌∙◌, ℕ, zero, suc, List, [], ◌∷◌, map, length, ◌<◌, arith, refl, sym, ap}
+use Rattle.std.proofs.Common.{◌≡◌, ◌≢◌, Box, ◌%◌, ◌∙◌, ℕ, zero, suc, List, [], ◌∷◌, map, arith, refl, sym, ap}
 use Rattle.std.specs.Global.{Global}
-use Rattle.kc_tree.specs.declared.expr.Expr.{Expr}
-use Rattle.kc_tree.specs.declared.expr.Expr.TheViews as view
-use Rattle.kc_tree.specs.declared.expr.Negations.{Negations}
-use Rattle.kc_tree.specs.declared.tri.Tri.{Tri}
-use Rattle.kc_tree.specs.declared.tri.Tri.TheVariants.{No, Module, Yes}
-use Rattle.kc_tree.specs.Grammar.{Formula, both, either, joined, negations, formula}
-use Rattle.kc_tree.specs.Tristate.{complement, least, least_of, greatest, greatest_of}
-use Rattle.kc_tree.specs.TreeValue.{TreeValue}
-use Rattle.kc_tree.proofs.FormulaLaws.{formula_not}
+use Rattle.kc_statement.specs.declared.expr.Expr.{Expr}
+use Rattle.kc_statement.specs.declared.expr.Expr.TheViews as view
+use Rattle.kc_statement.specs.declared.expr.Negations.{Negations}
+use Rattle.kc_statement.specs.declared.tri.Tri.{Tri}
+use Rattle.kc_statement.specs.declared.tri.Tri.TheVariants.{No, Module, Yes}
+use Rattle.kc_statement.specs.Grammar.{Formula, all_joined, any_joined, negations, formula}
+use Rattle.kc_statement.specs.Tristate.{complement, least, least_of, greatest, greatest_of}
+use Rattle.kc_outline.specs.TreeValue.{TreeValue}
+use Rattle.kc_statement.proofs.FormulaLaws.{formula_not}
 use Rattle.kc_value.specs.Assignment.{Assignment}
 use Rattle.kc_value.specs.ExprValue.{complements, formula_value}
 
@@ -24,15 +24,15 @@ greatest_no Module = refl
 greatest_no Yes = refl
 
 -- ---- runs of `!`
-pub value_negations : (t : TreeValue) (a : Assignment) (bare : Tri) (n : ℕ) (f : Formula)
-    → formula_value t a bare (negations n f) ≡ complements n (formula_value t a bare f)
-value_negations t a bare zero f = refl
-value_negations t a bare (suc n) f = ap complement (value_negations t a bare n f)
+pub value_negations : (t : TreeValue) (a : Assignment) (n : ℕ) (f : Formula)
+    → formula_value t a (negations n f) ≡ complements n (formula_value t a f)
+value_negations t a zero f = refl
+value_negations t a (suc n) f = ap complement (value_negations t a n f)
 
-pub value_negated : (t : TreeValue) (a : Assignment) (bare : Tri) (e : Expr) (run : Negations) (inner : Box Expr Global) → e ≡ view.Not run inner
-    → complements run.count (formula_value t a bare (formula inner.value)) ≡ formula_value t a bare (formula e)
-value_negated t a bare e run inner is =
-    sym (ap (λ (x : Expr). formula_value t a bare (formula x)) is ∙ ap (formula_value t a bare) (formula_not run inner) ∙ value_negations t a bare run.count (formula inner.value))
+pub value_negated : (t : TreeValue) (a : Assignment) (e : Expr) (run : Negations) (inner : Box Expr Global) → e ≡ view.Not run inner
+    → complements run.count (formula_value t a (formula inner.value)) ≡ formula_value t a (formula e)
+value_negated t a e run inner is =
+    sym (ap (λ (x : Expr). formula_value t a (formula x)) is ∙ ap (formula_value t a) (formula_not run inner) ∙ value_negations t a run.count (formula inner.value))
 
 -- two of them cancel
 complement_twice : (v : Tri) → complement (complement v) ≡ v
@@ -51,16 +51,16 @@ complements_odd (suc zero) v odd = refl
 complements_odd (suc (suc n)) v odd = complement_twice (complements n v) ∙ complements_odd n v (λ even. odd (omega (arith, even)))
 
 -- ---- joined expressions
--- of one or more, it is the least
-pub joined_both : (t : TreeValue) (a : Assignment) (bare : Tri) (fs : List Formula) → 0 < length fs
-    → formula_value t a bare (joined both fs) ≡ least_of (map (formula_value t a bare) fs)
-joined_both t a bare [] some = absurd (omega (arith, some))
-joined_both t a bare (f ∷ []) some = sym (least_yes (formula_value t a bare f))
-joined_both t a bare (f ∷ g ∷ fs) some = ap (least (formula_value t a bare f)) (joined_both t a bare (g ∷ fs) (omega arith))
+-- of any number, it is the least
+pub joined_both : (t : TreeValue) (a : Assignment) (fs : List Formula)
+    → formula_value t a (all_joined fs) ≡ least_of (map (formula_value t a) fs)
+joined_both t a [] = refl
+joined_both t a (f ∷ []) = sym (least_yes (formula_value t a f))
+joined_both t a (f ∷ g ∷ fs) = ap (least (formula_value t a f)) (joined_both t a (g ∷ fs))
 
--- and the greatest of any number
-pub joined_either : (t : TreeValue) (a : Assignment) (bare : Tri) (fs : List Formula)
-    → formula_value t a bare (joined either fs) ≡ greatest_of (map (formula_value t a bare) fs)
-joined_either t a bare [] = refl
-joined_either t a bare (f ∷ []) = sym (greatest_no (formula_value t a bare f))
-joined_either t a bare (f ∷ g ∷ fs) = ap (greatest (formula_value t a bare f)) (joined_either t a bare (g ∷ fs))
+-- and the greatest
+pub joined_either : (t : TreeValue) (a : Assignment) (fs : List Formula)
+    → formula_value t a (any_joined fs) ≡ greatest_of (map (formula_value t a) fs)
+joined_either t a [] = refl
+joined_either t a (f ∷ []) = sym (greatest_no (formula_value t a f))
+joined_either t a (f ∷ g ∷ fs) = ap (greatest (formula_value t a f)) (joined_either t a (g ∷ fs))

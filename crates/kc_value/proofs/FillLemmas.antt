@@ -6,8 +6,8 @@ use Rattle.std.proofs.lemmas.List.{take_more}
 use Rattle.std.proofs.lemmas.List.Elements.{Contains-push_cases, Contains-get_or}
 use Rattle.std.proofs.lemmas.Option.{slice_get-get_or}
 use Rattle.kc_tree.specs.declared.node.Node.{Node}
-use Rattle.kc_tree.specs.declared.tri.Tri.TheVariants.{No}
-use Rattle.kc_tree.specs.TreeValue.{TreeValue}
+use Rattle.kc_statement.specs.declared.tri.Tri.TheVariants.{No}
+use Rattle.kc_outline.specs.TreeValue.{TreeValue}
 use Rattle.kc_tree.specs.Nodes.{IsNodeOf, node_count, number_of}
 use Rattle.kc_tree.specs.Order.{IsOrder}
 use Rattle.kc_tree.specs.Uses.{Uses}

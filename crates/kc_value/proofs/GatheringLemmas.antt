@@ -5,8 +5,8 @@ use Rattle.std.proofs.lemmas.List.{take_all, drop_more, length-drop}
 use Rattle.std.proofs.lemmas.List.Elements.{Contains-push_cases, Contains-get_or}
 use Rattle.std.proofs.lemmas.List.FromFn.{get_or-map-range_with_len, length-map-range_with_len, map-range_with_len_more}
 use Rattle.kc_tree.specs.declared.node.Node.{Node}
-use Rattle.kc_tree.specs.declared.tri.Tri.TheVariants.{No}
-use Rattle.kc_tree.specs.TreeValue.{TreeValue}
+use Rattle.kc_statement.specs.declared.tri.Tri.TheVariants.{No}
+use Rattle.kc_outline.specs.TreeValue.{TreeValue}
 use Rattle.kc_tree.specs.Nodes.{IsNodeOf, node_count, number_of, node_at, all_nodes}
 use Rattle.kc_tree.specs.Accepted.{IsAccepted}
 use Rattle.kc_tree.specs.Uses.{Uses}

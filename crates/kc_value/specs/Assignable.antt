@@ -2,15 +2,15 @@
 use Rattle.std.specs.Prelude.{Bool, true, false, List, [], ◌∷◌, Some, filter, slice_get, is_some, if◌then◌else◌}
 use Rattle.std.specs.List.{list_any}
 use Rattle.std.specs.Option.{option_map_or}
-use Rattle.kc_tree.specs.declared.tri.Tri.{Tri}
-use Rattle.kc_tree.specs.declared.tri.Tri.TheVariants.{No, Module, Yes}
-use Rattle.kc_tree.specs.declared.id.SymId.{SymId}
+use Rattle.kc_statement.specs.declared.tri.Tri.{Tri}
+use Rattle.kc_statement.specs.declared.tri.Tri.TheVariants.{No, Module, Yes}
+use Rattle.kc_statement.specs.declared.id.SymId.{SymId}
 use Rattle.kc_tree.specs.declared.node.Node.TheVariants.{Vis, Val}
 use Rattle.kc_tree.specs.declared.user_value.UserVal.TheVariants.{Tri as TriVal}
-use Rattle.kc_tree.specs.declared.symbol.SymbolType.{SymbolType}
-use Rattle.kc_tree.specs.declared.symbol.SymbolType.TheVariants.{Bool as BoolType, Tristate}
-use Rattle.kc_tree.specs.TreeValue.{TreeValue, kind_of, choice_of}
-use Rattle.kc_tree.specs.Tristate.{is_no}
+use Rattle.kc_statement.specs.declared.symbol_type.SymbolType.{SymbolType}
+use Rattle.kc_statement.specs.declared.symbol_type.SymbolType.TheVariants.{Bool as BoolType, Tristate}
+use Rattle.kc_outline.specs.TreeValue.{TreeValue, kind_of, choice_of}
+use Rattle.kc_statement.specs.Tristate.{is_no}
 use Rattle.kc_value.specs.Assignment.{Assignment, as_tri}
 use Rattle.kc_value.specs.UserValues.{UserValues, with_value}
 use Rattle.kc_value.specs.Rule.{rule}

@@ -1,7 +1,7 @@
 -- Which numbers the numerals of a type spell: this project's own.
 use Rattle.std.specs.Prelude.{◌<◌, ◌^◌, Option, Some, None, ℤ, pos, negsuc}
-use Rattle.kc_tree.specs.declared.symbol.SymbolType.{SymbolType}
-use Rattle.kc_tree.specs.declared.symbol.SymbolType.TheVariants as kind
+use Rattle.kc_statement.specs.declared.symbol_type.SymbolType.{SymbolType}
+use Rattle.kc_statement.specs.declared.symbol_type.SymbolType.TheVariants as kind
 use Rattle.kc_value.specs.declared.bounds.Bounds.{Bounds}
 
 -- a hex is no less than 0 and has 64 bits at most

@@ -1,14 +1,14 @@
 -- The mode and the selection of a choice: kconfig-language.rst, "choices", and Kconfiglib, "selection".
 use Rattle.std.specs.Prelude.{Bool, false, not, ◌&&◌, ◌||◌, ◌==◌, Option, Some, None, is_some, option_and_then, if◌then◌else◌, find, filter_map, slice_get}
 use Rattle.std.specs.Option.{option_map_or, option_or}
-use Rattle.kc_tree.specs.declared.id.SymId.{SymId}
-use Rattle.kc_tree.specs.declared.id.ChoiceId.{ChoiceId}
-use Rattle.kc_tree.specs.declared.tri.Tri.{Tri}
-use Rattle.kc_tree.specs.declared.choice.ChoiceDefault.{ChoiceDefault}
+use Rattle.kc_statement.specs.declared.id.SymId.{SymId}
+use Rattle.kc_outline.specs.declared.id.ChoiceId.{ChoiceId}
+use Rattle.kc_statement.specs.declared.tri.Tri.{Tri}
+use Rattle.kc_outline.specs.declared.choice.ChoiceDefault.{ChoiceDefault}
 use Rattle.kc_tree.specs.declared.node.Node.TheVariants.{Vis, Mode, Sel}
 use Rattle.kc_tree.specs.declared.user_value.UserVal.TheVariants.{Tri as TriVal}
-use Rattle.kc_tree.specs.Tristate.{is_no}
-use Rattle.kc_tree.specs.TreeValue.{TreeValue, ChoiceValue}
+use Rattle.kc_statement.specs.Tristate.{is_no}
+use Rattle.kc_outline.specs.TreeValue.{TreeValue, ChoiceValue}
 use Rattle.kc_value.specs.declared.value.Value.{Value}
 use Rattle.kc_value.specs.declared.value.Value.TheVariants.{Shown}
 use Rattle.kc_value.specs.Assignment.{Assignment, as_tri, as_member}

@@ -1,14 +1,14 @@
 -- The conditions of definitions, choices, menus and comments: kconfig-language.rst, "Menu dependencies" and "Menu structure".
 use Rattle.std.specs.Prelude.{List, Option, Some, None, map, slice_get}
 use Rattle.std.specs.Option.{option_map_or}
-use Rattle.kc_tree.specs.declared.id.BlockId.{BlockId}
-use Rattle.kc_tree.specs.declared.id.CommentId.{CommentId}
-use Rattle.kc_tree.specs.declared.id.ChoiceId.{ChoiceId}
+use Rattle.kc_outline.specs.declared.id.BlockId.{BlockId}
+use Rattle.kc_outline.specs.declared.id.CommentId.{CommentId}
+use Rattle.kc_outline.specs.declared.id.ChoiceId.{ChoiceId}
 use Rattle.kc_tree.specs.declared.node.Node.TheVariants.{Mode}
-use Rattle.kc_tree.specs.declared.tri.Tri.{Tri}
-use Rattle.kc_tree.specs.declared.tri.Tri.TheVariants.{No, Yes}
-use Rattle.kc_tree.specs.Tristate.{least, least_of}
-use Rattle.kc_tree.specs.TreeValue.{TreeValue, DefinitionValue, BlockValue, ChoiceValue, CommentValue, blocks_around}
+use Rattle.kc_statement.specs.declared.tri.Tri.{Tri}
+use Rattle.kc_statement.specs.declared.tri.Tri.TheVariants.{No, Yes}
+use Rattle.kc_statement.specs.Tristate.{least, least_of}
+use Rattle.kc_outline.specs.TreeValue.{TreeValue, DefinitionValue, BlockValue, ChoiceValue, CommentValue, blocks_around}
 use Rattle.kc_value.specs.Assignment.{Assignment, as_tri}
 use Rattle.kc_value.specs.ExprValue.{conditions_value, own_condition}
 

@@ -1,9 +1,9 @@
 -- When a default is active: kconfig-language.rst, "Menu attributes".
 use Rattle.std.specs.Prelude.{Bool, not}
-use Rattle.kc_tree.specs.declared.tri.Tri.{Tri}
-use Rattle.kc_tree.specs.declared.definition.DefaultValue.{DefaultValue}
-use Rattle.kc_tree.specs.Tristate.{least, is_no}
-use Rattle.kc_tree.specs.TreeValue.{TreeValue, DefinitionValue}
+use Rattle.kc_statement.specs.declared.tri.Tri.{Tri}
+use Rattle.kc_statement.specs.declared.attribute.DefaultValue.{DefaultValue}
+use Rattle.kc_statement.specs.Tristate.{least, is_no}
+use Rattle.kc_outline.specs.TreeValue.{TreeValue, DefinitionValue}
 use Rattle.kc_value.specs.Assignment.{Assignment}
 use Rattle.kc_value.specs.ExprValue.{own_condition}
 use Rattle.kc_value.specs.Conditions.{dependency}

@@ -1,26 +1,26 @@
 -- The value of an expression: kconfig-language.rst, "Menu dependencies", and Kconfiglib, "expr_value".
-use Rattle.std.specs.Prelude.{ℕ, zero, suc, Bool, true, false, ◌&&◌, List, Option, Some, None, option_map, if◌then◌else◌, map, slice_get, codes, ℤ, pos}
+use Rattle.std.specs.Prelude.{ℕ, zero, suc, Bool, true, false, ◌&&◌, List, Option, Some, None, option_map, if◌then◌else◌, map, unwrap_or, slice_get, codes, ℤ, pos}
 use Rattle.std.specs.Option.{option_map_or, option_or}
 use Rattle.std.specs.Str.{bytes_eq}
 use Rattle.std.specs.Cmp.Lexicographic.{slice_cmp}
 use Rattle.std.specs.declared.cmp.Ordering.{Ordering}
 use Rattle.std.specs.Ordering.{nat_cmp, int_cmp, is_eq, is_ne, is_lt, is_le, is_gt, is_ge}
-use Rattle.kc_tree.specs.declared.id.SymId.{SymId}
-use Rattle.kc_tree.specs.declared.tri.Tri.{Tri}
-use Rattle.kc_tree.specs.declared.tri.Tri.TheVariants.{No, Module, Yes}
-use Rattle.kc_tree.specs.declared.expr.Term.{Term}
-use Rattle.kc_tree.specs.declared.expr.Term.TheVariants.{Tri as Constant, Text, Symbol, Undefined}
-use Rattle.kc_tree.specs.declared.expr.Comparison.{Comparison}
-use Rattle.kc_tree.specs.declared.expr.Comparison.TheVariants as comparison
-use Rattle.kc_tree.specs.declared.expr.Expr.{Expr}
+use Rattle.kc_statement.specs.declared.id.SymId.{SymId}
+use Rattle.kc_statement.specs.declared.tri.Tri.{Tri}
+use Rattle.kc_statement.specs.declared.tri.Tri.TheVariants.{No, Module, Yes}
+use Rattle.kc_statement.specs.declared.expr.Term.{Term}
+use Rattle.kc_statement.specs.declared.expr.Term.TheVariants.{Tri as Constant, Text, Symbol, Undefined}
+use Rattle.kc_statement.specs.declared.expr.Comparison.{Comparison}
+use Rattle.kc_statement.specs.declared.expr.Comparison.TheVariants as comparison
+use Rattle.kc_statement.specs.declared.expr.Expr.{Expr}
 use Rattle.kc_tree.specs.declared.node.Node.TheVariants.{Val}
-use Rattle.kc_tree.specs.Grammar.{Formula, atom, compare, negation, group, both, either, formula}
-use Rattle.kc_tree.specs.Tristate.{least, greatest, least_of, complement}
-use Rattle.kc_tree.specs.declared.symbol.SymbolType.{SymbolType}
-use Rattle.kc_tree.specs.declared.symbol.SymbolType.TheVariants as kind
-use Rattle.kc_tree.specs.Numerals.{numeral_in}
-use Rattle.kc_tree.specs.TreeOf.{same_type}
-use Rattle.kc_tree.specs.TreeValue.{TreeValue, modules_symbol, kind_of}
+use Rattle.kc_statement.specs.Grammar.{Formula, atom, bare, compare, negation, group, both, either, formula}
+use Rattle.kc_statement.specs.Tristate.{least, greatest, least_of, complement}
+use Rattle.kc_statement.specs.declared.symbol_type.SymbolType.{SymbolType}
+use Rattle.kc_statement.specs.declared.symbol_type.SymbolType.TheVariants as kind
+use Rattle.kc_statement.specs.Numerals.{numeral_in}
+use Rattle.kc_outline.specs.TreeOf.{same_type}
+use Rattle.kc_outline.specs.TreeValue.{TreeValue, modules_symbol, kind_of}
 use Rattle.kc_value.specs.declared.value.Value.{Value}
 use Rattle.kc_value.specs.Assignment.{Assignment, as_tri, as_text, tri_letter}
 use Rattle.kc_value.specs.Numerals.{number_of_text}
@@ -41,18 +41,12 @@ constant_of w =
     else (if bytes_eq w (codes "m") then Some Module
     else (if bytes_eq w (codes "y") then Some Yes else None))
 
--- the constant m alone stands for what is handed in, other constants for themselves, another text and an undefined word
--- for n
-abbrev pub constant_tri : Tri → Tri → Tri
-constant_tri bare No = No
-constant_tri bare Module = bare
-constant_tri bare Yes = Yes
-
-abbrev pub term_tri : TreeValue → Assignment → Tri → Term → Tri
-term_tri t a bare (Constant v) = constant_tri bare v
-term_tri t a bare (Text w) = option_map_or (constant_tri bare) (constant_of w) No
-term_tri t a bare (Symbol s) = symbol_tri t a s
-term_tri t a bare (Undefined w) = No
+-- a constant stands for itself, in quotes too, another text and an undefined word for n
+abbrev pub term_tri : TreeValue → Assignment → Term → Tri
+term_tri t a (Constant v) = v
+term_tri t a (Text w) = unwrap_or (constant_of w) No
+term_tri t a (Symbol s) = symbol_tri t a s
+term_tri t a (Undefined w) = No
 
 -- ---- comparisons
 -- the text of a symbol is its value
@@ -130,27 +124,24 @@ complements zero v = v
 complements (suc n) v = complement (complements n v)
 
 -- ---- expressions
-abbrev pub formula_value : TreeValue → Assignment → Tri → Formula → Tri
-formula_value t a bare (atom x) = term_tri t a bare x
-formula_value t a bare (compare c x y) = yes_if (is_related c (term_order t a x y))
-formula_value t a bare (negation f) = complement (formula_value t a bare f)
-formula_value t a bare (group f) = formula_value t a bare f
-formula_value t a bare (both f g) = least (formula_value t a bare f) (formula_value t a bare g)
-formula_value t a bare (either f g) = greatest (formula_value t a bare f) (formula_value t a bare g)
+-- a bare m means m && MODULES
+abbrev pub formula_value : TreeValue → Assignment → Formula → Tri
+formula_value t a (atom x) = term_tri t a x
+formula_value t a (bare x) = least Module (modules_value t a)
+formula_value t a (compare c x y) = yes_if (is_related c (term_order t a x y))
+formula_value t a (negation f) = complement (formula_value t a f)
+formula_value t a (group f) = formula_value t a f
+formula_value t a (both f g) = least (formula_value t a f) (formula_value t a g)
+formula_value t a (either f g) = greatest (formula_value t a f) (formula_value t a g)
 
--- in the value of a default m stays m
 abbrev pub expr_value : TreeValue → Assignment → Expr → Tri
-expr_value t a e = formula_value t a Module (formula e)
-
--- in a condition m alone means m && MODULES
-abbrev pub condition_value : TreeValue → Assignment → Expr → Tri
-condition_value t a e = formula_value t a (least Module (modules_value t a)) (formula e)
+expr_value t a e = formula_value t a (formula e)
 
 -- several lines are joined by `&&`
 abbrev pub conditions_value : TreeValue → Assignment → List Expr → Tri
-conditions_value t a es = least_of (map (condition_value t a) es)
+conditions_value t a es = least_of (map (expr_value t a) es)
 
 -- the condition after `if`, y where there is none
 abbrev pub own_condition : TreeValue → Assignment → Option Expr → Tri
 own_condition t a None = Yes
-own_condition t a (Some e) = condition_value t a e
+own_condition t a (Some e) = expr_value t a e

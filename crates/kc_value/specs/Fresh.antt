@@ -1,5 +1,5 @@
 -- What a resolver that keeps nothing answers for: this project's own.
-use Rattle.kc_tree.specs.TreeValue.{TreeValue}
+use Rattle.kc_outline.specs.TreeValue.{TreeValue}
 use Rattle.kc_value.specs.UserValues.{UserValues}
 use Rattle.kc_value.specs.declared.fresh.Fresh.{Fresh}
 

@@ -1,6 +1,5 @@
 pub mod Assignable
 pub mod Assignment
-pub mod BareModule
 pub mod BoundsRange
 pub mod ChoiceRule
 pub mod Conditions

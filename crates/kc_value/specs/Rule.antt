@@ -2,18 +2,18 @@
 -- computation of Kconfiglib.
 use Rattle.std.specs.Prelude.{Bool, not, ◌&&◌, ◌||◌, List, Option, Some, None, if◌then◌else◌, option_map, unwrap_or, slice_get, map, find, filter_map}
 use Rattle.std.specs.Option.{option_map_or}
-use Rattle.kc_tree.specs.declared.tri.Tri.{Tri}
-use Rattle.kc_tree.specs.declared.tri.Tri.TheVariants.{No, Module, Yes}
-use Rattle.kc_tree.specs.declared.id.SymId.{SymId}
-use Rattle.kc_tree.specs.declared.symbol.Reverse.{Reverse}
-use Rattle.kc_tree.specs.declared.symbol.SymbolType.TheVariants.{Tristate}
+use Rattle.kc_statement.specs.declared.tri.Tri.{Tri}
+use Rattle.kc_statement.specs.declared.tri.Tri.TheVariants.{No, Module, Yes}
+use Rattle.kc_statement.specs.declared.id.SymId.{SymId}
+use Rattle.kc_outline.specs.declared.symbol.Reverse.{Reverse}
+use Rattle.kc_statement.specs.declared.symbol_type.SymbolType.TheVariants.{Tristate}
 use Rattle.kc_tree.specs.declared.node.Node.{Node}
 use Rattle.kc_tree.specs.declared.node.Node.TheVariants.{Vis, Val, Mode, Sel}
 use Rattle.kc_tree.specs.declared.user_value.UserVal.{UserVal}
 use Rattle.kc_tree.specs.declared.user_value.UserVal.TheVariants.{Tri as TriVal, Text}
-use Rattle.kc_tree.specs.Tristate.{least, greatest, greatest_of, is_no}
-use Rattle.kc_tree.specs.TreeOf.{same_type}
-use Rattle.kc_tree.specs.TreeValue.{TreeValue, SymbolValue, DefinitionValue, kind_of, definitions_of}
+use Rattle.kc_statement.specs.Tristate.{least, greatest, greatest_of, is_no}
+use Rattle.kc_outline.specs.TreeOf.{same_type}
+use Rattle.kc_outline.specs.TreeValue.{TreeValue, SymbolValue, DefinitionValue, kind_of, definitions_of}
 use Rattle.kc_value.specs.declared.value.Value.{Value}
 use Rattle.kc_value.specs.declared.value.Value.TheVariants.{Tri as Level, Shown, Member}
 use Rattle.kc_value.specs.Assignment.{Assignment, as_tri}

@@ -3,18 +3,18 @@
 use Rattle.std.specs.Prelude.{ℕ, Bool, true, false, not, ◌&&◌, ◌||◌, List, [], ◌++◌, Option, Some, None, if◌then◌else◌, option_map, unwrap_or, slice_get, find, filter_map, is_some, codes, ℤ, pos, int_lt, unsigned_abs}
 use Rattle.std.specs.Fmt.{signed_decimal, digits}
 use Rattle.std.specs.Option.{option_map_or}
-use Rattle.kc_tree.specs.declared.tri.Tri.{Tri}
-use Rattle.kc_tree.specs.declared.tri.Tri.TheVariants.{No, Module, Yes}
-use Rattle.kc_tree.specs.declared.expr.Expr.{Expr}
-use Rattle.kc_tree.specs.declared.definition.Range.{Range}
-use Rattle.kc_tree.specs.declared.symbol.SymbolType.{SymbolType}
-use Rattle.kc_tree.specs.declared.symbol.SymbolType.TheVariants as kind
+use Rattle.kc_statement.specs.declared.tri.Tri.{Tri}
+use Rattle.kc_statement.specs.declared.tri.Tri.TheVariants.{No, Module, Yes}
+use Rattle.kc_statement.specs.declared.expr.Expr.{Expr}
+use Rattle.kc_statement.specs.declared.attribute.Range.{Range}
+use Rattle.kc_statement.specs.declared.symbol_type.SymbolType.{SymbolType}
+use Rattle.kc_statement.specs.declared.symbol_type.SymbolType.TheVariants as kind
 use Rattle.kc_tree.specs.declared.user_value.UserVal.{UserVal}
 use Rattle.kc_tree.specs.declared.user_value.UserVal.TheVariants.{Tri as TriVal, Text}
-use Rattle.kc_tree.specs.Grammar.{formula, lone_term}
-use Rattle.kc_tree.specs.Numerals.{numeral_in}
-use Rattle.kc_tree.specs.Tristate.{least, is_no}
-use Rattle.kc_tree.specs.TreeValue.{TreeValue, SymbolValue, DefinitionValue, kind_of, definitions_of}
+use Rattle.kc_statement.specs.Grammar.{lone_term}
+use Rattle.kc_statement.specs.Numerals.{numeral_in}
+use Rattle.kc_statement.specs.Tristate.{least, is_no}
+use Rattle.kc_outline.specs.TreeValue.{TreeValue, SymbolValue, DefinitionValue, kind_of, definitions_of}
 use Rattle.kc_value.specs.declared.value.Value.{Value}
 use Rattle.kc_value.specs.declared.value.Value.TheVariants.{Shown}
 use Rattle.kc_value.specs.declared.bounds.Bounds.{Bounds}
@@ -26,7 +26,7 @@ use Rattle.kc_value.specs.Defaults.{is_active}
 -- ---- defaults
 -- the text of a default: that of the one term that it is
 abbrev pub value_text : TreeValue → Assignment → Expr → List ℕ
-value_text t a e = option_map_or (term_text t a) (lone_term (formula e)) []
+value_text t a e = option_map_or (term_text t a) (lone_term e) []
 
 -- the text of the first active default of a definition, if one is active
 abbrev pub definition_text : TreeValue → Assignment → DefinitionValue → Option (List ℕ)

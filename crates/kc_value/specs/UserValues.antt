@@ -1,9 +1,9 @@
 -- What a user gave and chose: this project's own.
 use Rattle.std.specs.Prelude.{◌≡◌, List, Option, None, slice_index_or, slice_set, replicate, length}
-use Rattle.kc_tree.specs.declared.id.SymId.{SymId}
-use Rattle.kc_tree.specs.declared.id.ChoiceId.{ChoiceId}
+use Rattle.kc_statement.specs.declared.id.SymId.{SymId}
+use Rattle.kc_outline.specs.declared.id.ChoiceId.{ChoiceId}
 use Rattle.kc_tree.specs.declared.user_value.UserVal.{UserVal}
-use Rattle.kc_tree.specs.TreeValue.{TreeValue}
+use Rattle.kc_outline.specs.TreeValue.{TreeValue}
 
 -- a value or none for each symbol, and a chosen member or none for each choice, by number
 pub record UserValues : Type 0 where

@@ -2,13 +2,13 @@
 
 ghost use Rattle.std.specs.Prelude.{◌≡◌, [], ◌∷◌, ◌++◌, ◌||◌, ◌&&◌, false, Some, IfOk, OnOk, if◌then◌else◌, filter, is_some};
 ghost use Rattle.kc_tree.specs.declared.node.Node.TheVariants.{Vis, Val};
-ghost use Rattle.kc_tree.specs.declared.symbol.SymbolType.TheVariants.{Tristate};
+ghost use Rattle.kc_statement.specs.declared.symbol_type.SymbolType.TheVariants.{Tristate};
 ghost use Rattle.kc_tree.specs.declared.user_value.UserVal.TheVariants.{Tri as TriVal};
-ghost use Rattle.kc_tree.specs.declared.tri.Tri.TheVariants.{No, Module, Yes};
+ghost use Rattle.kc_statement.specs.declared.tri.Tri.TheVariants.{No, Module, Yes};
 ghost use Rattle.kc_tree.specs.Nodes.{IsNodeOf};
 ghost use Rattle.kc_tree.specs.SymbolFaults.{is_tri_type};
-ghost use Rattle.kc_tree.specs.TreeOf.{same_type};
-ghost use Rattle.kc_tree.specs.TreeValue.{choice_of};
+ghost use Rattle.kc_outline.specs.TreeOf.{same_type};
+ghost use Rattle.kc_outline.specs.TreeValue.{choice_of};
 ghost use Rattle.kc_value.specs.Assignable.{same_tri, is_shown_with_some, assignable_values};
 ghost use Rattle.kc_value.specs.Assignment.{as_tri, assignment_of};
 ghost use Rattle.kc_value.specs.Rule.{tri_rule};

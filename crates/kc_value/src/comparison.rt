@@ -4,7 +4,7 @@ ghost use Rattle.std.specs.Prelude.{◌≡◌, Some, option_map};
 ghost use Rattle.std.specs.Cmp.Lexicographic.{slice_cmp};
 ghost use Rattle.std.specs.Ordering.{nat_cmp};
 ghost use Rattle.std.specs.Option.{option_or};
-ghost use Rattle.kc_tree.specs.declared.tri.Tri.TheVariants.{No};
+ghost use Rattle.kc_statement.specs.declared.tri.Tri.TheVariants.{No};
 ghost use Rattle.kc_value.specs.declared.value.Value.TheVariants.{Tri as Level};
 ghost use Rattle.kc_value.specs.Assignment.{assignment_of, as_text, tri_letter};
 ghost use Rattle.kc_value.specs.Numerals.{number_of_text};

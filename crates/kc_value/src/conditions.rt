@@ -5,7 +5,7 @@ ghost use Rattle.std.specs.Option.{option_copied};
 ghost use Rattle.kc_tree.specs.Nodes.{IsNodeOf};
 ghost use Rattle.kc_tree.specs.declared.node.Node.{Node};
 ghost use Rattle.kc_value.specs.Assignment.{Assignment, assignment_of};
-ghost use Rattle.kc_tree.specs.TreeValue.{blocks_from, blocks_around};
+ghost use Rattle.kc_outline.specs.TreeValue.{blocks_from, blocks_around};
 ghost use Rattle.kc_value.specs.Conditions.{blocks_depend, blocks_visible, dependency, prompt_value, mode_around, choice_prompt_value, menu_value, comment_value, menu_condition, comment_condition};
 
 use crate::expr_value::{conditions_tri, node_tri, own_condition_tri};

@@ -2,10 +2,9 @@
 
 ghost use Rattle.std.specs.Prelude.{◌≡◌, map};
 ghost use Rattle.std.specs.Option.{option_copied};
-ghost use Rattle.kc_tree.specs.Grammar.{formula, joined, both, either};
+ghost use Rattle.kc_statement.specs.Grammar.{formula, all_joined, any_joined};
 ghost use Rattle.kc_value.specs.Assignment.{as_tri, value_at, assignment_of};
-ghost use Rattle.kc_value.specs.BareModule.{bare_module};
-ghost use Rattle.kc_value.specs.ExprValue.{symbol_tri, modules_value, term_tri, complements, formula_value, expr_value, condition_value, conditions_value, own_condition};
+ghost use Rattle.kc_value.specs.ExprValue.{symbol_tri, modules_value, term_tri, complements, formula_value, expr_value, conditions_value, own_condition};
 
 use crate::comparison::{comparison_tri, constant_of};
 use crate::value::Value;
@@ -51,31 +50,13 @@ pub(crate) fn modules_tri(tree: &Tree, env: &[Option<Value>]) -> Tri
     }
 }
 
-/// What m alone stands for: itself, and in a condition `m && MODULES`.
-fn bare_module(tree: &Tree, env: &[Option<Value>], in_condition: bool) -> Tri
-    ensures { result ≡ bare_module tree.now (assignment_of tree.now env.now) in_condition }
-{
-    if in_condition {
-        Tri::Module.and(modules_tri(tree, env))
-    } else {
-        Tri::Module
-    }
-}
-
 /// The value of a term that stands alone.
-fn term_tri(tree: &Tree, env: &[Option<Value>], in_condition: bool, term: &Term) -> Tri
-    ensures { result ≡ term_tri tree.now (assignment_of tree.now env.now)
-        (bare_module tree.now (assignment_of tree.now env.now) in_condition) term.now }
+fn term_tri(tree: &Tree, env: &[Option<Value>], term: &Term) -> Tri
+    ensures { result ≡ term_tri tree.now (assignment_of tree.now env.now) term.now }
 {
     match term {
-        Term::Tri(Tri::No) => Tri::No,
-        Term::Tri(Tri::Module) => bare_module(tree, env, in_condition),
-        Term::Tri(Tri::Yes) => Tri::Yes,
-        Term::Text(text) => match constant_of(text.as_str()) {
-            Some(Tri::Module) => bare_module(tree, env, in_condition),
-            Some(tri) => tri,
-            None => Tri::No,
-        },
+        Term::Tri(tri) => *tri,
+        Term::Text(text) => constant_of(text.as_str()).unwrap_or(Tri::No),
         Term::Symbol(symbol) => symbol_tri(tree, env, *symbol),
         Term::Undefined(_) => Tri::No,
     }
@@ -92,66 +73,47 @@ fn negated(value: Tri, count: usize) -> Tri
     }
 }
 
-/// The value of an expression.
+/// The value of an expression (kconfig-language.rst, "Menu dependencies"): `&&` is the least, `||` the greatest, `!` the
+/// complement. A bool or tristate symbol stands for its value in `env`, where nodes stand by number (a symbol whose
+/// place is empty or missing counts as n), n, m and y for themselves, and other texts for n. A comparison is y or n.
+/// An m that stood alone where a condition was read means `m && MODULES`.
 #[cycle(expr_value)]
-fn formula_tri(tree: &Tree, env: &[Option<Value>], in_condition: bool, expr: &Expr) -> Tri
-    ensures { result ≡ formula_value tree.now (assignment_of tree.now env.now)
-        (bare_module tree.now (assignment_of tree.now env.now) in_condition) (formula expr.now) }
+pub fn tri(tree: &Tree, expr: &Expr, env: &[Option<Value>]) -> Tri
+    ensures { result ≡ expr_value tree.now (assignment_of tree.now env.now) expr.now }
 {
     match expr {
-        Expr::Term(term) => term_tri(tree, env, in_condition, term),
+        Expr::Term(term) => term_tri(tree, env, term),
+        Expr::BareModule(_) => Tri::Module.and(modules_tri(tree, env)),
         Expr::Compare(comparison, operands) => comparison_tri(tree, env, *comparison, operands),
-        Expr::Not(run, inner) => negated(formula_tri(tree, env, in_condition, inner), run.count),
-        Expr::Group(inner) => formula_tri(tree, env, in_condition, inner),
-        Expr::All(parts) => all_tri(tree, env, in_condition, parts),
-        Expr::Any(parts) => any_tri(tree, env, in_condition, parts),
+        Expr::Not(run, inner) => negated(tri(tree, inner, env), run.count),
+        Expr::Group(inner) => tri(tree, inner, env),
+        Expr::All(parts) => all_tri(tree, parts, env),
+        Expr::Any(parts) => any_tri(tree, parts, env),
     }
 }
 
-/// The value of expressions that `&&` joins, n where there is none.
+/// The value of expressions that `&&` joins.
 #[cycle(expr_value)]
-fn all_tri(tree: &Tree, env: &[Option<Value>], in_condition: bool, parts: &[Expr]) -> Tri
-    ensures { result ≡ formula_value tree.now (assignment_of tree.now env.now)
-        (bare_module tree.now (assignment_of tree.now env.now) in_condition) (joined both (map formula parts.now)) }
+fn all_tri(tree: &Tree, parts: &[Expr], env: &[Option<Value>]) -> Tri
+    ensures { result ≡ formula_value tree.now (assignment_of tree.now env.now) (all_joined (map formula parts.now)) }
 {
-    if parts.is_empty() {
-        return Tri::No;
-    }
     let mut least = Tri::Yes;
     for part in parts {
-        least = least.and(formula_tri(tree, env, in_condition, part));
+        least = least.and(tri(tree, part, env));
     }
     least
 }
 
 /// The value of expressions that `||` joins.
 #[cycle(expr_value)]
-fn any_tri(tree: &Tree, env: &[Option<Value>], in_condition: bool, parts: &[Expr]) -> Tri
-    ensures { result ≡ formula_value tree.now (assignment_of tree.now env.now)
-        (bare_module tree.now (assignment_of tree.now env.now) in_condition) (joined either (map formula parts.now)) }
+fn any_tri(tree: &Tree, parts: &[Expr], env: &[Option<Value>]) -> Tri
+    ensures { result ≡ formula_value tree.now (assignment_of tree.now env.now) (any_joined (map formula parts.now)) }
 {
     let mut greatest = Tri::No;
     for part in parts {
-        greatest = greatest.or(formula_tri(tree, env, in_condition, part));
+        greatest = greatest.or(tri(tree, part, env));
     }
     greatest
-}
-
-/// The value of an expression (kconfig-language.rst, "Menu dependencies"): `&&` is the least, `||` the greatest, `!` the
-/// complement. A bool or tristate symbol stands for its value in `env`, where nodes stand by number (a symbol whose
-/// place is empty or missing counts as n), n, m and y for themselves, and other texts for n. A comparison is y or n.
-/// It is that of a default; a condition has its value by [`condition_tri`].
-pub fn tri(tree: &Tree, expr: &Expr, env: &[Option<Value>]) -> Tri
-    ensures { result ≡ expr_value tree.now (assignment_of tree.now env.now) expr.now }
-{
-    formula_tri(tree, env, false, expr)
-}
-
-/// The value of a condition, as after `if`, `depends on` and `visible if`: as [`tri`] gives it, but m alone means `m && MODULES`.
-pub fn condition_tri(tree: &Tree, expr: &Expr, env: &[Option<Value>]) -> Tri
-    ensures { result ≡ condition_value tree.now (assignment_of tree.now env.now) expr.now }
-{
-    formula_tri(tree, env, true, expr)
 }
 
 /// The value of conditions that `&&` joins.
@@ -160,7 +122,7 @@ pub(crate) fn conditions_tri(tree: &Tree, exprs: &[Expr], env: &[Option<Value>])
 {
     let mut least = Tri::Yes;
     for expr in exprs {
-        least = least.and(condition_tri(tree, expr, env));
+        least = least.and(tri(tree, expr, env));
     }
     least
 }
@@ -170,7 +132,7 @@ pub(crate) fn own_condition_tri(tree: &Tree, condition: Option<&Expr>, env: &[Op
     ensures { result ≡ own_condition tree.now (assignment_of tree.now env.now) (option_copied condition.entry) }
 {
     match condition {
-        Some(expr) => condition_tri(tree, expr, env),
+        Some(expr) => tri(tree, expr, env),
         None => Tri::Yes,
     }
 }

@@ -24,7 +24,7 @@ mod without;
 pub use assignable_values::assignable;
 pub use conditions::{comment_condition, menu_condition};
 pub use evaluation::eval;
-pub use expr_value::{condition_tri, tri};
+pub use expr_value::tri;
 pub use fresh::{Fresh, solve};
 pub use gathering::all_values;
 pub use meter::Meter;

@@ -2,9 +2,9 @@
 
 ghost use Rattle.std.specs.Prelude.{◌≡◌, IfOk, not, slice_get, option_and_then, find, filter_map};
 ghost use Rattle.std.specs.Option.{option_copied, option_map_or, option_or};
-ghost use Rattle.kc_tree.specs.declared.tri.Tri.TheVariants.{No};
-ghost use Rattle.kc_tree.specs.Tristate.{least, greatest, is_no};
-ghost use Rattle.kc_tree.specs.TreeValue.{definitions_of};
+ghost use Rattle.kc_statement.specs.declared.tri.Tri.TheVariants.{No};
+ghost use Rattle.kc_statement.specs.Tristate.{least, greatest, is_no};
+ghost use Rattle.kc_outline.specs.TreeValue.{definitions_of};
 ghost use Rattle.kc_value.specs.Assignment.{assignment_of};
 ghost use Rattle.kc_value.specs.Conditions.{dependency, prompt_value};
 ghost use Rattle.kc_value.specs.ExprValue.{own_condition};

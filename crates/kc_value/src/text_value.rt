@@ -2,8 +2,8 @@
 
 ghost use Rattle.std.specs.Prelude.{◌≡◌, IfOk, not, option_map, None, Some, slice_get, find};
 ghost use Rattle.std.specs.Option.{option_copied, option_map_or};
-ghost use Rattle.kc_tree.specs.Tristate.{least, is_no};
-ghost use Rattle.kc_tree.specs.TreeValue.{kind_of};
+ghost use Rattle.kc_statement.specs.Tristate.{least, is_no};
+ghost use Rattle.kc_outline.specs.TreeValue.{kind_of};
 ghost use Rattle.kc_value.specs.Assignment.{assignment_of};
 ghost use Rattle.kc_value.specs.BoundsRange.{AreSmall};
 ghost use Rattle.kc_value.specs.Conditions.{dependency};

@@ -10,7 +10,6 @@ use crate::read_ahead::Waiting;
 use kc_files::Prefix;
 use kc_session::{OpenFault, Session, open};
 use kc_text::{Sources, Text, TextFault, TextProblem, Vars};
-use simdutf8::is_utf8;
 use std::alloc::Global;
 
 /// The most files of a Kconfig.
@@ -172,9 +171,5 @@ fn text_of(alloc: Global, path: &str, read: Result<Vec<u8>, FolderFault>) -> Res
 fn utf8_text(bytes: Vec<u8>) -> Option<String>
     ensures { MatchOption result (¬ (IsUtf8 bytes.items)) (λ text. string_bytes text ≡ bytes.items) }
 {
-    if !is_utf8(bytes.as_slice()) {
-        return None;
-    }
-    // the test is much faster than the one of `String::from_utf8`, and shows what this call requires
-    Some(unsafe { String::from_utf8_unchecked(bytes) })
+    String::from_utf8(bytes).ok()
 }

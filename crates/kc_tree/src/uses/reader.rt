@@ -1,20 +1,13 @@
 //! What expressions read: the numbers of the nodes are added to a row.
 
-ghost use Rattle.std.specs.Prelude.{◌≡◌, ◌≤◌, flat_map, length, IfOk, OnOk};
-ghost use Rattle.std.specs.List.{list_any};
-ghost use Rattle.kc_tree.specs.TreeValue.{modules_symbol};
-ghost use Rattle.kc_tree.specs.Grammar.{formula};
-ghost use Rattle.kc_tree.specs.Uses.{symbol_nodes, term_nodes, value_nodes, modules_nodes, is_module_term, has_bare_module, condition_nodes, conditions_nodes, own_condition_nodes, default_nodes, range_nodes, mode_nodes, selection_nodes, visibility_node, choice_default_nodes};
+ghost use Rattle.std.specs.Prelude.{◌≡◌, ◌≤◌, ◌^◌, flat_map, length, OnOk};
+ghost use Rattle.kc_outline.specs.TreeValue.{modules_symbol};
+ghost use Rattle.kc_tree.specs.Uses.{symbol_nodes, term_nodes, value_nodes, modules_nodes, conditions_nodes, own_condition_nodes, default_nodes, range_nodes, mode_nodes, selection_nodes, visibility_node, choice_default_nodes};
 ghost use Rattle.kc_tree.specs.Collected.{Adds, source_nodes};
 
-use crate::choice::ChoiceDefault;
-use crate::definition::{DefaultValue, Range};
-use crate::expr::{Expr, Term};
-use crate::id::{ChoiceId, SymId};
 use crate::node::Node;
-use crate::outline::Outline;
-use crate::symbol::Reverse;
-use crate::tri::Tri;
+use kc_outline::{ChoiceDefault, ChoiceId, Outline, Reverse};
+use kc_statement::{DefaultValue, Expr, Range, SymId, Term};
 use std::alloc::AllocError;
 
 /// Reads expressions of what lines define.
@@ -24,48 +17,57 @@ pub struct Reader<'a> {
     /// The symbol `MODULES`.
     modules: Option<SymId>,
     ghost few: { length outline.now.symbols ≤ 65535 },
+    ghost few_choices: { length outline.now.choices ≤ 2 ^ 30 },
     ghost modules_is: { modules ≡ modules_symbol outline.now },
-}
-
-/// Whether a term is the constant m.
-fn is_module(term: &Term) -> bool
-    ensures { result ≡ is_module_term term.now }
-{
-    match term {
-        Term::Tri(Tri::Module) => true,
-        Term::Text(text) => text.as_str() == "m",
-        Term::Tri(Tri::No | Tri::Yes) | Term::Symbol(_) | Term::Undefined(_) => false,
-    }
 }
 
 impl<'a> Reader<'a> {
     /// Of what lines define.
     pub fn new(outline: &'a Outline) -> Reader<'a>
         requires few { length outline.now.symbols ≤ 65535 }
+        requires few_choices { length outline.now.choices ≤ 2 ^ 30 }
         requires named { length outline.now.names ≤ 65535 }
         ensures { result.outline ≡ outline.entry }
     {
-        let modules = match outline.names.find("MODULES") {
-            Some(place) => Some(SymId(place as u32)),
+        let modules = match outline.names().find("MODULES") {
+            Some(number) => Some(SymId(number as u32)),
             None => None,
         };
         Reader { outline, modules }
     }
 
-    /// Adds the value of a symbol, if there is one of its number.
-    fn add_symbol(&self, row: &mut Vec<usize>, symbol: SymId) -> Result<(), AllocError>
-        ensures { OnOk result (Adds (length self.now.outline.now.symbols) row.old.items row.new.items (symbol_nodes self.now.outline.now symbol)) }
+    /// How many symbols there are.
+    pub fn symbol_count(&self) -> usize
+        ensures count { result ≡ length self.now.outline.now.symbols }
+        ensures few { result ≤ 65535 }
     {
         let outline = self.outline;
-        if symbol.0 as usize >= outline.symbols.len() {
+        outline.symbols().len()
+    }
+
+    /// How many choices there are.
+    fn choice_count(&self) -> usize
+        ensures count { result ≡ length self.now.outline.now.choices }
+        ensures few { result ≤ 2 ^ 30 }
+    {
+        let outline = self.outline;
+        outline.choices().len()
+    }
+
+    /// Adds the value of a symbol, if there is one of its number.
+    fn add_symbol(&self, row: &mut Vec<u32>, symbol: SymId) -> Result<(), AllocError>
+        ensures { OnOk result (Adds (length self.now.outline.now.symbols) row.old.items row.new.items (symbol_nodes self.now.outline.now symbol)) }
+    {
+        let symbols = self.symbol_count();
+        if symbol.0 as usize >= symbols {
             return Ok(());
         }
-        row.push(Node::Val(symbol).number_in(outline.symbols.len()))?;
+        row.push(Node::Val(symbol).index_in(symbols))?;
         Ok(())
     }
 
     /// Adds what a term reads.
-    fn add_term(&self, row: &mut Vec<usize>, term: &Term) -> Result<(), AllocError>
+    fn add_term(&self, row: &mut Vec<u32>, term: &Term) -> Result<(), AllocError>
         ensures { OnOk result (Adds (length self.now.outline.now.symbols) row.old.items row.new.items (term_nodes self.now.outline.now term.now)) }
     {
         match term {
@@ -74,21 +76,17 @@ impl<'a> Reader<'a> {
         }
     }
 
-    /// Adds what an expression reads, and answers whether m stands alone in it.
+    /// Adds what an expression reads.
     #[cycle(add_expr)]
-    fn add_expr(&self, row: &mut Vec<usize>, expr: &Expr) -> Result<bool, AllocError>
-        ensures added { OnOk result (Adds (length self.now.outline.now.symbols) row.old.items row.new.items (value_nodes self.now.outline.now expr.now)) }
-        ensures bare { IfOk result (λ bare. bare ≡ has_bare_module (formula expr.now)) }
+    fn add_expr(&self, row: &mut Vec<u32>, expr: &Expr) -> Result<(), AllocError>
+        ensures { OnOk result (Adds (length self.now.outline.now.symbols) row.old.items row.new.items (value_nodes self.now.outline.now expr.now)) }
     {
         match expr {
-            Expr::Term(term) => {
-                self.add_term(row, term)?;
-                Ok(is_module(term))
-            }
+            Expr::Term(term) => self.add_term(row, term),
+            Expr::BareModule(_) => self.add_modules(row),
             Expr::Compare(_, operands) => {
                 self.add_term(row, &operands.left)?;
-                self.add_term(row, &operands.right)?;
-                Ok(false)
+                self.add_term(row, &operands.right)
             }
             Expr::Not(_, inner) => self.add_expr(row, inner),
             Expr::Group(inner) => self.add_expr(row, inner),
@@ -96,22 +94,19 @@ impl<'a> Reader<'a> {
         }
     }
 
-    /// Adds what each part of an expression reads, and answers whether m stands alone in one.
+    /// Adds what each part of an expression reads.
     #[cycle(add_expr)]
-    fn add_parts(&self, row: &mut Vec<usize>, parts: &[Expr]) -> Result<bool, AllocError>
-        ensures added { OnOk result (Adds (length self.now.outline.now.symbols) row.old.items row.new.items (flat_map (value_nodes self.now.outline.now) parts.now)) }
-        ensures bare { IfOk result (λ bare. bare ≡ list_any (λ e. has_bare_module (formula e)) parts.now) }
+    fn add_parts(&self, row: &mut Vec<u32>, parts: &[Expr]) -> Result<(), AllocError>
+        ensures { OnOk result (Adds (length self.now.outline.now.symbols) row.old.items row.new.items (flat_map (value_nodes self.now.outline.now) parts.now)) }
     {
-        let mut bare = false;
         for part in parts {
-            let here = self.add_expr(row, part)?;
-            bare = bare || here;
+            self.add_expr(row, part)?;
         }
-        Ok(bare)
+        Ok(())
     }
 
     /// Adds the value of `MODULES`.
-    pub fn add_modules(&self, row: &mut Vec<usize>) -> Result<(), AllocError>
+    pub fn add_modules(&self, row: &mut Vec<u32>) -> Result<(), AllocError>
         ensures { OnOk result (Adds (length self.now.outline.now.symbols) row.old.items row.new.items (modules_nodes self.now.outline.now)) }
     {
         match self.modules {
@@ -120,27 +115,16 @@ impl<'a> Reader<'a> {
         }
     }
 
-    /// Adds what a condition reads.
-    fn add_condition(&self, row: &mut Vec<usize>, condition: &Expr) -> Result<(), AllocError>
-        ensures { OnOk result (Adds (length self.now.outline.now.symbols) row.old.items row.new.items (condition_nodes self.now.outline.now condition.now)) }
-    {
-        let bare = self.add_expr(row, condition)?;
-        if bare {
-            self.add_modules(row)?;
-        }
-        Ok(())
-    }
-
     /// Adds what each of some conditions reads.
     pub fn add_conditions(
         &self,
-        row: &mut Vec<usize>,
+        row: &mut Vec<u32>,
         conditions: &[Expr],
     ) -> Result<(), AllocError>
         ensures { OnOk result (Adds (length self.now.outline.now.symbols) row.old.items row.new.items (conditions_nodes self.now.outline.now conditions.now)) }
     {
         for condition in conditions {
-            self.add_condition(row, condition)?;
+            self.add_expr(row, condition)?;
         }
         Ok(())
     }
@@ -148,19 +132,19 @@ impl<'a> Reader<'a> {
     /// Adds what the condition after `if` reads, if there is one.
     pub fn add_own_condition(
         &self,
-        row: &mut Vec<usize>,
+        row: &mut Vec<u32>,
         condition: &Option<Expr>,
     ) -> Result<(), AllocError>
         ensures { OnOk result (Adds (length self.now.outline.now.symbols) row.old.items row.new.items (own_condition_nodes self.now.outline.now condition.now)) }
     {
         match condition {
-            Some(condition) => self.add_condition(row, condition),
+            Some(condition) => self.add_expr(row, condition),
             None => Ok(()),
         }
     }
 
     /// Adds what a default reads.
-    fn add_default(&self, row: &mut Vec<usize>, default: &DefaultValue) -> Result<(), AllocError>
+    fn add_default(&self, row: &mut Vec<u32>, default: &DefaultValue) -> Result<(), AllocError>
         ensures { OnOk result (Adds (length self.now.outline.now.symbols) row.old.items row.new.items (default_nodes self.now.outline.now default.now)) }
     {
         self.add_expr(row, &default.value)?;
@@ -170,7 +154,7 @@ impl<'a> Reader<'a> {
     /// Adds what defaults read.
     pub fn add_defaults(
         &self,
-        row: &mut Vec<usize>,
+        row: &mut Vec<u32>,
         defaults: &[DefaultValue],
     ) -> Result<(), AllocError>
         ensures { OnOk result (Adds (length self.now.outline.now.symbols) row.old.items row.new.items (flat_map (default_nodes self.now.outline.now) defaults.now)) }
@@ -182,7 +166,7 @@ impl<'a> Reader<'a> {
     }
 
     /// Adds what a range reads.
-    fn add_range(&self, row: &mut Vec<usize>, range: &Range) -> Result<(), AllocError>
+    fn add_range(&self, row: &mut Vec<u32>, range: &Range) -> Result<(), AllocError>
         ensures { OnOk result (Adds (length self.now.outline.now.symbols) row.old.items row.new.items (range_nodes self.now.outline.now range.now)) }
     {
         self.add_term(row, &range.low)?;
@@ -191,7 +175,7 @@ impl<'a> Reader<'a> {
     }
 
     /// Adds what ranges read.
-    pub fn add_ranges(&self, row: &mut Vec<usize>, ranges: &[Range]) -> Result<(), AllocError>
+    pub fn add_ranges(&self, row: &mut Vec<u32>, ranges: &[Range]) -> Result<(), AllocError>
         ensures { OnOk result (Adds (length self.now.outline.now.symbols) row.old.items row.new.items (flat_map (range_nodes self.now.outline.now) ranges.now)) }
     {
         for range in ranges {
@@ -201,49 +185,49 @@ impl<'a> Reader<'a> {
     }
 
     /// Adds the mode of a choice, if there is one of its number.
-    pub fn add_mode(&self, row: &mut Vec<usize>, choice: ChoiceId) -> Result<(), AllocError>
+    pub fn add_mode(&self, row: &mut Vec<u32>, choice: ChoiceId) -> Result<(), AllocError>
         ensures { OnOk result (Adds (length self.now.outline.now.symbols) row.old.items row.new.items (mode_nodes self.now.outline.now choice)) }
     {
-        let outline = self.outline;
-        if choice.0 as usize >= outline.choices.len() {
+        let symbols = self.symbol_count();
+        if choice.0 as usize >= self.choice_count() {
             return Ok(());
         }
-        row.push(Node::Mode(choice).number_in(outline.symbols.len()))?;
+        row.push(Node::Mode(choice).index_in(symbols))?;
         Ok(())
     }
 
     /// Adds the selection of a choice, if there is one of its number.
     pub fn add_choice_selection(
         &self,
-        row: &mut Vec<usize>,
+        row: &mut Vec<u32>,
         choice: ChoiceId,
     ) -> Result<(), AllocError>
         ensures { OnOk result (Adds (length self.now.outline.now.symbols) row.old.items row.new.items (selection_nodes self.now.outline.now choice)) }
     {
-        let outline = self.outline;
-        if choice.0 as usize >= outline.choices.len() {
+        let symbols = self.symbol_count();
+        if choice.0 as usize >= self.choice_count() {
             return Ok(());
         }
-        row.push(Node::Sel(choice).number_in(outline.symbols.len()))?;
+        row.push(Node::Sel(choice).index_in(symbols))?;
         Ok(())
     }
 
     /// Adds the visibility of a symbol, if there is one of its number.
-    fn add_visibility(&self, row: &mut Vec<usize>, symbol: SymId) -> Result<(), AllocError>
+    fn add_visibility(&self, row: &mut Vec<u32>, symbol: SymId) -> Result<(), AllocError>
         ensures { OnOk result (Adds (length self.now.outline.now.symbols) row.old.items row.new.items (visibility_node self.now.outline.now symbol)) }
     {
-        let outline = self.outline;
-        if symbol.0 as usize >= outline.symbols.len() {
+        let symbols = self.symbol_count();
+        if symbol.0 as usize >= symbols {
             return Ok(());
         }
-        row.push(Node::Vis(symbol).number_in(outline.symbols.len()))?;
+        row.push(Node::Vis(symbol).index_in(symbols))?;
         Ok(())
     }
 
     /// Adds the visibilities of symbols.
     pub fn add_visibilities(
         &self,
-        row: &mut Vec<usize>,
+        row: &mut Vec<u32>,
         symbols: &[SymId],
     ) -> Result<(), AllocError>
         ensures { OnOk result (Adds (length self.now.outline.now.symbols) row.old.items row.new.items (flat_map (visibility_node self.now.outline.now) symbols.now)) }
@@ -257,7 +241,7 @@ impl<'a> Reader<'a> {
     /// Adds what a default of a choice reads.
     fn add_choice_default(
         &self,
-        row: &mut Vec<usize>,
+        row: &mut Vec<u32>,
         default: &ChoiceDefault,
     ) -> Result<(), AllocError>
         ensures { OnOk result (Adds (length self.now.outline.now.symbols) row.old.items row.new.items (choice_default_nodes self.now.outline.now default.now)) }
@@ -271,7 +255,7 @@ impl<'a> Reader<'a> {
     /// Adds what the defaults of a choice read.
     pub fn add_choice_defaults(
         &self,
-        row: &mut Vec<usize>,
+        row: &mut Vec<u32>,
         defaults: &[ChoiceDefault],
     ) -> Result<(), AllocError>
         ensures { OnOk result (Adds (length self.now.outline.now.symbols) row.old.items row.new.items (flat_map (choice_default_nodes self.now.outline.now) defaults.now)) }
@@ -283,7 +267,7 @@ impl<'a> Reader<'a> {
     }
 
     /// Adds what a `select` or `imply` reads besides the dependencies of its definition.
-    fn add_source(&self, row: &mut Vec<usize>, reverse: &Reverse) -> Result<(), AllocError>
+    fn add_source(&self, row: &mut Vec<u32>, reverse: &Reverse) -> Result<(), AllocError>
         ensures { OnOk result (Adds (length self.now.outline.now.symbols) row.old.items row.new.items (source_nodes self.now.outline.now reverse.now)) }
     {
         self.add_symbol(row, reverse.by)?;
@@ -291,7 +275,7 @@ impl<'a> Reader<'a> {
     }
 
     /// Adds what some of them read besides.
-    pub fn add_sources(&self, row: &mut Vec<usize>, reverses: &[Reverse]) -> Result<(), AllocError>
+    pub fn add_sources(&self, row: &mut Vec<u32>, reverses: &[Reverse]) -> Result<(), AllocError>
         ensures { OnOk result (Adds (length self.now.outline.now.symbols) row.old.items row.new.items (flat_map (source_nodes self.now.outline.now) reverses.now)) }
     {
         for reverse in reverses {

@@ -3,9 +3,7 @@
 ghost use Rattle.std.specs.Prelude.{◌≡◌, [], ◌++◌, flat_map, map, OnOk, Some};
 ghost use Rattle.kc_tree.specs.Collected.{HaveSame, block_numbers, block_numbers_at, innermost_at};
 
-use crate::id::BlockId;
-use crate::outline::Outline;
-use crate::symbol::Reverse;
+use kc_outline::{BlockId, Outline, Reverse};
 use std::alloc::{AllocError, Global};
 
 /// Numbers of definitions, and of blocks.
@@ -38,6 +36,25 @@ pub fn without_repeats(numbers: &mut Vec<usize>)
     }
 }
 
+/// Puts the numbers of nodes in rising order, each once.
+#[inline(never)]
+fn sort_row(row: &mut Vec<u32>)
+    ensures { HaveSame row.new.items row.old.items }
+{
+    row.sort_unstable();
+    row.dedup();
+}
+
+/// Leaves each number of a node once. Most rows have one or none, which stay as they are.
+#[inline]
+pub fn each_once(row: &mut Vec<u32>)
+    ensures { HaveSame row.new.items row.old.items }
+{
+    if row.len() > 1 {
+        sort_row(row);
+    }
+}
+
 /// Adds the numbers of the blocks around, from the innermost outwards, as many as may be nested.
 fn add_blocks_from(
     outline: &Outline,
@@ -46,12 +63,13 @@ fn add_blocks_from(
 ) -> Result<(), AllocError>
     ensures { OnOk result (numbers.new.items ≡ numbers.old.items ++ block_numbers outline.now.blocks 64 innermost) }
 {
+    let all = outline.blocks();
     let mut next = innermost;
     for _depth in 0usize..64 {
         let Some(id) = next else {
             return Ok(());
         };
-        let Some(block) = outline.blocks.get(id.0) else {
+        let Some(block) = all.get(id.0) else {
             return Ok(());
         };
         numbers.push(id.0)?;
@@ -82,7 +100,7 @@ fn add_innermost(
 ) -> Result<(), AllocError>
     ensures { OnOk result (numbers.new.items ≡ numbers.old.items ++ innermost_at outline.now definition) }
 {
-    let Some(definition) = outline.definitions.get(definition) else {
+    let Some(definition) = outline.definitions().get(definition) else {
         return Ok(());
     };
     let Some(block) = definition.block() else {

@@ -3,7 +3,7 @@ use Rattle.std.specs.List.{list_any}
 use Rattle.std.specs.Option.{option_map_or}
 use Rattle.std.proofs.Math.Seq.{take-length}
 use Rattle.std.proofs.lemmas.List.Folds.{list_any_at}
-use Rattle.kc_tree.specs.TreeValue.{DefinitionValue}
+use Rattle.kc_outline.specs.TreeValue.{DefinitionValue}
 use Rattle.kc_tree.proofs.DependencyLaws.{any_filtered}
 use Rattle.kc_tree.proofs.choice_faults.has_prompt.Goals as goal
 

@@ -1,5 +1,5 @@
 use Rattle.std.proofs.Common.{◌≡◌, ◌-◌, suc, true, sym, ◌∙◌, arith}
-use Rattle.kc_tree.specs.Keywords.{is_choice}
+use Rattle.kc_statement.specs.Keywords.{is_choice}
 use Rattle.kc_tree.proofs.ChoiceLines.{counted}
 use Rattle.kc_tree.proofs.link.choice_line.Goals as goal
 

@@ -1,5 +1,5 @@
 use Rattle.std.proofs.Common.{◌≡◌, filter, drop, slice_get}
-use Rattle.kc_tree.specs.Keywords.{is_choice}
+use Rattle.kc_statement.specs.Keywords.{is_choice}
 use Rattle.kc_tree.proofs.link.choice_line.Given as goal
 
 -- the line that is sought is among those that follow, behind so many others

@@ -1,6 +1,5 @@
 use Rattle.std.proofs.Common.{◌≡◌, ◌≤◌, length, sym, ap, ◌∙◌, inl, inr, arith}
 use Rattle.std.proofs.lemmas.Bool.{cases_lt}
-use Rattle.kc_tree.specs.TreeValue.{TreeValue}
 use Rattle.kc_tree.specs.SymbolTests.{has_any_problem}
 use Rattle.kc_tree.proofs.symbol_faults.are_symbols_faultless.Goals as goal
 
@@ -13,5 +12,5 @@ loop-number-preserved c = λ k h. elim (cases_lt k c.loop-number.number) [
 pub returns : goal.returns
 returns c =
     let t = c.args.outline.now in
-    let all : length t.symbols ≤ c.loop-number.number = omega (arith, c.loop-number-test.false, c.len-number-end.ensures, ap (λ (x : TreeValue). length x.symbols) c.outline.view_is, c.outline.inside.symbols.ok.0) in
+    let all : length t.symbols ≤ c.loop-number.number = omega (arith, c.loop-number-test.false, ap length c.symbols-count.ensures) in
     λ _ k h. c.loop-number.invariant k (omega arith)

@@ -3,9 +3,9 @@ use Rattle.std.specs.List.{list_any}
 use Rattle.std.specs.Option.{option_map_or}
 use Rattle.std.proofs.Math.Seq.{take-length}
 use Rattle.std.proofs.lemmas.List.Folds.{list_any_at}
-use Rattle.kc_tree.specs.declared.symbol.SymbolType.{SymbolType}
+use Rattle.kc_statement.specs.declared.symbol_type.SymbolType.{SymbolType}
 use Rattle.kc_tree.specs.SymbolFaults.{has_unfit}
-use Rattle.kc_tree.specs.TreeValue.{definitions_of}
+use Rattle.kc_outline.specs.TreeValue.{definitions_of}
 use Rattle.kc_tree.proofs.DependencyLaws.{any_filtered}
 use Rattle.kc_tree.proofs.symbol_faults.has_unfit_default.Goals as goal
 

@@ -2,9 +2,9 @@ use Rattle.std.proofs.Common.{◌≡◌, [], ◌∷◌, true, false, sym, ap, �
 use Rattle.std.specs.Prelude.{is_some}
 use Rattle.std.proofs.lemmas.Result.{IfOk-weaker}
 use Rattle.kc_tree.specs.declared.node.Node.TheVariants.{Vis, Val}
-use Rattle.kc_tree.specs.TreeValue.{choice_of}
-use Rattle.kc_tree.specs.declared.tri.Tri.TheVariants.{Yes}
-use Rattle.kc_tree.specs.Tristate.{is_no}
+use Rattle.kc_outline.specs.TreeValue.{choice_of}
+use Rattle.kc_statement.specs.declared.tri.Tri.TheVariants.{Yes}
+use Rattle.kc_statement.specs.Tristate.{is_no}
 use Rattle.kc_value.specs.Assignment.{as_tri}
 use Rattle.kc_value.specs.Assignable.{assignable_values}
 use Rattle.kc_value.specs.Solution.{solution}

@@ -2,7 +2,7 @@ use Rattle.std.proofs.Common.{◌≡◌, Some, None, sym, ap, ◌∙◌, true≢
 use Rattle.std.specs.List.{slice_get}
 use Rattle.std.specs.Option.{option_map_or}
 use Rattle.std.proofs.lemmas.Option.{slice_get-get_or}
-use Rattle.kc_tree.specs.declared.tri.Tri.TheVariants.{No}
+use Rattle.kc_statement.specs.declared.tri.Tri.TheVariants.{No}
 use Rattle.kc_value.specs.Assignment.{assignment_of}
 use Rattle.kc_value.specs.Conditions.{comment_value}
 use Rattle.kc_value.proofs.ConditionLemmas.{same_comment_condition, no_place}

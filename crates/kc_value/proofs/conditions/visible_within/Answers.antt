@@ -1,6 +1,6 @@
 use Rattle.std.proofs.Common.{◌-◌, ◌+◌, sym, ap, ◌∙◌, arith}
 use Rattle.std.specs.Option.{option_copied}
-use Rattle.kc_tree.specs.TreeValue.{blocks_from}
+use Rattle.kc_outline.specs.TreeValue.{blocks_from}
 use Rattle.kc_value.specs.Assignment.{assignment_of}
 use Rattle.kc_value.specs.Conditions.{blocks_visible}
 use Rattle.kc_value.specs.ExprValue.{conditions_value}

@@ -1,6 +1,6 @@
 use Rattle.std.proofs.Common.{◌≡◌, ◌-◌}
-use Rattle.kc_tree.specs.Tristate.{least}
-use Rattle.kc_tree.specs.TreeValue.{blocks_from}
+use Rattle.kc_statement.specs.Tristate.{least}
+use Rattle.kc_outline.specs.TreeValue.{blocks_from}
 use Rattle.kc_value.specs.Assignment.{assignment_of}
 use Rattle.kc_value.specs.Conditions.{blocks_visible}
 use Rattle.kc_value.proofs.conditions.visible_within.Given as goal

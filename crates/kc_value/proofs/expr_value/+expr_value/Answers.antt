@@ -1,29 +1,27 @@
-use Rattle.std.proofs.Common.{◌∙◌, ap, map, arith, rules}
-use Rattle.kc_tree.specs.declared.expr.Expr.{Expr}
-use Rattle.kc_tree.specs.Grammar.{formula}
+use Rattle.std.proofs.Common.{◌∙◌, ap, map, arith}
+use Rattle.kc_statement.specs.declared.expr.Expr.{Expr}
+use Rattle.kc_statement.specs.Grammar.{formula}
 use Rattle.kc_value.specs.Assignment.{assignment_of}
-use Rattle.kc_value.specs.BareModule.{bare_module}
-use Rattle.kc_value.specs.ExprValue.{complements, formula_value}
+use Rattle.kc_value.specs.ExprValue.{complements, expr_value}
 use Rattle.kc_value.proofs.ExprLemmas.{value_negated, joined_both, joined_either}
 use Rattle.std.proofs.lemmas.Grind.{common_steps}
 use Rattle.kc_value.proofs.expr_value.+expr_value.Goals as goal
 
-pub formula_tri-returns-in-Not : goal.formula_tri-returns-in-Not
-formula_tri-returns-in-Not t c =
+pub tri-returns-in-Not : goal.tri-returns-in-Not
+tri-returns-in-Not t c =
     let tree = c.args.tree.now in
     let a = assignment_of tree c.args.env.now in
-    let bare = bare_module tree a c.args.in_condition in
-    let operand = c.formula_tri.ensures ∙ ap (λ (x : Expr). formula_value tree a bare (formula x)) c.deref-in-Not.ensures in
-    c.negated.ensures ∙ ap (complements c.in-Not.run'.count) operand ∙ value_negated tree a bare c.args.expr.now c.in-Not.run' c.in-Not.inner c.in-Not.is
+    let operand = c.tri.ensures ∙ ap (λ (x : Expr). expr_value tree a x) c.deref-in-Not.ensures in
+    c.negated.ensures ∙ ap (complements c.in-Not.run'.count) operand ∙ value_negated tree a c.args.expr.now c.in-Not.run' c.in-Not.inner c.in-Not.is
 
 pub all_tri-returns : goal.all_tri-returns
 all_tri-returns t c =
     let a = assignment_of c.args.tree.now c.args.env.now in
-    let e = joined_both c.args.tree.now a (bare_module c.args.tree.now a c.args.in_condition) (map formula c.args.parts.now) (search rules) in
+    let e = joined_both c.args.tree.now a (map formula c.args.parts.now) in
     grind (arith, common_steps, e)
 
 pub any_tri-returns : goal.any_tri-returns
 any_tri-returns t c =
     let a = assignment_of c.args.tree.now c.args.env.now in
-    let e = joined_either c.args.tree.now a (bare_module c.args.tree.now a c.args.in_condition) (map formula c.args.parts.now) in
+    let e = joined_either c.args.tree.now a (map formula c.args.parts.now) in
     grind (arith, common_steps, e)

@@ -1,6 +1,6 @@
 use Rattle.std.proofs.Common.{◌≡◌, map, drop, filter_map, slice_get}
 use Rattle.std.specs.Option.{option_or}
-use Rattle.kc_tree.specs.Tristate.{greatest, greatest_of}
+use Rattle.kc_statement.specs.Tristate.{greatest, greatest_of}
 use Rattle.kc_value.specs.Assignment.{assignment_of}
 use Rattle.kc_value.specs.Conditions.{dependency}
 use Rattle.kc_value.specs.Rule.{definition_default}

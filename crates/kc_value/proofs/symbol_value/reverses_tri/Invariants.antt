@@ -1,5 +1,5 @@
 use Rattle.std.proofs.Common.{◌≡◌, map, drop}
-use Rattle.kc_tree.specs.Tristate.{greatest, greatest_of}
+use Rattle.kc_statement.specs.Tristate.{greatest, greatest_of}
 use Rattle.kc_value.specs.Assignment.{assignment_of}
 use Rattle.kc_value.specs.Rule.{reverse_value}
 use Rattle.kc_value.proofs.symbol_value.reverses_tri.Given as goal

@@ -1,5 +1,5 @@
 use Rattle.std.proofs.Common.{◌≡◌, map, drop, filter_map, slice_get}
-use Rattle.kc_tree.specs.Tristate.{greatest, greatest_of}
+use Rattle.kc_statement.specs.Tristate.{greatest, greatest_of}
 use Rattle.kc_value.specs.Assignment.{assignment_of}
 use Rattle.kc_value.specs.Conditions.{prompt_value}
 use Rattle.kc_value.proofs.symbol_value.symbol_visibility.Given as goal

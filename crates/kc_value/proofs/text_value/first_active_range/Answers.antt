@@ -1,7 +1,7 @@
 use Rattle.std.proofs.Common.{ℕ, Bool, sym, ap, ◌∙◌, rules, Bor}
 use Rattle.std.specs.Option.{option_map}
 use Rattle.std.proofs.lemmas.Iterator.{YieldsList-from_slice}
-use Rattle.kc_tree.specs.declared.definition.Range.{Range}
+use Rattle.kc_statement.specs.declared.attribute.Range.{Range}
 use Rattle.kc_value.specs.Assignment.{assignment_of}
 use Rattle.kc_value.specs.TextRule.{is_range_active}
 use Rattle.kc_value.proofs.FirstLemmas.{first_from_run}

@@ -1,5 +1,4 @@
-use Rattle.std.proofs.Common.{◌≡◌, ℕ, ◌∙◌, length, sym, ap, arith}
-use Rattle.kc_tree.specs.TreeValue.{TreeValue}
+use Rattle.std.proofs.Common.{ℕ, ◌∙◌, length, sym, ap, arith}
 use Rattle.kc_tree.specs.declared.node.Node.TheVariants.{Mode}
 use Rattle.kc_tree.specs.Nodes.{number_in}
 use Rattle.kc_tree.proofs.CollectedLaws.{adds_number, adds_equal, one_within}
@@ -9,7 +8,6 @@ pub returns : goal.returns
 returns c =
     let t = c.args.self.now.outline.now in
     let k = c.args.choice in
-    let there = one_within (Mode k) t.choices k.0 (omega (arith, c.if-choice-len.false, c.len.ensures, ap (λ (x : TreeValue). length x.choices) c.outline.view_is, c.outline.inside.choices.ok.0)) in
-    let count : c.len-2.result ≡ length t.symbols = omega (arith, c.len-2.ensures, ap (λ (x : TreeValue). length x.symbols) c.outline.view_is, c.outline.inside.symbols.ok.0) in
-    let added = adds_number (length t.symbols) c.args.row.now.items c.push.new.self.items (Mode k) c.number_in.result c.in_ok-push.ensures.items (c.number_in.ensures ∙ ap (λ (n : ℕ). number_in n (Mode k)) count) in
+    let there = one_within (Mode k) t.choices k.0 (omega (arith, c.if-choice-choice_count.false, c.choice_count.ensures.count)) in
+    let added = adds_number (length t.symbols) c.args.row.now.items c.push.new.self.items (Mode k) c.index_in.result c.in_ok-push.ensures.items (c.index_in.ensures ∙ ap (λ (n : ℕ). number_in n (Mode k)) c.symbol_count-symbols.ensures.count) in
     adds_equal (length t.symbols) _ _ _ _ (sym there) added

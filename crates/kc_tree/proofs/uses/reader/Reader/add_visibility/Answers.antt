@@ -1,5 +1,4 @@
-use Rattle.std.proofs.Common.{length, sym, ap, arith}
-use Rattle.kc_tree.specs.TreeValue.{TreeValue}
+use Rattle.std.proofs.Common.{length, sym, arith}
 use Rattle.kc_tree.specs.declared.node.Node.TheVariants.{Vis}
 use Rattle.kc_tree.proofs.CollectedLaws.{adds_number, adds_equal, one_within}
 use Rattle.kc_tree.proofs.uses.reader.Reader.add_visibility.Goals as goal
@@ -8,6 +7,6 @@ pub returns : goal.returns
 returns c =
     let t = c.args.self.now.outline.now in
     let k = c.args.symbol in
-    let there = one_within (Vis k) t.symbols k.0 (omega (arith, c.if-symbol-len.false, c.len.ensures, ap (λ (x : TreeValue). length x.symbols) c.outline.view_is, c.outline.inside.symbols.ok.0)) in
-    let added = adds_number (length t.symbols) c.args.row.now.items c.push.new.self.items (Vis k) c.number_in.result c.in_ok-push.ensures.items c.number_in.ensures in
+    let there = one_within (Vis k) t.symbols k.0 (omega (arith, c.if-symbol-symbols.false, c.symbol_count-symbols.ensures.count)) in
+    let added = adds_number (length t.symbols) c.args.row.now.items c.push.new.self.items (Vis k) c.index_in.result c.in_ok-push.ensures.items c.index_in.ensures in
     adds_equal (length t.symbols) _ _ _ _ (sym there) added

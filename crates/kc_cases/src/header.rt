@@ -1,0 +1,86 @@
+//! The headers of sections.
+
+/// What a section has.
+#[derive(Clone, Copy)]
+pub(crate) enum Kind<'a> {
+    /// Lines of the file of this path.
+    File(&'a str),
+    /// Variables that are passed in, a line `NAME=VALUE` each.
+    Variables,
+    /// Commands.
+    Commands,
+    /// The replies to the commands before them.
+    Replies,
+    /// The fault of the Kconfig.
+    Fault,
+    /// The names of the nodes of its loop, in any order.
+    Loop,
+    /// The names of the nodes of its loop, in their order from any of them on.
+    LoopInOrder,
+}
+
+/// The header of a section.
+#[derive(Clone, Copy)]
+pub(crate) struct Header<'a> {
+    pub(crate) kind: Kind<'a>,
+    /// Whether its lines have escapes.
+    pub(crate) is_escaped: bool,
+    /// How often its lines are repeated.
+    pub(crate) times: Option<usize>,
+}
+
+impl<'a> Header<'a> {
+    /// The header that a text spells: a kind, then perhaps `escaped`, then perhaps `N times`.
+    pub(crate) fn parse(text: &'a str) -> Option<Header<'a>> {
+        let (text, times) = without_times(text)?;
+        let (text, is_escaped) = without_escaped(text);
+        let kind = kind_of(text)?;
+        Some(Header {
+            kind,
+            is_escaped,
+            times,
+        })
+    }
+}
+
+/// A header without `N times` at its end, and the number.
+fn without_times(text: &str) -> Option<(&str, Option<usize>)> {
+    let Some(text) = text.strip_suffix(" times") else {
+        return Some((text, None));
+    };
+    let (text, number) = text.rsplit_once(' ')?;
+    match number.parse::<usize>() {
+        Ok(times) => Some((text, Some(times))),
+        Err(_) => None,
+    }
+}
+
+/// A header without `escaped` at its end, and whether it was there.
+fn without_escaped(text: &str) -> (&str, bool) {
+    match text.strip_suffix(" escaped") {
+        Some(text) => (text, true),
+        None => (text, false),
+    }
+}
+
+fn kind_of(text: &str) -> Option<Kind<'_>> {
+    match text {
+        "Kconfig" => Some(Kind::File("Kconfig")),
+        "variables" => Some(Kind::Variables),
+        "commands" => Some(Kind::Commands),
+        "replies" => Some(Kind::Replies),
+        "fault" => Some(Kind::Fault),
+        "loop" => Some(Kind::Loop),
+        "loop in order" => Some(Kind::LoopInOrder),
+        _ => file_kind(text),
+    }
+}
+
+/// The kind of a header `file PATH`. A path has no spaces.
+fn file_kind(text: &str) -> Option<Kind<'_>> {
+    let path = text.strip_prefix("file ")?;
+    if path.is_empty() || path.contains(' ') {
+        return None;
+    }
+    Some(Kind::File(path))
+}

@@ -1,0 +1,13 @@
+pub mod AddingChoices
+pub mod AddingEntries
+pub mod AddingParts
+pub mod AddingSymbols
+pub mod ChangeLaws
+pub mod ContextLaws
+pub mod Counts
+pub mod Examples
+pub mod FormLaws
+pub mod OpenChoices
+pub mod OutlineFacts
+pub mod OwnerLaws
+pub mod ReadingLaws

@@ -1,0 +1,10 @@
+pub mod Adding
+pub mod ContextAfter
+pub mod Enclosing
+pub mod Entries
+pub mod FirstProblem
+pub mod LineFaults
+pub mod Outline
+pub mod Reader
+pub mod TreeOf
+pub mod TreeValue

@@ -1,0 +1,144 @@
+//! From logical lines to what they define, or the first fault.
+
+ghost use Rattle.std.specs.Prelude.{◌≡◌, ◌≤◌, ◌+◌, ◌^◌, ◌==◌, ◌∷◌, List, All, count_by, length, nat_lt, IfOk, IfErr, OnOk};
+ghost use Rattle.kc_outline.specs.Entries.{IsEntryOf};
+ghost use Rattle.kc_text.specs.LineValue.{LineValue};
+ghost use Rattle.kc_statement.specs.Keywords.{is_choice};
+ghost use Rattle.kc_outline.specs.TreeOf.{IsOutlineOf};
+ghost use Rattle.kc_outline.specs.ContextAfter.{HasRoom, IsContextAfter};
+ghost use Rattle.kc_outline.specs.FirstProblem.{IsReadFault};
+ghost use Rattle.kc_outline.specs.Reader.{IsOutlineAfter, IsStop, IsToldFor};
+
+use crate::context::Context;
+use crate::fault::{LineFault, LineProblem};
+use crate::limits::MOST_LINES;
+use crate::line_faults::{early_problem, late_problem};
+use crate::outline::Outline;
+use kc_statement::{Statement, read_keyword, read_names, read_statement};
+use kc_text::{Line, Text};
+use std::alloc::{AllocError, Global};
+
+/// Why a line was not taken.
+#[derive(Clone, Copy, Debug, PartialEq, Eq)]
+enum Stop {
+    Problem(LineProblem),
+    NoMemory,
+}
+
+impl From<AllocError> for Stop {
+    ghost use Rattle.std.specs.Prelude.{◌≡◌};
+    ghost use Rattle.kc_outline.specs.declared.all_lines.Stop.TheVariants.{NoMemory};
+
+    ghost from_gives = { λ _ e. e ≡ NoMemory };
+
+    fn from(_error: AllocError) -> Stop {
+        Stop::NoMemory
+    }
+}
+
+/// Why a line of this statement is not taken. The statement is dropped here, since a function that may drop one makes
+/// room for all of its parts on each call, and most lines are taken.
+fn refused(statement: Statement, stop: Stop) -> Stop
+    ensures { result ≡ stop }
+{
+    drop(statement);
+    stop
+}
+
+/// Reads a line behind those that the outline and the context are of. So many lines follow it.
+fn read_line(
+    alloc: Global,
+    outline: &mut Outline,
+    context: &mut Context,
+    line: &Line<'_>,
+    following: usize,
+) -> Result<(), Stop>
+    requires few { length outline.old.names ≤ 65535 }
+    requires room { HasRoom context.old }
+    ensures outline { OnOk result ((earlier : List LineValue)
+        → IsOutlineAfter outline.old.names (following + 1) earlier outline.old → IsContextAfter outline.old.names earlier context.old
+        → IsOutlineAfter outline.old.names following (line.now ∷ earlier) outline.new) }
+    ensures context { OnOk result ((earlier : List LineValue)
+        → IsContextAfter outline.old.names earlier context.old
+        → IsContextAfter outline.old.names (line.now ∷ earlier) context.new) }
+    ensures stop { IfErr result (λ stop. (earlier : List LineValue)
+        → IsContextAfter outline.old.names earlier context.old
+        → IsStop outline.old.names earlier (following == 0) line.now stop) }
+{
+    let keyword = read_keyword(line);
+    if let Some(problem) = early_problem(context, line, keyword, following == 0) {
+        return Err(Stop::Problem(problem));
+    }
+    let likely = outline.likely_symbol();
+    let statement = match read_statement(alloc, &outline.names, line, keyword, likely) {
+        Ok(Some(statement)) => statement,
+        Ok(None) => return Err(Stop::Problem(LineProblem::Malformed)),
+        Err(_) => return Err(Stop::NoMemory),
+    };
+    if let Some(problem) = late_problem(context, line, keyword, &statement) {
+        return Err(refused(statement, Stop::Problem(problem)));
+    }
+    let (block, choice) = (context.innermost(), context.choice());
+    let passed = context.pass(line, keyword, &statement);
+    if passed.is_err() {
+        return Err(refused(statement, Stop::NoMemory));
+    }
+    outline.take(alloc, statement, block, choice, context.owner())?;
+    Ok(())
+}
+
+/// Whether there are more lines than are read.
+fn are_too_many(lines: &[Line<'_>]) -> bool
+    ensures { result ≡ nat_lt (2 ^ 30) (length lines.now) }
+{
+    lines.len() > MOST_LINES
+}
+
+/// The fault of a line that was not taken, or that its path could not be copied.
+fn line_fault(alloc: Global, stop: Stop, line: &Line<'_>) -> LineFault
+    ensures { IsToldFor stop line.now result }
+{
+    let Stop::Problem(problem) = stop else {
+        return LineFault::NoMemory;
+    };
+    match Text::copy_of(alloc, line.path()) {
+        Ok(path) => LineFault::At {
+            problem,
+            path,
+            line: line.number(),
+        },
+        Err(_) => LineFault::NoMemory,
+    }
+}
+
+/// What logical lines define (kconfig-language.rst, "Menu entries" and "Menu structure").
+///
+/// # Errors
+///
+/// - `LineFault::At` with the first line that has a problem: K04 its word is unknown, K20 it is unsupported, K06 its
+///   attribute belongs to nothing that takes it, K07 a block is closed wrongly or left open, K05 its form, and K01 a limit
+///   of parentheses, blocks or symbols.
+/// - `LineFault::NoMemory` where memory was refused, and for more than 2^30 lines.
+pub fn read_outline(alloc: Global, lines: &[Line<'_>]) -> Result<Outline, LineFault>
+    ensures outline { IfOk result (IsOutlineOf lines.now) }
+    ensures few { IfOk result (λ o. length o.symbols ≤ 65535) }
+    ensures few_choices { IfOk result (λ o. length o.choices ≤ 2 ^ 30) }
+    ensures choices { IfOk result (λ o. length o.choices ≡ count_by is_choice lines.now) }
+    ensures named { IfOk result (λ o. length o.names ≡ length o.symbols) }
+    ensures entries { IfOk result (λ o. All (IsEntryOf o) o.entries) }
+    ensures fault { IfErr result (IsReadFault lines.now) }
+{
+    if are_too_many(lines) {
+        return Err(LineFault::NoMemory);
+    }
+    let names = read_names(alloc, lines)?;
+    let mut outline = Outline::new(alloc, names)?;
+    let mut context = Context::new(alloc);
+    for (index, line) in lines.iter().enumerate() {
+        let following = lines.len() - index - 1;
+        if let Err(stop) = read_line(alloc, &mut outline, &mut context, line, following) {
+            return Err(line_fault(alloc, stop, line));
+        }
+    }
+    Ok(outline)
+}

@@ -1,0 +1,568 @@
+//! What one more line changes of an outline, a part at a time. A number that names nothing changes nothing.
+
+ghost use Rattle.std.specs.Prelude.{◌≡◌, [], ◌∷◌, ◌++◌, None, Some, true, false, option_map, OnOk};
+ghost use Rattle.std.specs.Option.{option_map_or};
+ghost use Rattle.kc_outline.specs.declared.block.BlockKind.TheVariants.{Menu, If, Choice as ChoiceBlock};
+ghost use Rattle.kc_outline.specs.declared.entry.Entry.TheVariants.{EndMenu};
+ghost use Rattle.kc_outline.specs.TreeOf.{choice_default, menu_entry, choice_entry, comment_entry};
+ghost use Rattle.kc_outline.specs.Adding.{with_reading, with_some, change_at};
+ghost use Rattle.kc_outline.specs.Adding.{new_definition, definition_after, change_definition, definition_entry};
+ghost use Rattle.kc_outline.specs.Adding.{symbol_after, change_symbol, numbered, placed, selecting, selected, implied};
+ghost use Rattle.kc_outline.specs.Adding.{new_block, block_after, change_block, new_comment, comment_after, change_comment, choice_after, change_choice, with_member, with_choice};
+
+use super::Outline;
+use crate::block::{Block, BlockKind, Comment};
+use crate::choice::{Choice, ChoiceDefault};
+use crate::context::Owner;
+use crate::definition::Definition;
+use crate::entry::Entry;
+use crate::id::{BlockId, ChoiceId, CommentId};
+use crate::room::push_one;
+use crate::symbol::Reverse;
+use kc_statement::{DefaultValue, Expr, Prompt, Range, Statement, SymId, SymbolType};
+use kc_text::Text;
+use std::alloc::{AllocError, Global};
+
+impl Outline {
+    /// Adds what a line says to each part that it changes. The functions that take a part of a statement are kept out of
+    /// line, since the statement would else be taken apart before its kind is known.
+    pub(super) fn add(
+        &mut self,
+        alloc: Global,
+        statement: Statement,
+        block: Option<BlockId>,
+        choice: Option<ChoiceId>,
+        owner: Option<Owner>,
+    ) -> Result<(), AllocError>
+        ensures { OnOk result (self.new ≡ with_reading self.old (record { statement = statement; block = block; choice = choice; owner = owner })) }
+    {
+        match statement {
+            Statement::Config(Some(symbol)) => {
+                self.add_definition(alloc, symbol, block, choice, owner)?;
+            }
+            Statement::Menu(title) => self.add_menu(alloc, title, block, owner)?,
+            Statement::EndMenu => self.add_menu_end(block)?,
+            Statement::If(condition) => self.add_if(alloc, condition, block)?,
+            Statement::Choice => self.add_choice(alloc, block, owner)?,
+            Statement::Comment(title) => self.add_comment(alloc, title, block, choice, owner)?,
+            Statement::Type(kind) => self.add_type(owner, kind),
+            Statement::TypeAndPrompt(kind, prompt) => self.add_typed_prompt(owner, kind, prompt),
+            Statement::TypeAndDefault(kind, value) => self.add_typed_default(owner, kind, value)?,
+            Statement::Prompt(prompt) => self.add_prompt(owner, prompt),
+            Statement::Default(value) => self.add_default(owner, value)?,
+            Statement::Range(range) => self.add_range(owner, range)?,
+            Statement::DependsOn(on) => self.add_depends(owner, on)?,
+            Statement::VisibleIf(condition) => self.add_visible(owner, condition)?,
+            Statement::Select(target, on) => self.add_select(owner, target, on)?,
+            Statement::Imply(target, on) => self.add_imply(owner, target, on)?,
+            Statement::Modules => self.add_modules(owner),
+            Statement::Optional => self.add_optional(owner),
+            Statement::AllNoConfigYes => self.add_yes_in_allnoconfig(owner),
+            Statement::Config(None) | Statement::EndOfFile | Statement::MainMenu => {}
+            Statement::EndIf | Statement::EndChoice | Statement::Help => {}
+        }
+        Ok(())
+    }
+
+    /// The entry of one more definition of a symbol.
+    fn definition_entry(&self, symbol: SymId) -> Entry
+        ensures { result ≡ definition_entry self.now.symbols symbol }
+    {
+        match self.symbols.get(symbol.0 as usize) {
+            None => Entry::Symbol(symbol),
+            Some(found) => {
+                if found.definitions.is_empty() {
+                    Entry::Symbol(symbol)
+                } else {
+                    Entry::Again(symbol)
+                }
+            }
+        }
+    }
+
+    /// Adds the definition that a `config` line makes.
+    #[inline(never)]
+    fn add_definition(
+        &mut self,
+        alloc: Global,
+        symbol: SymId,
+        block: Option<BlockId>,
+        choice: Option<ChoiceId>,
+        owner: Option<Owner>,
+    ) -> Result<(), AllocError>
+        ensures { OnOk result (self.new ≡ record self.old {
+          symbols = numbered symbol owner (placed symbol choice self.old.symbols);
+          definitions = self.old.definitions ++ new_definition symbol block ∷ [];
+          choices = with_member choice symbol self.old.choices;
+          entries = self.old.entries ++ definition_entry self.old.symbols symbol ∷ [];
+        }) }
+    {
+        let entry = self.definition_entry(symbol);
+        self.entries.push(entry)?;
+        self.definitions
+            .push(Definition::new(alloc, symbol, block))?;
+        self.add_symbol_choice(symbol, choice);
+        self.add_number(symbol, owner)?;
+        self.add_member(choice, symbol)
+    }
+
+    /// Adds a menu, which is its own owner.
+    #[inline(never)]
+    fn add_menu(
+        &mut self,
+        alloc: Global,
+        title: Text,
+        block: Option<BlockId>,
+        owner: Option<Owner>,
+    ) -> Result<(), AllocError>
+        ensures { OnOk result (self.new ≡ record self.old {
+          blocks = self.old.blocks ++ new_block (Menu title) block [] ∷ [];
+          entries = with_some self.old.entries (menu_entry owner);
+        }) }
+    {
+        let kind = BlockKind::Menu(title);
+        self.blocks
+            .push(Block::new(alloc, kind, block, Vec::new(alloc)))?;
+        if let Some(Owner::Menu(menu)) = owner {
+            self.entries.push(Entry::Menu(menu))?;
+        }
+        Ok(())
+    }
+
+    /// Adds the end of the menu that is open.
+    fn add_menu_end(&mut self, block: Option<BlockId>) -> Result<(), AllocError>
+        ensures { OnOk result (self.new ≡ record self.old { entries = with_some self.old.entries (option_map EndMenu block) }) }
+    {
+        if let Some(menu) = block {
+            self.entries.push(Entry::EndMenu(menu))?;
+        }
+        Ok(())
+    }
+
+    /// Adds an `if`, which has no entry.
+    #[inline(never)]
+    fn add_if(
+        &mut self,
+        alloc: Global,
+        condition: Expr,
+        block: Option<BlockId>,
+    ) -> Result<(), AllocError>
+        ensures { OnOk result (self.new ≡ record self.old {
+          blocks = self.old.blocks ++ new_block If block (condition ∷ []) ∷ [];
+        }) }
+    {
+        let mut depends = Vec::new(alloc);
+        push_one(&mut depends, condition)?;
+        self.blocks
+            .push(Block::new(alloc, BlockKind::If, block, depends))?;
+        Ok(())
+    }
+
+    /// Adds a choice, which is its own owner, with its block.
+    #[inline(never)]
+    fn add_choice(
+        &mut self,
+        alloc: Global,
+        block: Option<BlockId>,
+        owner: Option<Owner>,
+    ) -> Result<(), AllocError>
+        ensures { OnOk result (self.new ≡ record self.old {
+          blocks = self.old.blocks ++ new_block ChoiceBlock block [] ∷ [];
+          choices = with_choice owner self.old.choices;
+          entries = with_some self.old.entries (choice_entry owner);
+        }) }
+    {
+        let kind = BlockKind::Choice;
+        self.blocks
+            .push(Block::new(alloc, kind, block, Vec::new(alloc)))?;
+        if let Some(Owner::Choice(choice, own)) = owner {
+            self.choices.push(Choice::new(alloc, own))?;
+            self.entries.push(Entry::Choice(choice))?;
+        }
+        Ok(())
+    }
+
+    /// Adds a comment, which is its own owner.
+    #[inline(never)]
+    fn add_comment(
+        &mut self,
+        alloc: Global,
+        title: Text,
+        block: Option<BlockId>,
+        choice: Option<ChoiceId>,
+        owner: Option<Owner>,
+    ) -> Result<(), AllocError>
+        ensures { OnOk result (self.new ≡ record self.old {
+          comments = self.old.comments ++ new_comment title block choice ∷ [];
+          entries = with_some self.old.entries (comment_entry owner);
+        }) }
+    {
+        self.comments
+            .push(Comment::new(alloc, title, block, choice))?;
+        if let Some(Owner::Comment(comment)) = owner {
+            self.entries.push(Entry::Comment(comment))?;
+        }
+        Ok(())
+    }
+
+    /// Adds a `depends on` line to what owns it.
+    #[inline(never)]
+    fn add_depends(&mut self, owner: Option<Owner>, on: Expr) -> Result<(), AllocError>
+        ensures { OnOk result (self.new ≡ record self.old {
+          definitions = change_definition owner (definition_after (Some on) None None None) self.old.definitions;
+          blocks = change_block owner (block_after (Some on) None) self.old.blocks;
+          comments = change_comment owner (comment_after (Some on)) self.old.comments;
+        }) }
+    {
+        match owner {
+            None => Ok(()),
+            Some(Owner::Definition(_, number)) => self.add_definition_depends(number, on),
+            Some(Owner::Menu(block) | Owner::Choice(_, block)) => self.add_block_depends(block, on),
+            Some(Owner::Comment(comment)) => self.add_comment_depends(comment, on),
+        }
+    }
+
+    /// Adds a prompt to the definition or the choice that owns it.
+    fn add_prompt(&mut self, owner: Option<Owner>, prompt: Prompt)
+        ensures { self.new ≡ record self.old {
+          definitions = change_definition owner (definition_after None (Some prompt) None None) self.old.definitions;
+          choices = change_choice owner (choice_after (Some prompt) None None false) self.old.choices;
+        } }
+    {
+        match owner {
+            Some(Owner::Definition(_, number)) => self.add_definition_prompt(number, prompt),
+            Some(Owner::Choice(choice, _)) => self.add_choice_prompt(choice, prompt),
+            Some(Owner::Menu(_) | Owner::Comment(_)) | None => {}
+        }
+    }
+
+    /// Adds a type to the symbol and a prompt to the definition or the choice that owns them.
+    #[inline(never)]
+    fn add_typed_prompt(&mut self, owner: Option<Owner>, kind: SymbolType, prompt: Prompt)
+        ensures { self.new ≡ record self.old {
+          symbols = change_symbol owner (symbol_after (Some kind) false false false) self.old.symbols;
+          definitions = change_definition owner (definition_after None (Some prompt) None None) self.old.definitions;
+          choices = change_choice owner (choice_after (Some prompt) None None false) self.old.choices;
+        } }
+    {
+        self.add_type(owner, kind);
+        self.add_prompt(owner, prompt);
+    }
+
+    /// Adds a type with a default to the definition that owns them.
+    #[inline(never)]
+    fn add_typed_default(
+        &mut self,
+        owner: Option<Owner>,
+        kind: SymbolType,
+        value: DefaultValue,
+    ) -> Result<(), AllocError>
+        ensures { OnOk result (self.new ≡ record self.old {
+          symbols = change_symbol owner (symbol_after (Some kind) false false false) self.old.symbols;
+          definitions = change_definition owner (definition_after None None (Some value) None) self.old.definitions;
+        }) }
+    {
+        self.add_type(owner, kind);
+        match owner {
+            Some(Owner::Definition(_, number)) => self.add_definition_default(number, value),
+            Some(Owner::Menu(_) | Owner::Choice(_, _) | Owner::Comment(_)) | None => Ok(()),
+        }
+    }
+
+    /// Adds a `select` line to its owner's symbol and to the one that it names.
+    #[inline(never)]
+    fn add_select(
+        &mut self,
+        owner: Option<Owner>,
+        target: Option<SymId>,
+        condition: Option<Expr>,
+    ) -> Result<(), AllocError>
+        ensures { OnOk result (self.new ≡ record self.old { symbols = option_map_or (λ s. selected s condition owner (selecting owner self.old.symbols)) target (selecting owner self.old.symbols) }) }
+    {
+        self.add_own_selection(owner);
+        self.add_selection(owner, target, condition)
+    }
+
+    /// Adds an `imply` line to its owner's symbol and to the one that it names.
+    #[inline(never)]
+    fn add_imply(
+        &mut self,
+        owner: Option<Owner>,
+        target: Option<SymId>,
+        condition: Option<Expr>,
+    ) -> Result<(), AllocError>
+        ensures { OnOk result (self.new ≡ record self.old { symbols = option_map_or (λ s. implied s condition owner (selecting owner self.old.symbols)) target (selecting owner self.old.symbols) }) }
+    {
+        self.add_own_selection(owner);
+        self.add_implication(owner, target, condition)
+    }
+
+    /// Adds a default to the definition or the choice that owns it.
+    #[inline(never)]
+    fn add_default(&mut self, owner: Option<Owner>, value: DefaultValue) -> Result<(), AllocError>
+        ensures { OnOk result (self.new ≡ record self.old {
+          definitions = change_definition owner (definition_after None None (Some value) None) self.old.definitions;
+          choices = change_choice owner (choice_after None (Some (choice_default value)) None false) self.old.choices;
+        }) }
+    {
+        match owner {
+            Some(Owner::Definition(_, number)) => self.add_definition_default(number, value),
+            Some(Owner::Choice(choice, _)) => self.add_choice_default(choice, value),
+            Some(Owner::Menu(_) | Owner::Comment(_)) | None => Ok(()),
+        }
+    }
+}
+
+// Each of these writes at one place of a list.
+#[tactic(auto, using(crate::proofs::ChangeLaws::change_laws))]
+impl Outline {
+    /// Gives a symbol the choice in which a `config` line defines it.
+    fn add_symbol_choice(&mut self, symbol: SymId, choice: Option<ChoiceId>)
+        ensures { self.new ≡ record self.old { symbols = placed symbol choice self.old.symbols } }
+    {
+        let Some(found) = self.symbols.get_mut(symbol.0 as usize) else {
+            return;
+        };
+        found.take_choice(choice);
+    }
+
+    /// Gives a symbol the number of the definition that a `config` line makes.
+    fn add_number(&mut self, symbol: SymId, owner: Option<Owner>) -> Result<(), AllocError>
+        ensures { OnOk result (self.new ≡ record self.old { symbols = numbered symbol owner self.old.symbols }) }
+    {
+        let Some(Owner::Definition(_, number)) = owner else {
+            return Ok(());
+        };
+        let Some(found) = self.symbols.get_mut(symbol.0 as usize) else {
+            return Ok(());
+        };
+        found.take_definition(number)
+    }
+
+    /// Gives the choice in which a `config` line stands its symbol as a member.
+    fn add_member(&mut self, choice: Option<ChoiceId>, symbol: SymId) -> Result<(), AllocError>
+        ensures { OnOk result (self.new ≡ record self.old { choices = with_member choice symbol self.old.choices }) }
+    {
+        let Some(choice) = choice else {
+            return Ok(());
+        };
+        let Some(choice) = self.choices.get_mut(choice.0 as usize) else {
+            return Ok(());
+        };
+        choice.take_member(symbol)
+    }
+
+    /// Adds a type to the owner's symbol.
+    fn add_type(&mut self, owner: Option<Owner>, kind: SymbolType)
+        ensures { self.new ≡ record self.old { symbols = change_symbol owner (symbol_after (Some kind) false false false) self.old.symbols } }
+    {
+        let Some(Owner::Definition(symbol, _)) = owner else {
+            return;
+        };
+        let Some(symbol) = self.symbols.get_mut(symbol.0 as usize) else {
+            return;
+        };
+        symbol.take_type(kind);
+    }
+
+    /// Notes that the owner's symbol selects or implies.
+    fn add_own_selection(&mut self, owner: Option<Owner>)
+        ensures { self.new ≡ record self.old { symbols = selecting owner self.old.symbols } }
+    {
+        let Some(Owner::Definition(symbol, _)) = owner else {
+            return;
+        };
+        let Some(symbol) = self.symbols.get_mut(symbol.0 as usize) else {
+            return;
+        };
+        symbol.take_own_selection();
+    }
+
+    /// Adds an `optional` line to the choice that owns it.
+    fn add_optional(&mut self, owner: Option<Owner>)
+        ensures { self.new ≡ record self.old { choices = change_choice owner (choice_after None None None true) self.old.choices } }
+    {
+        let Some(Owner::Choice(choice, _)) = owner else {
+            return;
+        };
+        let Some(choice) = self.choices.get_mut(choice.0 as usize) else {
+            return;
+        };
+        choice.take_optional();
+    }
+
+    /// Adds a `modules` line to the owner's symbol.
+    fn add_modules(&mut self, owner: Option<Owner>)
+        ensures { self.new ≡ record self.old { symbols = change_symbol owner (symbol_after None false true false) self.old.symbols } }
+    {
+        let Some(Owner::Definition(symbol, _)) = owner else {
+            return;
+        };
+        let Some(symbol) = self.symbols.get_mut(symbol.0 as usize) else {
+            return;
+        };
+        symbol.take_modules();
+    }
+
+    /// Adds an `option allnoconfig_y` line to the owner's symbol.
+    fn add_yes_in_allnoconfig(&mut self, owner: Option<Owner>)
+        ensures { self.new ≡ record self.old { symbols = change_symbol owner (symbol_after None false false true) self.old.symbols } }
+    {
+        let Some(Owner::Definition(symbol, _)) = owner else {
+            return;
+        };
+        let Some(symbol) = self.symbols.get_mut(symbol.0 as usize) else {
+            return;
+        };
+        symbol.take_yes_in_allnoconfig();
+    }
+
+    fn add_definition_prompt(&mut self, number: usize, prompt: Prompt)
+        ensures { self.new ≡ record self.old { definitions = change_at self.old.definitions number (definition_after None (Some prompt) None None) } }
+    {
+        let Some(definition) = self.definitions.get_mut(number) else {
+            return;
+        };
+        definition.take_prompt(prompt);
+    }
+
+    fn add_choice_prompt(&mut self, choice: ChoiceId, prompt: Prompt)
+        ensures { self.new ≡ record self.old { choices = change_at self.old.choices choice.0 (choice_after (Some prompt) None None false) } }
+    {
+        let Some(choice) = self.choices.get_mut(choice.0 as usize) else {
+            return;
+        };
+        choice.take_prompt(prompt);
+    }
+
+    fn add_definition_default(
+        &mut self,
+        number: usize,
+        value: DefaultValue,
+    ) -> Result<(), AllocError>
+        ensures { OnOk result (self.new ≡ record self.old { definitions = change_at self.old.definitions number (definition_after None None (Some value) None) }) }
+    {
+        let Some(definition) = self.definitions.get_mut(number) else {
+            return Ok(());
+        };
+        definition.take_default(value)
+    }
+
+    fn add_choice_default(
+        &mut self,
+        choice: ChoiceId,
+        value: DefaultValue,
+    ) -> Result<(), AllocError>
+        ensures { OnOk result (self.new ≡ record self.old { choices = change_at self.old.choices choice.0 (choice_after None (Some (choice_default value)) None false) }) }
+    {
+        let Some(choice) = self.choices.get_mut(choice.0 as usize) else {
+            return Ok(());
+        };
+        choice.take_default(ChoiceDefault::of(value))
+    }
+
+    /// Adds a range to the definition that owns it.
+    #[inline(never)]
+    fn add_range(&mut self, owner: Option<Owner>, range: Range) -> Result<(), AllocError>
+        ensures { OnOk result (self.new ≡ record self.old { definitions = change_definition owner (definition_after None None None (Some range)) self.old.definitions }) }
+    {
+        let Some(Owner::Definition(_, number)) = owner else {
+            return Ok(());
+        };
+        let Some(definition) = self.definitions.get_mut(number) else {
+            return Ok(());
+        };
+        definition.take_range(range)
+    }
+
+    fn add_definition_depends(&mut self, number: usize, on: Expr) -> Result<(), AllocError>
+        ensures { OnOk result (self.new ≡ record self.old { definitions = change_at self.old.definitions number (definition_after (Some on) None None None) }) }
+    {
+        let Some(definition) = self.definitions.get_mut(number) else {
+            return Ok(());
+        };
+        definition.take_depends(on)
+    }
+
+    fn add_block_depends(&mut self, block: BlockId, on: Expr) -> Result<(), AllocError>
+        ensures { OnOk result (self.new ≡ record self.old { blocks = change_at self.old.blocks block.0 (block_after (Some on) None) }) }
+    {
+        let Some(block) = self.blocks.get_mut(block.0) else {
+            return Ok(());
+        };
+        block.take_depends(on)
+    }
+
+    fn add_comment_depends(&mut self, comment: CommentId, on: Expr) -> Result<(), AllocError>
+        ensures { OnOk result (self.new ≡ record self.old { comments = change_at self.old.comments comment.0 (comment_after (Some on)) }) }
+    {
+        let Some(comment) = self.comments.get_mut(comment.0) else {
+            return Ok(());
+        };
+        comment.take_depends(on)
+    }
+
+    /// Adds a `visible if` line to the menu that owns it.
+    #[inline(never)]
+    fn add_visible(&mut self, owner: Option<Owner>, condition: Expr) -> Result<(), AllocError>
+        ensures { OnOk result (self.new ≡ record self.old { blocks = change_block owner (block_after None (Some condition)) self.old.blocks }) }
+    {
+        let Some(Owner::Menu(block) | Owner::Choice(_, block)) = owner else {
+            return Ok(());
+        };
+        let Some(block) = self.blocks.get_mut(block.0) else {
+            return Ok(());
+        };
+        block.take_visible(condition)
+    }
+
+    /// Adds a `select` line to the symbol that it names, if there is one and a definition owns the line.
+    fn add_selection(
+        &mut self,
+        owner: Option<Owner>,
+        target: Option<SymId>,
+        condition: Option<Expr>,
+    ) -> Result<(), AllocError>
+        ensures { OnOk result (self.new ≡ record self.old { symbols = option_map_or (λ s. selected s condition owner self.old.symbols) target self.old.symbols }) }
+    {
+        let Some(target) = target else {
+            return Ok(());
+        };
+        let Some(Owner::Definition(by, definition)) = owner else {
+            return Ok(());
+        };
+        let Some(found) = self.symbols.get_mut(target.0 as usize) else {
+            return Ok(());
+        };
+        found.take_selection(Reverse {
+            by,
+            definition,
+            condition,
+        })
+    }
+
+    /// Adds an `imply` line to the symbol that it names, if there is one and a definition owns the line.
+    fn add_implication(
+        &mut self,
+        owner: Option<Owner>,
+        target: Option<SymId>,
+        condition: Option<Expr>,
+    ) -> Result<(), AllocError>
+        ensures { OnOk result (self.new ≡ record self.old { symbols = option_map_or (λ s. implied s condition owner self.old.symbols) target self.old.symbols }) }
+    {
+        let Some(target) = target else {
+            return Ok(());
+        };
+        let Some(Owner::Definition(by, definition)) = owner else {
+            return Ok(());
+        };
+        let Some(found) = self.symbols.get_mut(target.0 as usize) else {
+            return Ok(());
+        };
+        found.take_implication(Reverse {
+            by,
+            definition,
+            condition,
+        })
+    }
+}

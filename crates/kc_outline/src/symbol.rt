@@ -1,0 +1,198 @@
+ghost use Rattle.std.specs.Prelude.{◌≡◌, None, Some, true, false, is_some, OnOk};
+ghost use Rattle.kc_outline.specs.TreeValue.{kind_of};
+ghost use Rattle.kc_outline.specs.Adding.{new_symbol, symbol_after, standing_in, with_definition, with_selection, with_implication};
+
+use crate::id::ChoiceId;
+use crate::room::push_one;
+use kc_statement::{Expr, SymId, SymbolType};
+use smallvec::SmallVec;
+use std::alloc::{AllocError, Global};
+use std::marker::Model;
+
+/// A `select` or `imply` of a symbol. It stands at the symbol that it names.
+#[derive(Debug, Drop)]
+pub struct Reverse {
+    /// The symbol in whose definition the line stands.
+    pub by: SymId,
+    /// The number of that definition, whose dependencies are part of the condition.
+    pub definition: usize,
+    /// The condition after `if`.
+    pub condition: Option<Expr>,
+}
+
+/// A symbol without its name: its type, the choice that it is a member of, its definitions, and the `select` and
+/// `imply` lines that name it. Most have one definition, whose number takes no memory of its own. Contracts see the
+/// record of its parts.
+#[derive(Debug, Drop)]
+pub struct Symbol {
+    pub(crate) kind: Option<SymbolType>,
+    pub(crate) has_other_type: bool,
+    pub(crate) choice: Option<ChoiceId>,
+    pub(crate) definitions: SmallVec<usize, 1>,
+    pub(crate) selected: Vec<Reverse>,
+    pub(crate) implied: Vec<Reverse>,
+    pub(crate) has_selections: bool,
+    pub(crate) has_modules: bool,
+    pub(crate) is_yes_in_allnoconfig: bool,
+}
+
+impl Model for Symbol {
+    ghost use Rattle.kc_outline.specs.TreeValue.{SymbolValue};
+    ghost use Rattle.kc_statement.specs.contracts.expr.Expr as expr;
+    ghost use Rattle.std.specs.Coded.{codes};
+
+    ghost Value = { SymbolValue };
+
+    ghost coded = { Prim.hlevel (codes, expr.the_row.coded) };
+
+    ghost view = { λ s. record { kind = s.kind; has_other_type = s.has_other_type; choice = s.choice; definitions = s.definitions.items; selected = s.selected.items; implied = s.implied.items; has_selections = s.has_selections; has_modules = s.has_modules; is_yes_in_allnoconfig = s.is_yes_in_allnoconfig } };
+}
+
+impl Symbol {
+    /// Of which no line says anything yet.
+    pub(crate) fn new(alloc: Global) -> Symbol
+        ensures { result ≡ new_symbol }
+    {
+        Symbol {
+            kind: None,
+            has_other_type: false,
+            choice: None,
+            definitions: SmallVec::new(alloc),
+            selected: Vec::new(alloc),
+            implied: Vec::new(alloc),
+            has_selections: false,
+            has_modules: false,
+            is_yes_in_allnoconfig: false,
+        }
+    }
+
+    /// Takes a type: the first one stays.
+    pub(crate) fn take_type(&mut self, kind: SymbolType)
+        ensures { self.new ≡ symbol_after (Some kind) false false false self.old }
+    {
+        match self.kind {
+            None => self.kind = Some(kind),
+            Some(first) => self.has_other_type = self.has_other_type || first != kind,
+        }
+    }
+
+    /// Takes the choice that a definition stands in: the first one stays.
+    pub(crate) fn take_choice(&mut self, choice: Option<ChoiceId>)
+        ensures { self.new ≡ standing_in choice self.old }
+    {
+        self.choice = self.choice.or(choice);
+    }
+
+    /// Takes the number of a definition.
+    pub(crate) fn take_definition(&mut self, number: usize) -> Result<(), AllocError>
+        ensures { OnOk result (self.new ≡ with_definition number self.old) }
+    {
+        self.definitions.push(number)?;
+        Ok(())
+    }
+
+    /// Takes a `select` line that names it.
+    pub(crate) fn take_selection(&mut self, line: Reverse) -> Result<(), AllocError>
+        ensures { OnOk result (self.new ≡ with_selection line self.old) }
+    {
+        push_one(&mut self.selected, line)
+    }
+
+    /// Takes an `imply` line that names it.
+    pub(crate) fn take_implication(&mut self, line: Reverse) -> Result<(), AllocError>
+        ensures { OnOk result (self.new ≡ with_implication line self.old) }
+    {
+        push_one(&mut self.implied, line)
+    }
+
+    /// Takes a `select` or an `imply` line of its own.
+    pub(crate) fn take_own_selection(&mut self)
+        ensures { self.new ≡ symbol_after None true false false self.old }
+    {
+        self.has_selections = true;
+    }
+
+    /// Takes a `modules` line.
+    pub(crate) fn take_modules(&mut self)
+        ensures { self.new ≡ symbol_after None false true false self.old }
+    {
+        self.has_modules = true;
+    }
+
+    /// Takes an `option allnoconfig_y` line.
+    pub(crate) fn take_yes_in_allnoconfig(&mut self)
+        ensures { self.new ≡ symbol_after None false false true self.old }
+    {
+        self.is_yes_in_allnoconfig = true;
+    }
+
+    /// The type.
+    pub fn kind(&self) -> SymbolType
+        ensures { result ≡ kind_of self.now }
+    {
+        self.kind.unwrap_or(SymbolType::Bool)
+    }
+
+    /// Whether a line gives it a type.
+    pub fn has_type(&self) -> bool
+        ensures { result ≡ is_some self.now.kind }
+    {
+        self.kind.is_some()
+    }
+
+    /// Whether a line gives it a type, and another line another one.
+    pub fn has_other_type(&self) -> bool
+        ensures { result ≡ self.now.has_other_type }
+    {
+        self.has_other_type
+    }
+
+    /// Whether it has `select` or `imply` lines of its own.
+    pub fn has_selections(&self) -> bool
+        ensures { result ≡ self.now.has_selections }
+    {
+        self.has_selections
+    }
+
+    /// Whether it has a `modules` line.
+    pub fn has_modules(&self) -> bool
+        ensures { result ≡ self.now.has_modules }
+    {
+        self.has_modules
+    }
+
+    /// The choice that it is a member of: the first in which a definition of it stands.
+    pub fn choice(&self) -> Option<ChoiceId>
+        ensures { result ≡ self.now.choice }
+    {
+        self.choice
+    }
+
+    /// The numbers of its definitions, in the order of their lines.
+    pub fn definitions(&self) -> &[usize]
+        ensures { result.now ≡ self.now.definitions }
+    {
+        self.definitions.as_slice()
+    }
+
+    /// The `select` lines that name it, in their order.
+    pub fn selected(&self) -> &[Reverse]
+        ensures { result.now ≡ self.now.selected }
+    {
+        self.selected.as_slice()
+    }
+
+    /// The `imply` lines that name it, in their order.
+    pub fn implied(&self) -> &[Reverse]
+        ensures { result.now ≡ self.now.implied }
+    {
+        self.implied.as_slice()
+    }
+
+    /// Whether a line `option allnoconfig_y` names it. No command uses it yet.
+    pub fn is_yes_in_allnoconfig(&self) -> bool
+        ensures { result ≡ self.now.is_yes_in_allnoconfig }
+    {
+        self.is_yes_in_allnoconfig
+    }
+}

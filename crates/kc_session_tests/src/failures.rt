@@ -1,0 +1,118 @@
+//! Whole streams, where each call fails in turn.
+use crate::failing::{FailingReader, FailingWriter, NEVER};
+use crate::serving::serve;
+use kc_session::IoFault;
+use kc_tables::{rows, two_fields};
+use std::alloc::Global;
+use std::test::Fail;
+
+/// A symbol, and one that depends on it.
+const TWO_BOOLS: &str = r#"
+config A
+    bool "a"
+    default y
+config B
+    bool "b"
+    depends on A
+"#;
+
+/// Commands with their replies.
+const COMMANDS: &str = r#"
+set A n\n | ok\n
+config\n | # CONFIG_A is not set\nok\n
+unset A\n | ok\n
+frob\n | refused 1\n
+"#;
+
+/// How many commands these are.
+const COUNT: usize = 4;
+
+/// The commands as a stream.
+fn all_commands(alloc: Global) -> Result<String, Fail> {
+    let mut stream = String::new(alloc);
+    for row in rows(alloc, COMMANDS)? {
+        let (command, _) = two_fields(alloc, row)?;
+        stream.push_str(command.as_str())?;
+    }
+    Ok(stream)
+}
+
+/// The replies to the first commands.
+fn first_replies(alloc: Global, count: usize) -> Result<String, Fail> {
+    let mut replies = String::new(alloc);
+    for row in rows(alloc, COMMANDS)?.iter().take(count) {
+        let (_, reply) = two_fields(alloc, row)?;
+        replies.push_str(reply.as_str())?;
+    }
+    Ok(replies)
+}
+
+/// How many line feeds stand in the first bytes of a text.
+fn lines_in(text: &str, count: usize) -> usize {
+    text.bytes().take(count).filter(|b| *b == b'\n').count()
+}
+
+#[test]
+fn a_failed_read_leaves_the_replies_to_whole_lines(rt: HostRuntime) -> Result<(), Fail> {
+    let stream = all_commands(rt.alloc())?;
+    for call in 0..stream.len() {
+        let reader = FailingReader::new(stream.as_bytes(), 1, call as u64);
+        let writer = FailingWriter::new(rt.alloc(), 7, NEVER, NEVER);
+        let served = serve(rt.alloc(), TWO_BOOLS, reader, writer, "")?;
+        let want = first_replies(rt.alloc(), lines_in(stream.as_str(), call))?;
+        assert_eq!(rt; served.result, Err(IoFault::Read), "at call {call}");
+        assert_eq!(rt; served.taken.as_slice(), want.as_bytes(), "at call {call}");
+    }
+    Ok(())
+}
+
+#[test]
+fn a_failed_write_leaves_a_beginning(rt: HostRuntime) -> Result<(), Fail> {
+    let stream = all_commands(rt.alloc())?;
+    let whole = first_replies(rt.alloc(), COUNT)?;
+    for call in 0..whole.len() {
+        let reader = FailingReader::new(stream.as_bytes(), 100, NEVER);
+        let writer = FailingWriter::new(rt.alloc(), 1, call as u64, NEVER);
+        let served = serve(rt.alloc(), TWO_BOOLS, reader, writer, "")?;
+        assert_eq!(rt; served.result, Err(IoFault::Write), "at call {call}");
+        assert_eq!(rt;
+            served.taken.as_slice(),
+            &whole.as_bytes()[..call],
+            "at call {call}"
+        );
+    }
+    Ok(())
+}
+
+#[test]
+fn a_failed_write_leaves_the_effect_of_its_command(rt: HostRuntime) -> Result<(), Fail> {
+    let stream = all_commands(rt.alloc())?;
+    // The byte that can't be written, and the user value of A that `show A` then has.
+    for (call, want) in [
+        (0, "user=n\nok\n"),
+        (24, "user=n\nok\n"),
+        (28, "user=-\nok\n"),
+        (30, "user=-\nok\n"),
+    ] {
+        let reader = FailingReader::new(stream.as_bytes(), 100, NEVER);
+        let writer = FailingWriter::new(rt.alloc(), 1, call, NEVER);
+        let served = serve(rt.alloc(), TWO_BOOLS, reader, writer, "show A\n")?;
+        let shown = served.replies_after.as_str();
+        assert!(rt; shown.ends_with(want), "at call {call}: {shown}");
+    }
+    Ok(())
+}
+
+#[test]
+fn a_failed_flush_leaves_whole_replies(rt: HostRuntime) -> Result<(), Fail> {
+    let stream = all_commands(rt.alloc())?;
+    for call in 0..COUNT {
+        let reader = FailingReader::new(stream.as_bytes(), 100, NEVER);
+        let writer = FailingWriter::new(rt.alloc(), 100, NEVER, call as u64);
+        let served = serve(rt.alloc(), TWO_BOOLS, reader, writer, "")?;
+        let want = first_replies(rt.alloc(), call + 1)?;
+        assert_eq!(rt; served.result, Err(IoFault::Write), "at call {call}");
+        assert_eq!(rt; served.taken.as_slice(), want.as_bytes(), "at call {call}");
+    }
+    Ok(())
+}

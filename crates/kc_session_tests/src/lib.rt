@@ -1,0 +1,20 @@
+//! The tests of kc_value, kc_files and kc_session, over their public calls alone, that no file of cases can hold: streams
+//! that fail at a given call, limits of a line, prefixes and resolvers.
+//!
+//! A crate with tests is proved twice, with them and without. As they stand here, each library is proved once.
+#![tactic(auto)]
+
+#[cfg(test)]
+mod failing;
+#[cfg(test)]
+mod failures;
+#[cfg(test)]
+mod lines;
+#[cfg(test)]
+mod prefixes;
+#[cfg(test)]
+mod replies;
+#[cfg(test)]
+mod serving;
+#[cfg(test)]
+mod values;

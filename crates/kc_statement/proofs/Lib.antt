@@ -1,0 +1,11 @@
+pub mod ConditionStart
+pub mod Examples
+pub mod FormulaLaws
+pub mod FrontLaws
+pub mod JoinLaws
+pub mod NamesLemmas
+pub mod NestingLaws
+pub mod NumeralLaws
+pub mod ReservedLaws
+pub mod ShapeLaws
+pub mod StatementLaws

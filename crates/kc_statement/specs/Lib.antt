@@ -1,0 +1,10 @@
+pub mod Forms
+pub mod Fronts
+pub mod Grammar
+pub mod Keywords
+pub mod Names
+pub mod Nesting
+pub mod NestingDepth
+pub mod Numerals
+pub mod Statements
+pub mod Tristate

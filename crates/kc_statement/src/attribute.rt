@@ -1,0 +1,30 @@
+//! The parts that attributes have: prompts, defaults and ranges, each with its condition.
+
+use crate::expr::{Expr, Term};
+use kc_text::Text;
+
+/// The prompt of a definition: `bool "text" if E`, or a `prompt` line (kconfig-language.rst, "Menu attributes").
+#[derive(Debug, Drop)]
+pub struct Prompt {
+    pub text: Text,
+    /// The condition after `if`.
+    pub condition: Option<Expr>,
+}
+
+/// A default: `default E if F`, or a `def_bool` line (kconfig-language.rst, "Menu attributes").
+#[derive(Debug, Drop)]
+pub struct DefaultValue {
+    /// The expression, in which m is a term like any other.
+    pub value: Expr,
+    /// The condition after `if`.
+    pub condition: Option<Expr>,
+}
+
+/// A range: `range LOW HIGH if E` (kconfig-language.rst, "Menu attributes").
+#[derive(Debug, Drop)]
+pub struct Range {
+    pub low: Term,
+    pub high: Term,
+    /// The condition after `if`.
+    pub condition: Option<Expr>,
+}

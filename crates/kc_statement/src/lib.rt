@@ -1,0 +1,37 @@
+//! One line of a Kconfig: its keyword, the names that it defines, and what it says.
+#![tactic(auto)]
+
+mod attribute;
+mod boxed_text;
+mod expr;
+mod expression;
+mod id;
+mod keyword;
+mod limits;
+mod lone_terms;
+mod name;
+mod names;
+mod nesting;
+mod numerals;
+mod statement;
+mod statement_forms;
+mod symbol_type;
+mod tri;
+mod word;
+
+pub use attribute::{DefaultValue, Prompt, Range};
+pub use boxed_text::BoxedText;
+pub use expr::{Comparison, Expr, ExprKind, Negations, Operands, Term};
+pub use id::SymId;
+pub use keyword::{Keyword, read_keyword};
+pub use limits::{MOST_NESTED, MOST_SYMBOLS};
+pub use lone_terms::{lone_term, term_alone};
+pub use name::{is_name, read_names};
+pub use names::Names;
+pub use nesting::nests_too_deep;
+pub use numerals::numeral;
+pub use statement::Statement;
+pub use statement_forms::read_statement;
+pub use symbol_type::SymbolType;
+pub use tri::Tri;
+pub use word::is_word;

@@ -1,0 +1,138 @@
+//! Texts that are numerals of a type.
+
+ghost use Rattle.std.specs.Prelude.{◌≡◌, ◌<◌, ◌-◌, ◌^◌, ◌&&◌, ◌||◌, [], ◌∷◌, None, Some, option_map, if◌then◌else◌, length, nat_le, take, drop, codes};
+ghost use Rattle.std.specs.Char.{is_ascii_digit, is_ascii_hexdigit};
+ghost use Rattle.std.specs.List.{list_all};
+ghost use Rattle.std.specs.Str.{bytes_eq};
+ghost use Rattle.kc_statement.specs.Numerals.{digits_up_to, hex_digits, int_numeral, hex_numeral, numeral_in};
+
+use crate::symbol_type::SymbolType;
+
+/// The greatest number behind a `-`.
+const MOST_BELOW_ZERO: u64 = 1 << 63;
+
+/// Whether each byte is a decimal digit.
+fn are_digits(bytes: &[u8]) -> bool
+    ensures { result ≡ list_all is_ascii_digit bytes.now }
+{
+    bytes.iter().all(|b| b.is_ascii_digit())
+}
+
+/// Whether each byte is a hex digit.
+fn are_hex_digits(bytes: &[u8]) -> bool
+    ensures { result ≡ list_all is_ascii_hexdigit bytes.now }
+{
+    bytes.iter().all(|b| b.is_ascii_hexdigit())
+}
+
+/// Whether a text is one or more decimal digits.
+fn is_decimal(text: &str) -> bool
+    ensures { result ≡ (list_all is_ascii_digit text.now && nat_le 1 (length text.now)) }
+{
+    are_digits(text.as_bytes()) && text.len() >= 1
+}
+
+/// Whether a text is one or more hex digits.
+fn is_hex(text: &str) -> bool
+    ensures { result ≡ (list_all is_ascii_hexdigit text.now && nat_le 1 (length text.now)) }
+{
+    are_hex_digits(text.as_bytes()) && text.len() >= 1
+}
+
+/// The number that one or more decimal digits spell, none past 64 bits.
+fn decimal(text: &str) -> Option<u64>
+    ensures { result ≡ digits_up_to (2 ^ 64 - 1) text.now }
+{
+    if !is_decimal(text) {
+        return None;
+    }
+    u64::from_str_radix(text, 10).ok()
+}
+
+/// The number that one or more decimal digits spell, up to a bound.
+fn digits_up_to(bound: u64, text: &str) -> Option<u64>
+    ensures { result ≡ digits_up_to bound text.now }
+{
+    let number = decimal(text)?;
+    if number > bound {
+        return None;
+    }
+    Some(number)
+}
+
+/// The number that one or more hex digits spell, none past 64 bits.
+fn hex_digits(text: &str) -> Option<u64>
+    ensures { result ≡ hex_digits text.now }
+{
+    if !is_hex(text) {
+        return None;
+    }
+    u64::from_str_radix(text, 16).ok()
+}
+
+/// What follows a `-`.
+fn after_minus(text: &str) -> Option<&str>
+    ensures { option_map (λ s. s.now) result
+        ≡ (if bytes_eq (take 1 text.now) (codes "-") then Some (drop 1 text.now) else None) }
+{
+    text.strip_prefix('-')
+}
+
+/// The number of a numeral of type int: decimal digits, perhaps behind a `-`, from -2^63 to 2^63 - 1.
+fn int_numeral(text: &str) -> Option<i128>
+    ensures { result ≡ int_numeral text.now }
+{
+    match after_minus(text) {
+        Some(digits) => {
+            let number = digits_up_to(MOST_BELOW_ZERO, digits)?;
+            Some(-i128::from(number))
+        }
+        None => {
+            let number = digits_up_to(MOST_BELOW_ZERO - 1, text)?;
+            Some(i128::from(number))
+        }
+    }
+}
+
+/// What follows a `0` and a letter.
+fn after_hex_sign(letter: char, text: &str) -> Option<&str>
+    requires { letter < 128 }
+    ensures { option_map (λ s. s.now) result
+        ≡ (if bytes_eq (take 2 text.now) (48 ∷ letter ∷ []) then Some (drop 2 text.now) else None) }
+{
+    text.strip_prefix('0')?.strip_prefix(letter)
+}
+
+/// A text without a `0x` or a `0X` in front.
+fn without_hex_sign(text: &str) -> &str
+    ensures { result.now ≡ (if bytes_eq (take 2 text.now) (codes "0x") || bytes_eq (take 2 text.now) (codes "0X")
+        then drop 2 text.now else text.now) }
+{
+    if let Some(digits) = after_hex_sign('x', text) {
+        return digits;
+    }
+    match after_hex_sign('X', text) {
+        Some(digits) => digits,
+        None => text,
+    }
+}
+
+/// The number of a numeral of type hex: hex digits up to 2^64 - 1, perhaps behind a `0x` or a `0X`.
+fn hex_numeral(text: &str) -> Option<i128>
+    ensures { result ≡ hex_numeral text.now }
+{
+    let number = hex_digits(without_hex_sign(text))?;
+    Some(i128::from(number))
+}
+
+/// The number of a text by the type of its symbol, int or hex: none where the text is no numeral of the type, and none
+/// for the other types (this project's own).
+pub fn numeral(kind: SymbolType, text: &str) -> Option<i128>
+    ensures { result ≡ numeral_in kind text.now }
+{
+    match kind {
+        SymbolType::Int => int_numeral(text),
+        SymbolType::Hex => hex_numeral(text),
+        SymbolType::Bool | SymbolType::Tristate | SymbolType::String => None,
+    }
+}

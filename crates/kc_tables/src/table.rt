@@ -1,0 +1,82 @@
+//! Tables of many rows, each in one text: a row a line, its fields parted by ` | `. An array of tuples would be proved
+//! field by field.
+//!
+//! In a field `\n`, `\r`, `\t`, `\0` and `\\` are what they are in Rust, and `\|` is a bar. Empty lines are no rows, and
+//! neither are those that begin with `//`: they say something of the rows below.
+use std::alloc::{AllocError, AllocFailed, Global};
+
+/// Why a row can't be cut into its fields.
+#[derive(Debug, Drop)]
+pub enum RowFault {
+    /// It has fewer fields than are wanted, or more.
+    FieldCount,
+    /// A backslash stands before a character that it means nothing with, or ends a field.
+    UnknownEscape,
+    /// Memory was refused.
+    NoMemory,
+}
+
+impl From<AllocError> for RowFault {
+    fn from(_refused: AllocError) -> RowFault {
+        RowFault::NoMemory
+    }
+}
+
+/// The rows of a table. The error is out of memory.
+pub fn rows<'a>(alloc: Global, table: &'a str) -> Result<Vec<&'a str>, AllocFailed<&'a str>> {
+    let mut rows = Vec::new(alloc);
+    for line in table.lines() {
+        if !line.is_empty() && !line.starts_with("//") {
+            rows.push(line)?;
+        }
+    }
+    Ok(rows)
+}
+
+/// The two fields of a row. The error is that the row has other fields, or out of memory.
+pub fn two_fields(alloc: Global, row: &str) -> Result<(String, String), RowFault> {
+    let (first, second) = row.split_once(" | ").ok_or(RowFault::FieldCount)?;
+    Ok((unescaped(alloc, first)?, unescaped(alloc, second)?))
+}
+
+/// The three fields of a row. The error is that the row has other fields, or out of memory.
+pub fn three_fields(alloc: Global, row: &str) -> Result<(String, String, String), RowFault> {
+    let (first, rest) = row.split_once(" | ").ok_or(RowFault::FieldCount)?;
+    let (second, third) = two_fields(alloc, rest)?;
+    Ok((unescaped(alloc, first)?, second, third))
+}
+
+/// The text that a field stands for.
+fn unescaped(alloc: Global, field: &str) -> Result<String, RowFault> {
+    if field.contains(" | ") {
+        return Err(RowFault::FieldCount);
+    }
+    let mut text = String::new(alloc);
+    let mut is_escape = false;
+    for character in field.chars() {
+        if is_escape {
+            text.push(escaped(character)?)?;
+            is_escape = false;
+        } else if character == '\\' {
+            is_escape = true;
+        } else {
+            text.push(character)?;
+        }
+    }
+    if is_escape {
+        return Err(RowFault::UnknownEscape);
+    }
+    Ok(text)
+}
+
+/// The character that a backslash and this one stand for.
+fn escaped(character: char) -> Result<char, RowFault> {
+    match character {
+        'n' => Ok('\n'),
+        'r' => Ok('\r'),
+        't' => Ok('\t'),
+        '0' => Ok('\0'),
+        '\\' | '|' => Ok(character),
+        _ => Err(RowFault::UnknownEscape),
+    }
+}

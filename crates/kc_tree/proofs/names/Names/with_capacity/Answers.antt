@@ -1,7 +1,0 @@
-use Rattle.std.proofs.Common.{map, ap}
-use Rattle.std.specs.String.{string_bytes}
-use Rattle.kc_tree.proofs.NamesLemmas.{none_distinct}
-use Rattle.kc_tree.proofs.names.Names.with_capacity.Goals as goal
-
-pub invariant_of-result : goal.invariant_of-result
-invariant_of-result c = rw (ap (map string_bytes) c.in_ok-with_capacity.ensures.empty) none_distinct

@@ -1,6 +1,0 @@
-use Rattle.std.proofs.Common.{◌≡◌, []}
-use Rattle.kc_tree.specs.TreeOf.{symbols_in}
-use Rattle.kc_tree.proofs.outline.new_symbols.Given as goal
-
-abbrev pub invariant-loop-number : goal.invariant-loop-number
-invariant-loop-number l = l.symbols.items ≡ symbols_in l._number []
