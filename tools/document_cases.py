@@ -496,7 +496,7 @@ LANGUAGE: dict[tuple[str, int], Entry] = {
         "NET type=bool value=n vis=y can=n,y user=-\nok\n",
         files={"drivers/net/Kconfig": 'config NET\n\tbool "Network"\n'},
     ),
-    ("What is handed in", 1): Without("a shell line"),
+    ("What is passed in", 1): Without("a shell line"),
     ("Sources", 1): Opened(
         "a path by a variable that is passed in",
         "show NET\n",
@@ -605,8 +605,8 @@ FAULTS: dict[tuple[str, int], Entry] = {
     ("K07: a block closed wrongly, or not at all", 1): Faults(
         tuple(f"Kconfig:{line}: K07" for line in (1, 3, 2, 1, 3))
     ),
-    ("K20: a form that is left out", 1): Faults(("Kconfig:2: K20", "Kconfig:3: K20", "Kconfig:1: K20")),
-    ("K20: a form that is left out", 2): RULES,
+    ("K20: a form that is unsupported", 1): Faults(("Kconfig:2: K20", "Kconfig:3: K20", "Kconfig:1: K20")),
+    ("K20: a form that is unsupported", 2): RULES,
 }
 
 FAULTS_OF_SYMBOLS: dict[tuple[str, int], Entry] = {

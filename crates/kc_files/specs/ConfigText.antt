@@ -135,6 +135,6 @@ joined [] = []
 joined (p ∷ []) = piece_bytes p
 joined (p ∷ q ∷ ps) = piece_bytes p ++ gap p q ++ joined (q ∷ ps)
 
--- the header as it was handed in, then the pieces of the entries
+-- the header as it was passed in, then the pieces of the entries
 abbrev pub config_text_of : TreeValue → List ℕ → List ℕ → Assignment → List ℕ
 config_text_of t prefix header a = header ++ joined (pieces_after t prefix a None t.entries)

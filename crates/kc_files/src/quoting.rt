@@ -41,7 +41,7 @@ fn push_escaped(out: &mut String, text: &str) -> Result<(), AllocError>
 
 /// Appends a text between quotes, with a backslash before each `"` and each backslash in it (`escape` of Kconfiglib).
 ///
-/// The error is want of memory.
+/// The error comes where memory is refused.
 pub fn push_quoted(out: &mut String, text: &str) -> Result<(), AllocError>
     ensures { OnOk result (string_bytes out.new ≡ string_bytes out.old ++ quoted text.now) }
 {
@@ -52,7 +52,7 @@ pub fn push_quoted(out: &mut String, text: &str) -> Result<(), AllocError>
 
 /// Appends the text of a value: a string in quotes, a number as it is spelt.
 ///
-/// The error is want of memory.
+/// The error comes where memory is refused.
 pub fn push_text_in(out: &mut String, kind: SymbolType, value: &str) -> Result<(), AllocError>
     ensures { OnOk result (string_bytes out.new ≡ string_bytes out.old ++ text_in kind value.now) }
 {

@@ -5,7 +5,7 @@ use Rattle.kc_text.specs.declared.line.LineKind.TheVariants.{Statement, EndOfFil
 use Rattle.kc_text.specs.declared.line.Token.{Token}
 use Rattle.kc_text.specs.declared.line.Token.TheVariants.{Word, Quoted}
 use Rattle.kc_outline.specs.declared.context.Owner.TheVariants.{Definition, Menu}
-use Rattle.kc_outline.specs.declared.fault.LineProblem.TheVariants.{LeftOut, StrayAttribute, UnbalancedBlock, UnknownStatement}
+use Rattle.kc_outline.specs.declared.fault.LineProblem.TheVariants.{Unsupported, StrayAttribute, UnbalancedBlock, UnknownStatement}
 use Rattle.kc_outline.specs.LineFaults.{early_problem}
 use Rattle.kc_outline.specs.Enclosing.{open_blocks, innermost, owner_at}
 
@@ -79,5 +79,5 @@ left_open = refl
 left_open_in_the_file_around : early_problem (menu_m ∷ []) false (end_of_file 1) ≡ None
 left_open_in_the_file_around = refl
 
-prompt_without_quotes : early_problem (config (codes "A") ∷ []) false (line 0 (word (codes "bool") ∷ word (codes "a") ∷ [])) ≡ Some LeftOut
+prompt_without_quotes : early_problem (config (codes "A") ∷ []) false (line 0 (word (codes "bool") ∷ word (codes "a") ∷ [])) ≡ Some Unsupported
 prompt_without_quotes = refl

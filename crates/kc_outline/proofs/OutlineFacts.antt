@@ -33,7 +33,7 @@ use Rattle.kc_outline.specs.FirstProblem.{IsReadFault}
 use Rattle.kc_outline.specs.LineFaults.{HasProblem}
 use Rattle.kc_statement.specs.Names.{names_of}
 use Rattle.kc_outline.specs.ContextAfter.{IsContextAfter}
-use Rattle.kc_outline.specs.Reader.{IsOutlineAfter, IsStop, IsToldFor}
+use Rattle.kc_outline.specs.Reader.{IsOutlineAfter, IsStop, IsReportedFor}
 use Rattle.kc_statement.specs.Statements.{HasFormOf, HasForm}
 use Rattle.kc_outline.specs.TreeOf.{Reading, AreReadingsBefore, tree_of, symbol_at, symbol_entry, menu_entry, choice_entry, comment_entry, definition_number, entry_at, with_entry, entries_before}
 use Rattle.kc_outline.specs.TreeValue.{TreeValue}
@@ -174,12 +174,12 @@ last_place n i within = elim (eqb_tells (i + 1) n) [
 ]
 
 -- the fault of the first line that is not taken
-pub first_fault : (lines : List LineValue) (i : ℕ) (l : LineValue) (names : List (List ℕ)) (t : TreeValue) (stop : Stop) (told : LineFault)
+pub first_fault : (lines : List LineValue) (i : ℕ) (l : LineValue) (names : List (List ℕ)) (t : TreeValue) (stop : Stop) (reported : LineFault)
     → slice_get lines i ≡ Some l → names ≡ names_of lines
     → IsOutlineAfter names (length lines - i) (reverse (take i lines)) t
     → IsStop names (reverse (take i lines)) (length lines - i - 1 == 0) l stop
-    → i < length lines → IsToldFor stop l told → IsReadFault lines told
-first_fault lines i l names t NoMemory told is same after stopped within tells = subst (IsReadFault lines) (sym tells) tt
+    → i < length lines → IsReportedFor stop l reported → IsReadFault lines reported
+first_fault lines i l names t NoMemory reported is same after stopped within tells = subst (IsReadFault lines) (sym tells) tt
 first_fault lines i l names t (Problem problem) (fault.At p path number) is same after stopped within tells =
     let last : (length lines - i - 1 == 0) ≡ (i + 1 == length lines) = last_place (length lines) i within in
     let here : HasProblem names (reverse (take i lines)) (i + 1 == length lines) l problem = subst (λ b. HasProblem names (reverse (take i lines)) b l problem) last stopped in (

@@ -376,7 +376,7 @@ module _ (names : List (List ℕ)) where
       made_itself (Some keyword.Option) e = tt
       made_itself (Some keyword.Optional) e = tt
       made_itself (Some keyword.Help) e = tt
-      made_itself (Some keyword.LeftOut) e = tt
+      made_itself (Some keyword.Unsupported) e = tt
 
       owner_more : (b : Bool) → IsMadeBy (rs ++ r ∷ []) (if b then owner_at names earlier else made_by names (keyword_of l) l earlier)
       owner_more true = made_more rs r (owner_at names earlier) counted.owner

@@ -4,7 +4,7 @@ use Rattle.std.specs.Prelude.{◌≡◌, ℕ, ◌+◌, ◌-◌, ◌==◌, List, 
 use Rattle.kc_text.specs.LineValue.{LineValue}
 use Rattle.kc_statement.specs.Names.{names_of}
 use Rattle.kc_outline.specs.declared.fault.LineProblem.{LineProblem}
-use Rattle.kc_outline.specs.declared.fault.LineProblem.TheVariants.{Limit, UnknownStatement, Malformed, StrayAttribute, UnbalancedBlock, LeftOut}
+use Rattle.kc_outline.specs.declared.fault.LineProblem.TheVariants.{Limit, UnknownStatement, Malformed, StrayAttribute, UnbalancedBlock, Unsupported}
 use Rattle.kc_outline.specs.declared.fault.LineFault.{LineFault}
 use Rattle.kc_outline.specs.declared.fault.LineFault.TheVariants.{At, NoMemory}
 use Rattle.kc_outline.specs.LineFaults.{HasProblem}
@@ -32,4 +32,4 @@ problem_number UnknownStatement = 4
 problem_number Malformed = 5
 problem_number StrayAttribute = 6
 problem_number UnbalancedBlock = 7
-problem_number LeftOut = 20
+problem_number Unsupported = 20

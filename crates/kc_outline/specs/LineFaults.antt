@@ -13,7 +13,7 @@ use Rattle.kc_outline.specs.declared.context.OpenBlock.{OpenBlock}
 use Rattle.kc_statement.specs.declared.statement.Statement.{Statement}
 use Rattle.kc_statement.specs.declared.statement.Statement.TheVariants.{Config, Default}
 use Rattle.kc_outline.specs.declared.fault.LineProblem.{LineProblem}
-use Rattle.kc_outline.specs.declared.fault.LineProblem.TheVariants.{Limit, UnknownStatement, Malformed, StrayAttribute, UnbalancedBlock, LeftOut}
+use Rattle.kc_outline.specs.declared.fault.LineProblem.TheVariants.{Limit, UnknownStatement, Malformed, StrayAttribute, UnbalancedBlock, Unsupported}
 use Rattle.kc_statement.specs.Keywords.{keyword_of, is_opener, is_attribute_word, is_closer_word, is_end_of, takes, wants_quotes, is_choice_word}
 use Rattle.kc_outline.specs.Enclosing.{open_blocks, choice_among, nearest_statement}
 use Rattle.kc_statement.specs.declared.expr.Term.{Term}
@@ -23,8 +23,9 @@ use Rattle.kc_statement.specs.Grammar.{term_alone}
 use Rattle.kc_statement.specs.Names.{is_name}
 use Rattle.kc_statement.specs.NestingDepth.{nests_too_deep}
 use Rattle.kc_statement.specs.Statements.{HasForm, HasNoForm}
+use Rattle.kc_outline.specs.declared.limits.TheConstants.{MOST_OPEN_BLOCKS}
 
--- ---- words that are left out
+-- ---- words that are unsupported
 abbrev pub is_unquoted : Token → Bool
 is_unquoted (Word w) = true
 is_unquoted (Expanded w) = true
@@ -55,17 +56,17 @@ abbrev pub has_tokens : List Token → Bool
 has_tokens [] = false
 has_tokens (t ∷ rest) = true
 
--- by the open blocks, the nearest statement, the keyword and the tokens after it: words that are left out, `option env` and
+-- by the open blocks, the nearest statement, the keyword and the tokens after it: words that are unsupported, `option env` and
 -- `option defconfig_list`, `depends on E if F`, a prompt without quotes, a choice with anything behind its word, a menu
 -- or a choice in a choice, a tristate choice
-abbrev pub is_left_out : List OpenBlock → Option Keyword → Keyword → List Token → Bool
-is_left_out blocks nearest keyword.LeftOut rest = true
-is_left_out blocks nearest keyword.Option rest = starts_with (is_fixed (codes "env")) rest || starts_with (is_fixed (codes "defconfig_list")) rest
-is_left_out blocks nearest keyword.Depends rest = has_condition rest
-is_left_out blocks nearest keyword.Choice rest = has_tokens rest || is_in_choice blocks
-is_left_out blocks nearest keyword.Menu rest = starts_with is_unquoted rest || is_in_choice blocks
-is_left_out blocks nearest keyword.Tristate rest = starts_with is_unquoted rest || is_of_choice nearest
-is_left_out blocks nearest k rest = wants_quotes k && starts_with is_unquoted rest
+abbrev pub is_unsupported : List OpenBlock → Option Keyword → Keyword → List Token → Bool
+is_unsupported blocks nearest keyword.Unsupported rest = true
+is_unsupported blocks nearest keyword.Option rest = starts_with (is_fixed (codes "env")) rest || starts_with (is_fixed (codes "defconfig_list")) rest
+is_unsupported blocks nearest keyword.Depends rest = has_condition rest
+is_unsupported blocks nearest keyword.Choice rest = has_tokens rest || is_in_choice blocks
+is_unsupported blocks nearest keyword.Menu rest = starts_with is_unquoted rest || is_in_choice blocks
+is_unsupported blocks nearest keyword.Tristate rest = starts_with is_unquoted rest || is_of_choice nearest
+is_unsupported blocks nearest k rest = wants_quotes k && starts_with is_unquoted rest
 
 -- ---- attributes and blocks
 -- an attribute whose nearest statement doesn't take it
@@ -94,7 +95,7 @@ block_problem earlier is_last k l =
 
 abbrev pub word_problem : List LineValue → Bool → Keyword → LineValue → Option LineProblem
 word_problem earlier is_last k l =
-    if is_left_out (open_blocks earlier) (nearest_statement earlier) k (drop 1 l.tokens) then Some LeftOut
+    if is_unsupported (open_blocks earlier) (nearest_statement earlier) k (drop 1 l.tokens) then Some Unsupported
     else (if is_stray (nearest_statement earlier) k then Some StrayAttribute
     else (if block_problem earlier is_last k l then Some UnbalancedBlock
     else (if nests_too_deep l.tokens then Some Limit else None)))
@@ -124,7 +125,7 @@ is_no_choice_default nearest (Default d) = is_of_choice nearest && not (is_name_
 is_no_choice_default nearest _ = false
 
 abbrev pub opens_too_deep : List OpenBlock → LineValue → Bool
-opens_too_deep blocks l = is_opener l && nat_le 64 (length blocks)
+opens_too_deep blocks l = is_opener l && nat_le MOST_OPEN_BLOCKS (length blocks)
 
 abbrev pub is_past_limit : Statement → Bool
 is_past_limit (Config None) = true

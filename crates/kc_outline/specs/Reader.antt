@@ -18,16 +18,16 @@ pub record IsOutlineAfter (names : List (List ℕ)) (following : ℕ) (earlier :
   pub tree : t ≡ tree_of names readings
   pub made : AreMade readings
 
--- a line is not taken for a problem that it has, or for want of memory
+-- a line is not taken for a problem that it has, or for lack of memory
 abbrev pub IsStop : List (List ℕ) → List LineValue → Bool → LineValue → Stop → Type 0
 IsStop names earlier is_last l (Problem problem) = HasProblem names earlier is_last l problem
 IsStop names earlier is_last l NoMemory = Unit {0}
 
 -- the fault tells the problem, with the line's path and number, if memory serves
-abbrev pub IsProblemTold : LineProblem → LineValue → LineFault → Type 0
-IsProblemTold problem l (fault.At told path number) = (told ≡ problem) × (path ≡ l.path) × (number ≡ l.number)
-IsProblemTold problem l fault.NoMemory = Unit {0}
+abbrev pub IsProblemReported : LineProblem → LineValue → LineFault → Type 0
+IsProblemReported problem l (fault.At reported path number) = (reported ≡ problem) × (path ≡ l.path) × (number ≡ l.number)
+IsProblemReported problem l fault.NoMemory = Unit {0}
 
-abbrev pub IsToldFor : Stop → LineValue → LineFault → Type 0
-IsToldFor (Problem problem) l told = IsProblemTold problem l told
-IsToldFor NoMemory l told = told ≡ fault.NoMemory
+abbrev pub IsReportedFor : Stop → LineValue → LineFault → Type 0
+IsReportedFor (Problem problem) l reported = IsProblemReported problem l reported
+IsReportedFor NoMemory l reported = reported ≡ fault.NoMemory

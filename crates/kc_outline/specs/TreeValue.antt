@@ -15,6 +15,7 @@ use Rattle.kc_statement.specs.declared.symbol_type.SymbolType.TheVariants.{Bool 
 use Rattle.kc_outline.specs.declared.symbol.Reverse.{Reverse}
 use Rattle.kc_outline.specs.declared.block.BlockKind.{BlockKind}
 use Rattle.kc_outline.specs.declared.entry.Entry.{Entry}
+use Rattle.kc_outline.specs.declared.limits.TheConstants.{MOST_OPEN_BLOCKS}
 
 -- one definition of a symbol: the innermost block around it, its own `depends on` lines, its first prompt and
 -- whether it has another, and its defaults and ranges, in the order of the lines
@@ -104,7 +105,7 @@ blocks_from blocks (suc n) (Some id) =
     option_map_or (λ b. b ∷ blocks_from blocks n b.parent) (slice_get blocks id.0) []
 
 abbrev pub blocks_around : TreeValue → Option BlockId → List BlockValue
-blocks_around t id = blocks_from t.blocks 64 id
+blocks_around t id = blocks_from t.blocks MOST_OPEN_BLOCKS id
 
 -- the choice that a symbol is a member of
 abbrev pub choice_of : TreeValue → SymId → Option ChoiceId

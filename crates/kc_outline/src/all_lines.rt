@@ -7,7 +7,8 @@ ghost use Rattle.kc_statement.specs.Keywords.{is_choice};
 ghost use Rattle.kc_outline.specs.TreeOf.{IsOutlineOf};
 ghost use Rattle.kc_outline.specs.ContextAfter.{HasRoom, IsContextAfter};
 ghost use Rattle.kc_outline.specs.FirstProblem.{IsReadFault};
-ghost use Rattle.kc_outline.specs.Reader.{IsOutlineAfter, IsStop, IsToldFor};
+ghost use Rattle.kc_outline.specs.Reader.{IsOutlineAfter, IsStop, IsReportedFor};
+ghost use Rattle.kc_statement.specs.declared.limits.TheConstants.{MOST_SYMBOLS};
 
 use crate::context::Context;
 use crate::fault::{LineFault, LineProblem};
@@ -18,7 +19,7 @@ use kc_statement::{Statement, read_keyword, read_names, read_statement};
 use kc_text::{Line, Text};
 use std::alloc::{AllocError, Global};
 
-/// Why a line was not taken.
+/// Why a line was not added.
 #[derive(Clone, Copy, Debug, PartialEq, Eq)]
 enum Stop {
     Problem(LineProblem),
@@ -36,8 +37,8 @@ impl From<AllocError> for Stop {
     }
 }
 
-/// Why a line of this statement is not taken. The statement is dropped here, since a function that may drop one makes
-/// room for all of its parts on each call, and most lines are taken.
+/// Why a line of this statement is not added. The statement is dropped here, since a function that may drop one makes
+/// room for all of its parts on each call, and most lines are added.
 fn refused(statement: Statement, stop: Stop) -> Stop
     ensures { result ≡ stop }
 {
@@ -53,7 +54,7 @@ fn read_line(
     line: &Line<'_>,
     following: usize,
 ) -> Result<(), Stop>
-    requires few { length outline.old.names ≤ 65535 }
+    requires few { length outline.old.names ≤ MOST_SYMBOLS }
     requires room { HasRoom context.old }
     ensures outline { OnOk result ((earlier : List LineValue)
         → IsOutlineAfter outline.old.names (following + 1) earlier outline.old → IsContextAfter outline.old.names earlier context.old
@@ -83,7 +84,7 @@ fn read_line(
     if passed.is_err() {
         return Err(refused(statement, Stop::NoMemory));
     }
-    outline.take(alloc, statement, block, choice, context.owner())?;
+    outline.add_line(alloc, statement, block, choice, context.owner())?;
     Ok(())
 }
 
@@ -94,9 +95,9 @@ fn are_too_many(lines: &[Line<'_>]) -> bool
     lines.len() > MOST_LINES
 }
 
-/// The fault of a line that was not taken, or that its path could not be copied.
+/// The fault of a line that was not added, or that its path could not be copied.
 fn line_fault(alloc: Global, stop: Stop, line: &Line<'_>) -> LineFault
-    ensures { IsToldFor stop line.now result }
+    ensures { IsReportedFor stop line.now result }
 {
     let Stop::Problem(problem) = stop else {
         return LineFault::NoMemory;
@@ -121,7 +122,7 @@ fn line_fault(alloc: Global, stop: Stop, line: &Line<'_>) -> LineFault
 /// - `LineFault::NoMemory` where memory was refused, and for more than 2^30 lines.
 pub fn read_outline(alloc: Global, lines: &[Line<'_>]) -> Result<Outline, LineFault>
     ensures outline { IfOk result (IsOutlineOf lines.now) }
-    ensures few { IfOk result (λ o. length o.symbols ≤ 65535) }
+    ensures few { IfOk result (λ o. length o.symbols ≤ MOST_SYMBOLS) }
     ensures few_choices { IfOk result (λ o. length o.choices ≤ 2 ^ 30) }
     ensures choices { IfOk result (λ o. length o.choices ≡ count_by is_choice lines.now) }
     ensures named { IfOk result (λ o. length o.names ≡ length o.symbols) }

@@ -58,15 +58,15 @@ impl Block {
         }
     }
 
-    /// Takes a `depends on` line of a menu or a choice.
-    pub(crate) fn take_depends(&mut self, on: Expr) -> Result<(), AllocError>
+    /// Adds a `depends on` line of a menu or a choice.
+    pub(crate) fn add_depends(&mut self, on: Expr) -> Result<(), AllocError>
         ensures { OnOk result (self.new ≡ block_after (Some on) None self.old) }
     {
         push_one(&mut self.depends, on)
     }
 
-    /// Takes a `visible if` line of a menu.
-    pub(crate) fn take_visible(&mut self, condition: Expr) -> Result<(), AllocError>
+    /// Adds a `visible if` line of a menu.
+    pub(crate) fn add_visible(&mut self, condition: Expr) -> Result<(), AllocError>
         ensures { OnOk result (self.new ≡ block_after None (Some condition) self.old) }
     {
         push_one(&mut self.visible, condition)
@@ -140,8 +140,8 @@ impl Comment {
         }
     }
 
-    /// Takes a `depends on` line.
-    pub(crate) fn take_depends(&mut self, on: Expr) -> Result<(), AllocError>
+    /// Adds a `depends on` line.
+    pub(crate) fn add_depends(&mut self, on: Expr) -> Result<(), AllocError>
         ensures { OnOk result (self.new ≡ comment_after (Some on) self.old) }
     {
         push_one(&mut self.depends, on)

@@ -73,8 +73,8 @@ impl Choice {
         }
     }
 
-    /// Takes a prompt: the first one stays.
-    pub(crate) fn take_prompt(&mut self, prompt: Prompt)
+    /// Adds a prompt: the first one stays.
+    pub(crate) fn add_prompt(&mut self, prompt: Prompt)
         ensures { self.new ≡ choice_after (Some prompt) None None false self.old }
     {
         if self.prompt.is_some() {
@@ -84,23 +84,23 @@ impl Choice {
         }
     }
 
-    /// Takes a default.
-    pub(crate) fn take_default(&mut self, default: ChoiceDefault) -> Result<(), AllocError>
+    /// Adds a default.
+    pub(crate) fn add_default(&mut self, default: ChoiceDefault) -> Result<(), AllocError>
         ensures { OnOk result (self.new ≡ choice_after None (Some default) None false self.old) }
     {
         push_one(&mut self.defaults, default)
     }
 
-    /// Takes a member.
-    pub(crate) fn take_member(&mut self, member: SymId) -> Result<(), AllocError>
+    /// Adds a member.
+    pub(crate) fn add_member(&mut self, member: SymId) -> Result<(), AllocError>
         ensures { OnOk result (self.new ≡ choice_after None None (Some member) false self.old) }
     {
         self.members.push(member)?;
         Ok(())
     }
 
-    /// Takes an `optional` line.
-    pub(crate) fn take_optional(&mut self)
+    /// Adds an `optional` line.
+    pub(crate) fn add_optional(&mut self)
         ensures { self.new ≡ choice_after None None None true self.old }
     {
         self.is_optional = true;

@@ -49,15 +49,15 @@ impl Definition {
         }
     }
 
-    /// Takes a `depends on` line.
-    pub(crate) fn take_depends(&mut self, on: Expr) -> Result<(), AllocError>
+    /// Adds a `depends on` line.
+    pub(crate) fn add_depends(&mut self, on: Expr) -> Result<(), AllocError>
         ensures { OnOk result (self.new ≡ definition_after (Some on) None None None self.old) }
     {
         push_one(&mut self.depends, on)
     }
 
-    /// Takes a prompt: the first one stays.
-    pub(crate) fn take_prompt(&mut self, prompt: Prompt)
+    /// Adds a prompt: the first one stays.
+    pub(crate) fn add_prompt(&mut self, prompt: Prompt)
         ensures { self.new ≡ definition_after None (Some prompt) None None self.old }
     {
         if self.prompt.is_some() {
@@ -67,15 +67,15 @@ impl Definition {
         }
     }
 
-    /// Takes a default.
-    pub(crate) fn take_default(&mut self, value: DefaultValue) -> Result<(), AllocError>
+    /// Adds a default.
+    pub(crate) fn add_default(&mut self, value: DefaultValue) -> Result<(), AllocError>
         ensures { OnOk result (self.new ≡ definition_after None None (Some value) None self.old) }
     {
         push_one(&mut self.defaults, value)
     }
 
-    /// Takes a range.
-    pub(crate) fn take_range(&mut self, range: Range) -> Result<(), AllocError>
+    /// Adds a range.
+    pub(crate) fn add_range(&mut self, range: Range) -> Result<(), AllocError>
         ensures { OnOk result (self.new ≡ definition_after None None None (Some range) self.old) }
     {
         push_one(&mut self.ranges, range)

@@ -20,7 +20,7 @@ pub enum LineProblem {
     /// A block closed wrongly, or not closed in its file (K07).
     UnbalancedBlock,
     /// A word or a form of Kconfig that is unsupported (K20).
-    LeftOut,
+    Unsupported,
 }
 
 impl LineProblem {
@@ -34,7 +34,7 @@ impl LineProblem {
             LineProblem::Malformed => 5,
             LineProblem::StrayAttribute => 6,
             LineProblem::UnbalancedBlock => 7,
-            LineProblem::LeftOut => 20,
+            LineProblem::Unsupported => 20,
         }
     }
 }

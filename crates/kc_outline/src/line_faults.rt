@@ -5,7 +5,7 @@ ghost use Rattle.std.specs.List.{list_any};
 ghost use Rattle.std.specs.Option.{option_copied};
 ghost use Rattle.kc_text.specs.LineValue.{LineValue};
 ghost use Rattle.kc_statement.specs.Keywords.{keyword_of};
-ghost use Rattle.kc_outline.specs.LineFaults.{block_problem, closes_wrongly, early_problem, end_problem, has_condition, is_fixed, is_in_choice, is_left_out, is_name_term, is_no_choice_default, is_of_choice, is_past_limit, is_stray, is_unquoted, late_problem, opens_too_deep, starts_with, word_problem};
+ghost use Rattle.kc_outline.specs.LineFaults.{block_problem, closes_wrongly, early_problem, end_problem, has_condition, is_fixed, is_in_choice, is_unsupported, is_name_term, is_no_choice_default, is_of_choice, is_past_limit, is_stray, is_unquoted, late_problem, opens_too_deep, starts_with, word_problem};
 ghost use Rattle.kc_outline.specs.Enclosing.{open_blocks, nearest_statement};
 
 use crate::context::{Context, OpenBlocks};
@@ -87,11 +87,11 @@ fn is_in_choice(context: &Context) -> bool
 }
 
 /// Whether a form is unsupported, by where it stands, its keyword and the tokens after that.
-fn is_left_out(context: &Context, keyword: Keyword, tokens: &[Token<'_>]) -> bool
-    ensures { result ≡ is_left_out context.now.stack context.now.statement keyword tokens.now }
+fn is_unsupported(context: &Context, keyword: Keyword, tokens: &[Token<'_>]) -> bool
+    ensures { result ≡ is_unsupported context.now.stack context.now.statement keyword tokens.now }
 {
     match keyword {
-        Keyword::LeftOut => true,
+        Keyword::Unsupported => true,
         Keyword::Choice => !tokens.is_empty() || is_in_choice(context),
         Keyword::Menu => starts_unquoted(tokens) || is_in_choice(context),
         Keyword::Tristate => starts_unquoted(tokens) || is_of_choice(context),
@@ -144,8 +144,8 @@ fn word_problem(
         → context.now.statement ≡ nearest_statement earlier
         → result ≡ word_problem earlier is_last keyword line.now }
 {
-    if is_left_out(context, keyword, after_first(line.tokens())) {
-        Some(LineProblem::LeftOut)
+    if is_unsupported(context, keyword, after_first(line.tokens())) {
+        Some(LineProblem::Unsupported)
     } else if is_stray(context, keyword) {
         Some(LineProblem::StrayAttribute)
     } else if block_problem(context, line, keyword, is_last) {

@@ -3,6 +3,7 @@
 ghost use Rattle.std.specs.Prelude.{◌≡◌, ◌≤◌, List, [], ◌∷◌, ◌++◌, length, IfOk, OnOk};
 ghost use Rattle.kc_outline.specs.TreeOf.{Reading, tree_of, symbols_in};
 ghost use Rattle.kc_outline.specs.Outline.{AreMade, IsNamedIn};
+ghost use Rattle.kc_statement.specs.declared.limits.TheConstants.{MOST_SYMBOLS};
 
 mod adding;
 
@@ -56,7 +57,7 @@ fn new_symbols(alloc: Global, count: usize) -> Result<Vec<Symbol>, AllocError>
 impl Outline {
     /// Of no lines, with a symbol for each name, and with room for a definition of each.
     pub(crate) fn new(alloc: Global, names: Names) -> Result<Outline, AllocError>
-        requires { length names ≤ 65535 }
+        requires { length names ≤ MOST_SYMBOLS }
         ensures { IfOk result (λ o. o ≡ tree_of names []) }
     {
         let count = names.len();
@@ -80,9 +81,9 @@ impl Outline {
         }
     }
 
-    /// Takes what a line says that stands in a block and a choice, and belongs to an owner. A `config` line names a
+    /// Adds what a line says that stands in a block and a choice, and belongs to an owner. A `config` line names a
     /// symbol that the outline has.
-    pub(crate) fn take(
+    pub(crate) fn add_line(
         &mut self,
         alloc: Global,
         statement: Statement,

@@ -66,8 +66,8 @@ impl Symbol {
         }
     }
 
-    /// Takes a type: the first one stays.
-    pub(crate) fn take_type(&mut self, kind: SymbolType)
+    /// Adds a type: the first one stays.
+    pub(crate) fn add_type(&mut self, kind: SymbolType)
         ensures { self.new ≡ symbol_after (Some kind) false false false self.old }
     {
         match self.kind {
@@ -76,51 +76,51 @@ impl Symbol {
         }
     }
 
-    /// Takes the choice that a definition stands in: the first one stays.
-    pub(crate) fn take_choice(&mut self, choice: Option<ChoiceId>)
+    /// Adds the choice that a definition stands in: the first one stays.
+    pub(crate) fn add_choice(&mut self, choice: Option<ChoiceId>)
         ensures { self.new ≡ standing_in choice self.old }
     {
         self.choice = self.choice.or(choice);
     }
 
-    /// Takes the number of a definition.
-    pub(crate) fn take_definition(&mut self, number: usize) -> Result<(), AllocError>
+    /// Adds the number of a definition.
+    pub(crate) fn add_definition(&mut self, number: usize) -> Result<(), AllocError>
         ensures { OnOk result (self.new ≡ with_definition number self.old) }
     {
         self.definitions.push(number)?;
         Ok(())
     }
 
-    /// Takes a `select` line that names it.
-    pub(crate) fn take_selection(&mut self, line: Reverse) -> Result<(), AllocError>
+    /// Adds a `select` line that names it.
+    pub(crate) fn add_selection(&mut self, line: Reverse) -> Result<(), AllocError>
         ensures { OnOk result (self.new ≡ with_selection line self.old) }
     {
         push_one(&mut self.selected, line)
     }
 
-    /// Takes an `imply` line that names it.
-    pub(crate) fn take_implication(&mut self, line: Reverse) -> Result<(), AllocError>
+    /// Adds an `imply` line that names it.
+    pub(crate) fn add_implication(&mut self, line: Reverse) -> Result<(), AllocError>
         ensures { OnOk result (self.new ≡ with_implication line self.old) }
     {
         push_one(&mut self.implied, line)
     }
 
-    /// Takes a `select` or an `imply` line of its own.
-    pub(crate) fn take_own_selection(&mut self)
+    /// Adds a `select` or an `imply` line of its own.
+    pub(crate) fn add_own_selection(&mut self)
         ensures { self.new ≡ symbol_after None true false false self.old }
     {
         self.has_selections = true;
     }
 
-    /// Takes a `modules` line.
-    pub(crate) fn take_modules(&mut self)
+    /// Adds a `modules` line.
+    pub(crate) fn add_modules(&mut self)
         ensures { self.new ≡ symbol_after None false true false self.old }
     {
         self.has_modules = true;
     }
 
-    /// Takes an `option allnoconfig_y` line.
-    pub(crate) fn take_yes_in_allnoconfig(&mut self)
+    /// Adds an `option allnoconfig_y` line.
+    pub(crate) fn add_yes_in_allnoconfig(&mut self)
         ensures { self.new ≡ symbol_after None false false true self.old }
     {
         self.is_yes_in_allnoconfig = true;

@@ -2,7 +2,7 @@
 use Rattle.std.proofs.Common.{◌≡◌, ℕ, false, List, [], ◌∷◌, ◌++◌, map, filter, refl, sym, ap, ◌∙◌, append_assoc, append-nil}
 use Rattle.std.proofs.lemmas.Bool.{cond-false, cond-true}
 use Rattle.kc_session.specs.Stream.{StreamCommand, has_feed, is_ended, lines_of, command_of_line, commands_of, is_complete, complete_commands_of}
-use Rattle.kc_session.specs.Reading.{IsEndedLine, IsLastLine}
+use Rattle.kc_session.specs.NextLine.{IsEndedLine, IsLastLine}
 use Rattle.kc_session.proofs.Lines.{is_ended-unended, IsLastLine-unended}
 
 -- The stream can be cut after `front`: it begins with the commands `done`, all complete, whatever follows.

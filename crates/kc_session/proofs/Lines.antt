@@ -5,7 +5,7 @@ use Rattle.std.proofs.lemmas.Bool.{or_parts, cases_Bool, both_ways, cond-false}
 use Rattle.std.proofs.lemmas.List.{length_push, get_or_push, length-take}
 use Rattle.std.proofs.lemmas.List.Folds.{list_any_at}
 use Rattle.kc_session.specs.Stream.{has_feed, is_ended, lines_of, text_of_line, ends_in, without_last, without_return, carriage_return}
-use Rattle.kc_session.specs.Reading.{IsEndedLine, IsLastLine}
+use Rattle.kc_session.specs.NextLine.{IsEndedLine, IsLastLine}
 
 -- a byte that is no line feed goes onto the first line of the rest
 lines_of-cons : (b : ℕ) (bs : List ℕ) → (b == 10) ≡ false → lines_of (b ∷ bs) ≡ onto_first b (lines_of bs)

@@ -6,7 +6,7 @@ use Rattle.std.specs.Result.{OnOk, OnErr, IfErr}
 use Rattle.kc_session.specs.declared.fault.IoFault.{IoFault}
 use Rattle.kc_session.specs.declared.fault.IoFault.TheVariants.{Write}
 use Rattle.kc_session.specs.Held.{HeldLine, text_held}
-use Rattle.kc_session.specs.Reading.{IsEndedLine, IsLastLine, TakesEndedLine, TakesLastLine, TakesNothing, StopsInLine}
+use Rattle.kc_session.specs.NextLine.{IsEndedLine, IsLastLine, TakesEndedLine, TakesLastLine, TakesNothing, StopsInLine}
 use Rattle.kc_session.specs.Serving.{Answers, AnswersLine, StopsInReply, ServesAll, StopsReading, StopsWriting, Serves}
 use Rattle.kc_session.specs.Session.{SessionValue}
 use Rattle.kc_session.specs.Stream.{StreamCommand, command_of_line, commands_of}

@@ -4,7 +4,7 @@ use Rattle.std.specs.Io.KnownBytes.{Consumes, IsAtEnd}
 use Rattle.std.proofs.KnownBytes.{Consumes-trans}
 use Rattle.kc_session.specs.Stream.{has_feed}
 use Rattle.kc_session.specs.Held.{HeldLine, held_of, text_held}
-use Rattle.kc_session.specs.Reading.{IsEndedLine, TakesEndedLine, TakesLastLine, TakesNothing}
+use Rattle.kc_session.specs.NextLine.{IsEndedLine, TakesEndedLine, TakesLastLine, TakesNothing}
 use Rattle.kc_session.proofs.Lines.{IsEndedLine-push, IsLastLine-unended}
 use Rattle.kc_session.proofs.Holding.{held_of-empty, held_of-short, text_held-held_of}
 

@@ -5,7 +5,7 @@ pub mod Input
 pub mod LineReply
 pub mod Opened
 pub mod Output
-pub mod Reading
+pub mod NextLine
 pub mod Replies
 pub mod Serving
 pub mod Session

@@ -5,7 +5,7 @@ ghost use Rattle.kc_session.specs.Serving.{Serves, ServesAll, StopsReading, Stop
 use crate::fault::IoFault;
 use crate::input::Input;
 use crate::line::LineBuffer;
-use crate::reading::{LineRead, read_line};
+use crate::next_line::{LineRead, read_line};
 use crate::replies::answer_line;
 use crate::session::Session;
 use std::alloc::Global;

@@ -56,7 +56,7 @@ impl Session {
     ///
     /// # Errors
     ///
-    /// Where memory was refused, with the tree and the prefix that were handed in.
+    /// Where memory was refused, with the tree and the prefix that were passed in.
     pub fn new(
         alloc: Global,
         tree: Tree,

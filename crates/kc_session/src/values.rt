@@ -50,7 +50,7 @@ fn tristate_of(text: &str) -> Option<Tri>
 
 /// The value that a text spells for a symbol of this type: for a string, an int or a hex a copy of the text.
 ///
-/// The error is want of memory for that copy.
+/// The error comes where memory is refused for that copy.
 pub(crate) fn value_of(
     alloc: Global,
     kind: SymbolType,

@@ -239,7 +239,7 @@ alone_form names keyword.Visible tokens s e none = no_statement s e
 alone_form names keyword.Select tokens s e none = no_statement s e
 alone_form names keyword.Imply tokens s e none = no_statement s e
 alone_form names keyword.Option tokens s e none = no_statement s e
-alone_form names keyword.LeftOut tokens s e none = no_statement s e
+alone_form names keyword.Unsupported tokens s e none = no_statement s e
 
 nothing_behind : (names : List (List ℕ)) (k : Keyword) (tokens : List Token) (s : Statement) → alone_statement k ≡ Some s → SaidBehind names k tokens → tokens ≡ []
 unfolding SaidBehind
@@ -271,7 +271,7 @@ nothing_behind names keyword.Visible tokens s e h = no_statement s e
 nothing_behind names keyword.Select tokens s e h = no_statement s e
 nothing_behind names keyword.Imply tokens s e h = no_statement s e
 nothing_behind names keyword.Option tokens s e h = no_statement s e
-nothing_behind names keyword.LeftOut tokens s e h = no_statement s e
+nothing_behind names keyword.Unsupported tokens s e h = no_statement s e
 
 pub not_alone : (names : List (List ℕ)) (k : Keyword) (tokens : List Token) (s : Statement) → alone_statement k ≡ Some s → (length tokens == 0) ≡ false → (x : Statement) → HasFormAfter names k tokens x → ⊥
 not_alone names k tokens s e some x h = some_token tokens some (nothing_behind names k tokens s e (said names k tokens x h))

@@ -14,9 +14,9 @@ abbrev pub is_one_of : List ℕ → List (List ℕ) → Bool
 is_one_of w [] = false
 is_one_of w (x ∷ xs) = bytes_eq w x || is_one_of w xs
 
--- the words of Kconfig that are left out
-abbrev pub is_left_out : List ℕ → Bool
-is_left_out w = is_one_of w (codes "rsource" ∷ codes "osource" ∷ codes "orsource" ∷ codes "def_int" ∷ codes "def_hex" ∷ codes "def_string" ∷ [])
+-- the words of Kconfig that are unsupported
+abbrev pub is_unsupported : List ℕ → Bool
+is_unsupported w = is_one_of w (codes "rsource" ∷ codes "osource" ∷ codes "orsource" ∷ codes "def_int" ∷ codes "def_hex" ∷ codes "def_string" ∷ [])
 
 abbrev pub keyword_named : List ℕ → Option Keyword
 keyword_named w =
@@ -48,7 +48,7 @@ keyword_named w =
     else (if bytes_eq w (codes "choice") then Some keyword.Choice
     else (if bytes_eq w (codes "endchoice") then Some keyword.EndChoice
     else (if bytes_eq w (codes "optional") then Some keyword.Optional
-    else (if is_left_out w then Some keyword.LeftOut
+    else (if is_unsupported w then Some keyword.Unsupported
     else None))))))))))))))))))))))))))))
 
 -- an unquoted word without reference
@@ -117,7 +117,7 @@ abbrev pub is_optional_word : Keyword → Bool
 is_optional_word keyword.Optional = true
 is_optional_word _ = false
 
--- of a choice; `tristate` is one too, which is left out
+-- of a choice; `tristate` is one too, which is unsupported
 abbrev pub is_choice_attribute : Keyword → Bool
 is_choice_attribute keyword.Bool = true
 is_choice_attribute keyword.Prompt = true

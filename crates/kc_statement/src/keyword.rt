@@ -40,8 +40,8 @@ pub enum Keyword {
     Optional,
     /// `help` and `---help---`
     Help,
-    /// A word of Kconfig that is left out.
-    LeftOut,
+    /// A word of Kconfig that is unsupported.
+    Unsupported,
 }
 
 /// The keyword that a word is. Its length comes first, which leaves few words to compare it with; of these the frequent
@@ -142,7 +142,7 @@ fn named_by_seven(word: &str) -> Option<Keyword>
         "comment" => Some(Keyword::Comment),
         "visible" => Some(Keyword::Visible),
         "modules" => Some(Keyword::Modules),
-        "rsource" | "osource" | "def_int" | "def_hex" => Some(Keyword::LeftOut),
+        "rsource" | "osource" | "def_int" | "def_hex" => Some(Keyword::Unsupported),
         _ => None,
     }
 }
@@ -157,7 +157,7 @@ fn named_by_eight(word: &str) -> Option<Keyword>
         "def_bool" => Some(Keyword::DefBool),
         "mainmenu" => Some(Keyword::MainMenu),
         "optional" => Some(Keyword::Optional),
-        "orsource" => Some(Keyword::LeftOut),
+        "orsource" => Some(Keyword::Unsupported),
         _ => None,
     }
 }
@@ -181,7 +181,7 @@ fn named_by_ten(word: &str) -> Option<Keyword>
     match word {
         "menuconfig" => Some(Keyword::Config),
         "---help---" => Some(Keyword::Help),
-        "def_string" => Some(Keyword::LeftOut),
+        "def_string" => Some(Keyword::Unsupported),
         _ => None,
     }
 }
@@ -281,7 +281,7 @@ impl Keyword {
             | Keyword::Comment
             | Keyword::MainMenu
             | Keyword::Source
-            | Keyword::LeftOut => false,
+            | Keyword::Unsupported => false,
         }
     }
 

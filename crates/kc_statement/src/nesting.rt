@@ -21,7 +21,7 @@ struct Depth {
 
 impl Depth {
     /// Goes past a token.
-    fn take(&mut self, token: &Token<'_>)
+    fn count_token(&mut self, token: &Token<'_>)
         requires opened { self.old.opened + 1 < 2 ^ 64 }
         requires closed { self.old.closed + 1 < 2 ^ 64 }
         requires nots { self.old.nots + 1 < 2 ^ 64 }
@@ -64,7 +64,7 @@ pub fn nests_too_deep(tokens: &[Token<'_>]) -> bool
         nots: 0,
     };
     for token in tokens {
-        depth.take(token);
+        depth.count_token(token);
         if depth.is_too_deep() {
             return true;
         }

@@ -109,7 +109,7 @@ fn read_form(
         Keyword::Select => read_select(alloc, names, tokens),
         Keyword::Imply => read_imply(alloc, names, tokens),
         Keyword::Option => read_option(tokens),
-        Keyword::Source | Keyword::LeftOut => Ok(None),
+        Keyword::Source | Keyword::Unsupported => Ok(None),
     }
 }
 

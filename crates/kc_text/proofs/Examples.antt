@@ -11,7 +11,7 @@ use Rattle.kc_text.specs.FileList.{File}
 use Rattle.kc_text.specs.LineValue.{LineValue}
 use Rattle.kc_text.specs.Reading.{logical_lines_of}
 
--- the lines of a file K among files, with nothing handed in
+-- the lines of a file K among files, with nothing passed in
 abbrev read : List File → Result (List LineValue) TextFault
 read files = logical_lines_of files (λ _. None) (codes "K")
 

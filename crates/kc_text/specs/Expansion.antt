@@ -13,7 +13,7 @@ use Rattle.kc_text.specs.References.{Piece, byte, reference, malformed, value_pi
 abbrev pub Names : Type 0
 Names = List ℕ → Option Value
 
--- the texts of the names that are handed in
+-- the texts of the names that are passed in
 abbrev pub Environment : Type 0
 Environment = List ℕ → Option (List ℕ)
 
@@ -24,7 +24,7 @@ names_in entries = λ name. lookup (bytes_eq name) entries
 abbrev pub texts_in : List (List ℕ × List ℕ) → Environment
 texts_in entries = λ name. lookup (bytes_eq name) entries
 
--- what a name stands for: its definition; else the text that was handed in, as it is; else the empty text
+-- what a name stands for: its definition; else the text that was passed in, as it is; else the empty text
 abbrev pub meaning : Names → Environment → List ℕ → Value
 meaning names outside name = elim (names name) [ Some value ↦ value | None ↦ Simple (unwrap_or (outside name) []) ]
 

@@ -1,4 +1,4 @@
--- The files that are handed in, by their paths: this project's own rules.
+-- The files that are passed in, by their paths: this project's own rules.
 use Rattle.std.specs.Prelude.{ℕ, ◌+◌, List, length, if◌then◌else◌, Bool, ◌&&◌, nat_le, Option, Result, Ok, Err, is_some}
 use Rattle.std.specs.List.{sum_by}
 use Rattle.std.specs.Str.{bytes_eq}

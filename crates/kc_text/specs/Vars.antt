@@ -1,4 +1,4 @@
--- The variables that are handed in, as pairs of a name and a text: this project's own rules.
+-- The variables that are passed in, as pairs of a name and a text: this project's own rules.
 use Rattle.std.specs.Prelude.{ℕ, Bool, List, length, Option, Some, None, Result, Ok, Err, if◌then◌else◌, nat_lt, ◌==◌, ◌||◌, reverse, filter_map, slice_get, option_map}
 use Rattle.std.specs.List.{list_any}
 use Rattle.kc_text.specs.declared.fault.TextProblem.{TextProblem}

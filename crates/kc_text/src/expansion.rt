@@ -28,7 +28,7 @@ pub(crate) struct Scope<'a> {
     pub(crate) alloc: Global,
     /// What lines have defined so far.
     pub(crate) variables: &'a Variables,
-    /// What was handed in.
+    /// What was passed in.
     pub(crate) outside: &'a Vars,
 }
 

@@ -76,7 +76,7 @@ fn blank_lines_at_end(lines: &[&str]) -> usize
 }
 
 /// Puts a line behind a help text of an indentation: its own indentation is spelt in spaces, and blanks at its end
-/// are left out.
+/// are dropped.
 fn push_help_line(out: &mut String, column: u128, line: &str) -> Result<(), AllocError>
     ensures { OnOk result (string_bytes out.new ≡ string_bytes out.old ++ help_line column line.now) }
 {

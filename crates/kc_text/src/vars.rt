@@ -1,4 +1,4 @@
-//! The variables that are handed in.
+//! The variables that are passed in.
 
 ghost use Rattle.std.specs.Prelude.{◌≡◌, [], None, Some, map, MatchOption};
 ghost use Rattle.kc_text.specs.Faults.{GivesBy};
@@ -13,7 +13,7 @@ use std::marker::Model;
 /// The most bytes of a variable's text.
 const MAX_TEXT_BYTES: usize = 65_536;
 
-/// The texts of variables that are handed in, by their names. Contracts see the list of the names in
+/// The texts of variables that are passed in, by their names. Contracts see the list of the names in
 /// the order of their bytes, each with its text.
 #[derive(Drop)]
 pub struct Vars {

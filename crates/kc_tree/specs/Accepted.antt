@@ -6,11 +6,12 @@ use Rattle.kc_outline.specs.Entries.{IsEntryOf}
 use Rattle.kc_tree.specs.Nodes.{IsNodeOf, node_count, number_of}
 use Rattle.kc_tree.specs.Uses.{Uses}
 use Rattle.kc_tree.specs.Order.{IsOrder}
+use Rattle.kc_statement.specs.declared.limits.TheConstants.{MOST_SYMBOLS}
 
 -- symbols and choices, no more than their nodes have numbers for, each symbol with a name; the uses of a node are nodes; the nodes have an order; each entry of a
 -- symbol names one
 pub record IsAccepted (t : TreeValue) : Type 0 where
-  pub few : length t.symbols ≤ 65535
+  pub few : length t.symbols ≤ MOST_SYMBOLS
   pub few_choices : length t.choices ≤ 2 ^ 30
   pub named : length t.names ≡ length t.symbols
   pub within : (n m : Node) → IsNodeOf t n → Uses t n m → IsNodeOf t m

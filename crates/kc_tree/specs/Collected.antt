@@ -9,6 +9,7 @@ use Rattle.kc_tree.specs.declared.node.Node.TheVariants.{Vis, Val, Mode, Sel}
 use Rattle.kc_outline.specs.TreeValue.{TreeValue, BlockValue, blocks_around}
 use Rattle.kc_tree.specs.Nodes.{number_in}
 use Rattle.kc_tree.specs.Uses.{symbol_nodes, conditions_nodes, own_condition_nodes, dependency_nodes, depends_nodes, visible_nodes, default_nodes, range_nodes, used_nodes}
+use Rattle.kc_outline.specs.declared.limits.TheConstants.{MOST_OPEN_BLOCKS}
 
 -- a number is in the row
 abbrev pub has_number : List ℕ → ℕ → Bool
@@ -61,7 +62,7 @@ block_numbers blocks (suc n) (Some id) =
 
 -- those around a definition, by the number of the definition
 abbrev pub block_numbers_at : TreeValue → ℕ → List ℕ
-block_numbers_at t j = option_map_or (λ d. block_numbers t.blocks 64 d.block) (slice_get t.definitions j) []
+block_numbers_at t j = option_map_or (λ d. block_numbers t.blocks MOST_OPEN_BLOCKS d.block) (slice_get t.definitions j) []
 
 -- the number of the innermost of these
 abbrev pub innermost_at : TreeValue → ℕ → List ℕ

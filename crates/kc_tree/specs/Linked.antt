@@ -15,7 +15,7 @@ use Rattle.kc_tree.specs.Faults.{IsNamedLoop}
 abbrev pub named_node : TreeValue → ℕ → NamedNode
 named_node t k = record { node = node_at t k; name = node_name t (node_at t k) }
 
--- a loop with names, or want of memory
+-- a loop with names, or out of memory
 abbrev pub IsLinkFault : TreeValue → TreeFault → Type 0
 IsLinkFault t (Line problem path number) = ⊥
 IsLinkFault t (Symbol problem name) = ⊥

@@ -1,4 +1,4 @@
--- What is wrong with a symbol: this project's own list, in its order, after kconfig-language.rst. Each is looked for
+-- What is wrong with a symbol: this project's own list, in its order, after kconfig-language.rst. Each is sought
 -- among all symbols by number before the next.
 use Rattle.std.specs.Prelude.{ℕ, ◌==◌, Bool, true, false, not, ◌&&◌, ◌||◌, List, [], ◌∷◌, Option, is_some, option_map, if◌then◌else◌, length, find, slice_get, codes}
 use Rattle.std.specs.Option.{option_map_or, option_or}

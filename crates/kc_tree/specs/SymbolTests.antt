@@ -1,4 +1,4 @@
--- Which test tells a problem of a symbol: this project's own.
+-- Which test finds a problem of a symbol: this project's own.
 use Rattle.std.specs.Prelude.{◌≡◌, ℕ, ◌<◌, Bool, false, ◌||◌, length, slice_get}
 use Rattle.std.specs.Option.{option_map_or}
 use Rattle.kc_statement.specs.declared.id.SymId.{SymId}

@@ -93,7 +93,9 @@ fn has_foreign_default(outline: &Outline, choice: ChoiceId, defaults: &[ChoiceDe
 fn has_other_type(outline: &Outline, members: &[SymId]) -> bool
     ensures { result ≡ list_any (symbol_has outline.now is_of_other_type) members.now }
 {
-    members.iter().any(|member| is_of_other_type(outline, *member))
+    members
+        .iter()
+        .any(|member| is_of_other_type(outline, *member))
 }
 
 /// Whether one of some members has no prompt.
@@ -107,7 +109,9 @@ fn has_no_prompt(outline: &Outline, members: &[SymId]) -> bool
 fn has_other_definition(outline: &Outline, members: &[SymId]) -> bool
     ensures { result ≡ list_any (symbol_has outline.now is_defined_again) members.now }
 {
-    members.iter().any(|member| is_defined_again(outline, *member))
+    members
+        .iter()
+        .any(|member| is_defined_again(outline, *member))
 }
 
 /// The first problem of the members of a choice, where each is sought among all members before the next.

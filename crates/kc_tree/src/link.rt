@@ -12,6 +12,7 @@ ghost use Rattle.kc_outline.specs.Entries.{IsEntryOf};
 ghost use Rattle.kc_tree.specs.OutlineFaults.{outline_fault};
 ghost use Rattle.kc_tree.specs.Faults.{IsLoopless, IsTreeProblem};
 ghost use Rattle.kc_tree.specs.Linked.{named_node, IsLinkFault, IsReported};
+ghost use Rattle.kc_statement.specs.declared.limits.TheConstants.{MOST_SYMBOLS};
 
 use crate::fault::{ChoiceProblem, NamedNode, TreeFault};
 use crate::node::Node;
@@ -54,7 +55,7 @@ fn named_nodes(
     outline: &Outline,
     numbers: &[u32],
 ) -> Result<Vec<NamedNode>, AllocError>
-    requires { length outline.now.symbols ≤ 65535 }
+    requires { length outline.now.symbols ≤ MOST_SYMBOLS }
     ensures { IfOk result (λ nodes. nodes.items ≡ map (named_node outline.now) numbers.now) }
 {
     let mut nodes = Vec::with_capacity(alloc, numbers.len())?;
@@ -70,7 +71,7 @@ fn named_nodes(
 ///
 /// It fails where nodes form a loop, with the nodes of one, and where memory is refused.
 fn node_order(alloc: Global, outline: &Outline, graph: &Graph<'_>) -> Result<Vec<Node>, TreeFault>
-    requires few { length outline.now.symbols ≤ 65535 }
+    requires few { length outline.now.symbols ≤ MOST_SYMBOLS }
     requires graph { IsGraphOf outline.now graph.now }
     ensures order { IfOk result (λ order. IsOrder outline.now order.items) }
     ensures loopless { OnOk result (IsLoopless outline.now) }
@@ -136,7 +137,7 @@ fn reported_choice(
 
 /// The first fault of a symbol or a choice, reported with its name or its line.
 fn check_outline(alloc: Global, lines: &[Line<'_>], outline: &Outline) -> Result<(), TreeFault>
-    requires few { length outline.now.symbols ≤ 65535 }
+    requires few { length outline.now.symbols ≤ MOST_SYMBOLS }
     requires few_choices { length outline.now.choices ≤ 2 ^ 30 }
     requires choices { length outline.now.choices ≡ count_by is_choice lines.now }
     ensures faultless { OnOk result (outline_fault outline.now ≡ None) }
@@ -159,7 +160,7 @@ fn check_outline(alloc: Global, lines: &[Line<'_>], outline: &Outline) -> Result
 /// It fails with the first fault of a symbol or a choice; else where nodes form a loop, with the nodes of one and their
 /// names; and where memory is refused.
 pub(crate) fn link(alloc: Global, lines: &[Line<'_>], outline: Outline) -> Result<Tree, TreeFault>
-    requires few { length outline.symbols ≤ 65535 }
+    requires few { length outline.symbols ≤ MOST_SYMBOLS }
     requires few_choices { length outline.choices ≤ 2 ^ 30 }
     requires choices { length outline.choices ≡ count_by is_choice lines.now }
     requires named { length outline.names ≡ length outline.symbols }

@@ -1,5 +1,6 @@
 ghost use Rattle.std.specs.Prelude.{◌≡◌, ◌<◌, ◌≤◌, ◌*◌, ◌+◌, ◌^◌};
 ghost use Rattle.kc_tree.specs.Nodes.{number_in, node_in, symbol_node, choice_node};
+ghost use Rattle.kc_statement.specs.declared.limits.TheConstants.{MOST_SYMBOLS};
 
 use kc_outline::ChoiceId;
 use kc_statement::SymId;
@@ -21,7 +22,7 @@ impl Node {
     /// The number of the node in a tree of so many symbols: twice that of its symbol for the visibility, and one more
     /// for the value. Those of the choices follow, in the same way.
     pub(crate) fn number_in(self, symbols: usize) -> usize
-        requires { symbols ≤ 65535 }
+        requires { symbols ≤ MOST_SYMBOLS }
         ensures { result ≡ number_in symbols self }
     {
         let place = match self {
@@ -37,7 +38,7 @@ impl Node {
 
     /// The same in 32 bits.
     pub(crate) fn index_in(self, symbols: usize) -> u32
-        requires few { symbols ≤ 65535 }
+        requires few { symbols ≤ MOST_SYMBOLS }
         requires small { number_in symbols self < 2 ^ 32 }
         ensures { result ≡ number_in symbols self }
     {
@@ -72,7 +73,7 @@ impl Node {
 
     /// The node of a number in a tree of so many symbols.
     pub(crate) fn in_tree(symbols: usize, number: usize) -> Node
-        requires few { symbols ≤ 65535 }
+        requires few { symbols ≤ MOST_SYMBOLS }
         requires number { number < 2 ^ 32 }
         ensures { result ≡ node_in symbols number }
     {

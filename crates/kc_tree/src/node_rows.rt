@@ -2,6 +2,7 @@
 
 ghost use Rattle.std.specs.Prelude.{◌≡◌, ◌≤◌, [], IfOk, map, slice_index_or};
 ghost use Rattle.kc_tree.specs.Nodes.{node_in};
+ghost use Rattle.kc_statement.specs.declared.limits.TheConstants.{MOST_SYMBOLS};
 
 use crate::node::Node;
 use kc_graph::{Rows, Span};
@@ -33,7 +34,7 @@ pub(crate) fn nodes_of(
     symbols: usize,
     numbers: &[u32],
 ) -> Result<Vec<Node>, AllocError>
-    requires { symbols ≤ 65535 }
+    requires { symbols ≤ MOST_SYMBOLS }
     ensures { IfOk result (λ nodes. nodes.items ≡ map (node_in symbols) numbers.now) }
 {
     numbers
@@ -45,7 +46,7 @@ pub(crate) fn nodes_of(
 impl NodeRows {
     /// The nodes of rows of numbers, in a tree of so many symbols.
     pub(crate) fn of(alloc: Global, symbols: usize, rows: Rows) -> Result<NodeRows, AllocError>
-        requires { symbols ≤ 65535 }
+        requires { symbols ≤ MOST_SYMBOLS }
         ensures { IfOk result (λ r. r ≡ map (map (node_in symbols)) rows) }
     {
         let (spans, numbers) = rows.into_parts();

@@ -21,12 +21,13 @@ impl Model for Nodes {
     ghost use Rattle.std.specs.List.{range_with_len};
     ghost use Rattle.kc_tree.specs.declared.node.Node.{Node};
     ghost use Rattle.kc_tree.specs.Nodes.{node_in};
+    ghost use Rattle.kc_statement.specs.declared.limits.TheConstants.{MOST_SYMBOLS};
 
     ghost Value = { List Node };
 
     ghost view = { λ a. map (node_in a.symbols) (range_with_len a.next (a.end - a.next)) };
 
-    ghost invariant = { λ a. (a.end ≤ 2 ^ 32) × (a.symbols ≤ 65535) };
+    ghost invariant = { λ a. (a.end ≤ 2 ^ 32) × (a.symbols ≤ MOST_SYMBOLS) };
 }
 
 impl Nodes {

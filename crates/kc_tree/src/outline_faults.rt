@@ -2,6 +2,7 @@
 
 ghost use Rattle.std.specs.Prelude.{◌≡◌, ◌≤◌, ◌^◌, IfSome, length};
 ghost use Rattle.kc_tree.specs.OutlineFaults.{outline_fault, IsInside};
+ghost use Rattle.kc_statement.specs.declared.limits.TheConstants.{MOST_SYMBOLS};
 
 use crate::choice_faults::choice_fault;
 use crate::fault::{ChoiceProblem, SymbolProblem};
@@ -20,7 +21,7 @@ pub(crate) enum OutlineFault {
 /// `modules`.
 #[cold]
 fn fault_in_turn(outline: &Outline) -> Option<OutlineFault>
-    requires few { length outline.now.symbols ≤ 65535 }
+    requires few { length outline.now.symbols ≤ MOST_SYMBOLS }
     requires few_choices { length outline.now.choices ≤ 2 ^ 30 }
     ensures first { result ≡ outline_fault outline.now }
     ensures inside { IfSome result (IsInside outline.now) }
@@ -38,7 +39,7 @@ fn fault_in_turn(outline: &Outline) -> Option<OutlineFault>
 /// The first fault, if there is one. Most trees have none, which one walk over the symbols shows.
 #[tactic(auto, using(crate::proofs::SymbolFaultLaws::faultless_symbols))]
 pub(crate) fn outline_fault(outline: &Outline) -> Option<OutlineFault>
-    requires few { length outline.now.symbols ≤ 65535 }
+    requires few { length outline.now.symbols ≤ MOST_SYMBOLS }
     requires few_choices { length outline.now.choices ≤ 2 ^ 30 }
     ensures first { result ≡ outline_fault outline.now }
     ensures inside { IfSome result (IsInside outline.now) }

@@ -6,6 +6,7 @@ ghost use Rattle.std.specs.Option.{option_map_or};
 ghost use Rattle.kc_outline.specs.TreeValue.{definitions_of, kind_of};
 ghost use Rattle.kc_tree.specs.SymbolFaults.{symbol_fault, modules_fault, fault_by, is_bad_modules, is_tri_type, begins_as_number, is_unfit_term, is_unfit_default, is_unfit_range, has_unfit, has_unfit_select};
 ghost use Rattle.kc_tree.specs.SymbolTests.{test_of, has_any_problem, IsFaultless};
+ghost use Rattle.kc_statement.specs.declared.limits.TheConstants.{MOST_SYMBOLS};
 
 use crate::fault::SymbolProblem;
 use kc_outline::{Outline, Symbol};
@@ -135,7 +136,9 @@ fn has_unfit_select(symbol: &Symbol) -> bool
     ensures { result ≡ has_unfit_select symbol.now }
 {
     !is_tri_type(symbol.kind())
-        && (symbol.has_selections() || !symbol.selected().is_empty() || !symbol.implied().is_empty())
+        && (symbol.has_selections()
+            || !symbol.selected().is_empty()
+            || !symbol.implied().is_empty())
 }
 
 /// Whether the symbol is `MODULES` and no bool, or another one with `modules`. Few symbols need a look at their name.
@@ -195,7 +198,7 @@ pub(crate) fn are_symbols_faultless(outline: &Outline) -> bool
 /// The first symbol with a problem, if there is one.
 #[inline(never)]
 fn first_with(outline: &Outline, problem: SymbolProblem) -> Option<(SymbolProblem, SymId)>
-    requires { length outline.now.symbols ≤ 65535 }
+    requires { length outline.now.symbols ≤ MOST_SYMBOLS }
     ensures { result ≡ fault_by outline.now problem (test_of problem) }
 {
     let count = outline.symbols().len();
@@ -209,7 +212,7 @@ fn first_with(outline: &Outline, problem: SymbolProblem) -> Option<(SymbolProble
 
 /// The first fault of a symbol but for `modules`, if there is one: each kind is sought among all symbols before the next.
 pub(crate) fn symbol_fault(outline: &Outline) -> Option<(SymbolProblem, SymId)>
-    requires { length outline.now.symbols ≤ 65535 }
+    requires { length outline.now.symbols ≤ MOST_SYMBOLS }
     ensures { result ≡ symbol_fault outline.now }
 {
     if let Some(fault) = first_with(outline, SymbolProblem::NoType) {
@@ -229,7 +232,7 @@ pub(crate) fn symbol_fault(outline: &Outline) -> Option<(SymbolProblem, SymId)>
 
 /// The fault of `modules`, if there is one.
 pub(crate) fn modules_fault(outline: &Outline) -> Option<(SymbolProblem, SymId)>
-    requires { length outline.now.symbols ≤ 65535 }
+    requires { length outline.now.symbols ≤ MOST_SYMBOLS }
     ensures { result ≡ modules_fault outline.now }
 {
     first_with(outline, SymbolProblem::BadModules)

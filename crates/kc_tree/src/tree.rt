@@ -67,7 +67,7 @@ impl Tree {
     ///
     /// # Errors
     ///
-    /// - `TreeFault::Line` with the first line that is at fault: K04 its word is unknown, K20 it is left out, K06 its
+    /// - `TreeFault::Line` with the first line that is at fault: K04 its word is unknown, K20 it is unsupported, K06 its
     ///   attribute belongs to nothing that takes it, K07 a block is closed wrongly or left open, K05 its form, and K01
     ///   a limit of parentheses, blocks or symbols.
     /// - `TreeFault::Symbol` where no line is at fault, with the first symbol without type (K12), else with two types
@@ -76,7 +76,8 @@ impl Tree {
     ///   `modules` (K18).
     /// - `TreeFault::Choice` where none of these up to K16 is there, with the line of the first choice with a fault (K17).
     /// - `TreeFault::Loop` where there is no other fault, with nodes that form a loop.
-    /// - `TreeFault::NoMemory` where memory was refused.
+    /// - `TreeFault::NoMemory` where memory was refused, for more than 2^30 lines, and where nodes use others more than
+    ///   2^32 - 1 times in all.
     pub fn parse(alloc: Global, lines: &[Line<'_>]) -> Result<Tree, TreeFault>
         ensures tree { IfOk result (IsTreeOf lines.now) }
         ensures fault { IfErr result (IsFaultOf lines.now) }

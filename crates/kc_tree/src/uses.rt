@@ -6,15 +6,16 @@ ghost use Rattle.kc_tree.specs.declared.node.Node.TheVariants.{Vis, Val, Mode, S
 ghost use Rattle.kc_tree.specs.NodeGraph.{IsGraphOf};
 ghost use Rattle.kc_tree.specs.Uses.{used_nodes};
 ghost use Rattle.kc_tree.specs.Collected.{Holds, used_lists, used_lists_with};
+ghost use Rattle.kc_statement.specs.declared.limits.TheConstants.{MOST_SYMBOLS};
 
 mod collected;
 mod reader;
 mod scratch;
 
+use collected::Collected;
 use kc_graph::Rows;
 use kc_outline::{Choice, ChoiceId, Outline, Symbol};
 use kc_statement::SymId;
-use collected::Collected;
 use scratch::Scratch;
 use std::alloc::{AllocError, Global};
 
@@ -27,7 +28,7 @@ fn add_symbol(
     id: SymId,
     symbol: &Symbol,
 ) -> Result<(), AllocError>
-    requires few { length collected.now.reader.outline.now.symbols ≤ 65535 }
+    requires few { length collected.now.reader.outline.now.symbols ≤ MOST_SYMBOLS }
     requires few_choices { length collected.now.reader.outline.now.choices ≤ 2 ^ 30 }
     requires symbol { slice_get collected.now.reader.outline.now.symbols id.0 ≡ Some symbol.now }
     ensures { OnOk result ((lists : List (List Node)) → Holds (length collected.now.reader.outline.now.symbols) lists rows.old
@@ -48,7 +49,7 @@ fn add_choice(
     id: ChoiceId,
     choice: &Choice,
 ) -> Result<(), AllocError>
-    requires few { length collected.now.reader.outline.now.symbols ≤ 65535 }
+    requires few { length collected.now.reader.outline.now.symbols ≤ MOST_SYMBOLS }
     requires few_choices { length collected.now.reader.outline.now.choices ≤ 2 ^ 30 }
     requires choice { slice_get collected.now.reader.outline.now.choices id.0 ≡ Some choice.now }
     ensures { OnOk result ((lists : List (List Node)) → Holds (length collected.now.reader.outline.now.symbols) lists rows.old
@@ -67,7 +68,7 @@ fn add_symbols(
     row: &mut Vec<u32>,
     rows: &mut Rows,
 ) -> Result<(), AllocError>
-    requires few { length collected.now.reader.outline.now.symbols ≤ 65535 }
+    requires few { length collected.now.reader.outline.now.symbols ≤ MOST_SYMBOLS }
     requires few_choices { length collected.now.reader.outline.now.choices ≤ 2 ^ 30 }
     requires empty { rows.old ≡ [] }
     ensures { OnOk result (Holds (length collected.now.reader.outline.now.symbols) (used_lists collected.now.reader.outline.now (length collected.now.reader.outline.now.symbols)) rows.new) }
@@ -87,7 +88,7 @@ fn add_choices(
     row: &mut Vec<u32>,
     rows: &mut Rows,
 ) -> Result<(), AllocError>
-    requires few { length collected.now.reader.outline.now.symbols ≤ 65535 }
+    requires few { length collected.now.reader.outline.now.symbols ≤ MOST_SYMBOLS }
     requires few_choices { length collected.now.reader.outline.now.choices ≤ 2 ^ 30 }
     requires symbols { Holds (length collected.now.reader.outline.now.symbols) (used_lists collected.now.reader.outline.now (length collected.now.reader.outline.now.symbols)) rows.old }
     ensures { OnOk result (Holds (length collected.now.reader.outline.now.symbols) (used_lists_with collected.now.reader.outline.now (length collected.now.reader.outline.now.choices)) rows.new) }
@@ -103,7 +104,7 @@ fn add_choices(
 /// The rows of all nodes by number, each without repeats: at a cost in proportion to the terms and the uses, but for
 /// the sort of each row. What the lines of a block read is collected once.
 pub(crate) fn used_rows(alloc: Global, outline: &Outline) -> Result<Rows, AllocError>
-    requires few { length outline.now.symbols ≤ 65535 }
+    requires few { length outline.now.symbols ≤ MOST_SYMBOLS }
     requires few_choices { length outline.now.choices ≤ 2 ^ 30 }
     requires named { length outline.now.names ≡ length outline.now.symbols }
     ensures { IfOk result (λ rows. IsGraphOf outline.now rows) }

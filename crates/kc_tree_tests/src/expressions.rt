@@ -6,7 +6,7 @@ use kc_tree::Tree;
 use std::alloc::{AllocError, Global};
 use std::test::Fail;
 
-/// Expressions with how the tree keeps them, or with the fault of their line, which is the sixth. A and B are the
+/// Expressions of conditions with how the tree keeps them, or with the fault of their line, which is the sixth. A and B are the
 /// symbols 0 and 1, and IF is a variable with the text `if`.
 const EXPRESSIONS: &str = r#"
 A | #0
@@ -14,12 +14,15 @@ A || B && C || y | [any #0 [all #1 C] y]
 A && B && n | [all #0 #1 n]
 ! ! ! A | !!!#0
 ! ! ( ! A ) | !!(!#0)
-! A = B && m | [all !#0=#1 m]
+! A = B && m | [all !#0=#1 bare m]
 ( A || B ) && ! ( ! C ) | [all ([any #0 #1]) !(!C)]
 5 <= A && B >= "x" | [all 5<=#0 #1>='x']
 1 < 2 || 2 > 1 || a != b | [any 1<2 2>1 a!=b]
 "y" | 'y'
-A = "m" || m | [any #0='m' m]
+A = "m" || m | [any #0='m' bare m]
+m | bare m
+m = A | m=#0
+! ( "m" ) | !(bare 'm')
 "A" | 'A'
 $(IF) | if
  | K:6: K05

@@ -31,11 +31,15 @@ pub(crate) fn show_term(alloc: Global, out: &mut String, term: &Term) -> Result<
     }
 }
 
-/// An expression as `#0`, `A<=#1`, `!A`, `(A)`, `[all A B]` and `[any A B]`.
+/// An expression as `#0`, `A<=#1`, `!A`, `(A)`, `[all A B]` and `[any A B]`; a bare m as `bare m`.
 #[cycle(show)]
 pub(crate) fn show_expr(alloc: Global, out: &mut String, expr: &Expr) -> Result<(), AllocError> {
     match expr {
         Expr::Term(term) => show_term(alloc, out, term),
+        Expr::BareModule(term) => {
+            out.push_str("bare ")?;
+            show_term(alloc, out, term)
+        }
         Expr::Compare(comparison, operands) => {
             show_term(alloc, out, &operands.left)?;
             out.push_str(sign_of(*comparison))?;

@@ -66,7 +66,7 @@ fn push_if(values: &mut Vec<Tri>, value: Tri, is_wanted: bool) -> Result<(), All
 }
 
 /// The values that a symbol, which is no member of a choice, shows for some user value of its type, in the order n, m,
-/// y, over the values of the nodes that it is computed from. The error is want of memory.
+/// y, over the values of the nodes that it is computed from. The error comes where memory is refused.
 fn shown_values(
     alloc: Global,
     tree: &Tree,
@@ -114,7 +114,7 @@ fn is_member(tree: &Tree, symbol: SymId) -> bool
     }
 }
 
-/// A value alone. The error is want of memory.
+/// A value alone. The error comes where memory is refused.
 fn one_value(alloc: Global, value: Tri) -> Result<Vec<Tri>, AllocError>
     ensures { IfOk result (λ v. v.items ≡ value ∷ []) }
 {
@@ -128,7 +128,7 @@ fn one_value(alloc: Global, value: Tri) -> Result<Vec<Tri>, AllocError>
 /// as it is, y alone of a visible member of a choice, and none of an invisible symbol and of a string, an int
 /// or a hex. The resolver is asked for the symbol's nodes alone.
 ///
-/// The error is want of memory.
+/// The error comes where memory is refused.
 pub fn assignable<R: Resolver>(
     alloc: Global,
     resolver: &mut R,

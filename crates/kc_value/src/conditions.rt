@@ -10,10 +10,8 @@ ghost use Rattle.kc_value.specs.Conditions.{blocks_depend, blocks_visible, depen
 
 use crate::expr_value::{conditions_tri, node_tri, own_condition_tri};
 use crate::value::Value;
+use kc_outline::MOST_OPEN_BLOCKS;
 use kc_tree::{Block, BlockId, Choice, ChoiceId, Comment, CommentId, Definition, Node, Tree, Tri};
-
-/// How many blocks may be nested.
-const MOST_NESTED: usize = 64;
 
 /// A block by number, if there is one.
 fn block_at(tree: &Tree, id: Option<BlockId>) -> Option<&Block>
@@ -69,14 +67,14 @@ fn visible_within(
 fn blocks_depend_tri(tree: &Tree, innermost: Option<BlockId>, env: &[Option<Value>]) -> Tri
     ensures { result ≡ blocks_depend tree.now (assignment_of tree.now env.now) (blocks_around tree.now innermost) }
 {
-    depend_within(tree, MOST_NESTED, innermost, env)
+    depend_within(tree, MOST_OPEN_BLOCKS, innermost, env)
 }
 
 /// What the prompts inside the blocks around a place depend on besides.
 fn blocks_visible_tri(tree: &Tree, innermost: Option<BlockId>, env: &[Option<Value>]) -> Tri
     ensures { result ≡ blocks_visible tree.now (assignment_of tree.now env.now) (blocks_around tree.now innermost) }
 {
-    visible_within(tree, MOST_NESTED, innermost, env)
+    visible_within(tree, MOST_OPEN_BLOCKS, innermost, env)
 }
 
 /// The dependencies of a definition (kconfig-language.rst, "Menu dependencies"): its own `depends on` lines, and those

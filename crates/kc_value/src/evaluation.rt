@@ -65,7 +65,7 @@ fn selection(tree: &Tree, user: &User, env: &[Option<Value>], id: ChoiceId) -> V
 }
 
 /// What the rule of a node gives over the values of the nodes that it uses, which stand in `env` by number; n for a
-/// node that the tree doesn't have. The error is want of memory for a text.
+/// node that the tree doesn't have. The error comes where memory is refused for a text.
 pub(crate) fn apply_rule(
     alloc: Global,
     tree: &Tree,
@@ -87,7 +87,7 @@ pub(crate) fn apply_rule(
 /// attributes") over the values of the nodes that it uses, which stand in `env` by number. A node whose
 /// place in `env` is empty or missing counts as n.
 ///
-/// The error is want of memory for a text; the meter stays then.
+/// The error comes where memory is refused for a text; the meter stays then.
 pub fn eval(
     alloc: Global,
     tree: &Tree,

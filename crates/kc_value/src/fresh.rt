@@ -15,7 +15,7 @@ use std::alloc::{AllocError, Global};
 /// that its rule gives. Only the node and those that it is computed from are evaluated, in the tree's
 /// order, and nothing is kept.
 ///
-/// That there is a solution, and no other, holds whatever the call returns. The error is want of memory
+/// That there is a solution, and no other, holds whatever the call returns. The error comes where memory is refused
 /// for a place for each node, or for a text.
 pub fn solve(alloc: Global, tree: &Tree, user: &User, node: Node) -> Result<Value, AllocError>
     requires { IsNodeOf tree.now node }

@@ -13,7 +13,7 @@ use crate::value::{Value, copy_of};
 use kc_tree::Node;
 use std::alloc::{AllocError, Global};
 
-/// A copy of the value of a node. The error is want of memory.
+/// A copy of the value of a node. The error comes where memory is refused.
 fn value_at<R: Resolver>(alloc: Global, resolver: &mut R, node: Node) -> Result<Value, AllocError>
     requires { IsNodeOf (R.tree_of resolver.old) node }
     ensures value { IfOk result (λ v. v ≡ solution (R.tree_of resolver.old) (R.user_of resolver.old) node) }
@@ -27,7 +27,7 @@ fn value_at<R: Resolver>(alloc: Global, resolver: &mut R, node: Node) -> Result<
 
 /// A copy of the value of each node, by number: all nodes of the tree are asked.
 ///
-/// The error is want of memory.
+/// The error comes where memory is refused.
 pub fn all_values<R: Resolver>(
     alloc: Global,
     resolver: &mut R,
@@ -48,7 +48,7 @@ pub fn all_values<R: Resolver>(
 
 /// A copy of the value of each node that a node is computed from, by number, with nothing for the others.
 ///
-/// The error is want of memory.
+/// The error comes where memory is refused.
 pub(crate) fn used_values<R: Resolver>(
     alloc: Global,
     resolver: &mut R,

@@ -9,7 +9,7 @@ ghost use Rattle.kc_value.specs.Marks.{IsMarked};
 use kc_tree::{Node, Tree};
 use std::alloc::{AllocError, Global};
 
-/// So many places without a mark. The error is want of memory.
+/// So many places without a mark. The error comes where memory is refused.
 fn no_marks(alloc: Global, count: usize) -> Result<Vec<bool>, AllocError>
     ensures { IfOk result (λ v. v.items ≡ replicate count false) }
 {
@@ -53,7 +53,7 @@ fn mark_used(tree: &Tree, marks: &mut Vec<bool>, node: Node)
 /// Marks a node and all that it is computed from, itself and through others. A node stands in the order after all that
 /// it uses, so that one pass back over the order marks them all.
 ///
-/// The error is want of memory.
+/// The error comes where memory is refused.
 pub(crate) fn marked_nodes(alloc: Global, tree: &Tree, node: Node) -> Result<Vec<bool>, AllocError>
     requires { IsNodeOf tree.now node }
     ensures long { IfOk result (λ v. length v.items ≡ node_count tree.now) }

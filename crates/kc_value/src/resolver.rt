@@ -37,7 +37,7 @@ pub trait Resolver {
         ensures { result.now ≡ user_of self.now };
 
     /// The value of a node of the tree in the only solution. Tree and user values stay, whatever the call
-    /// returns. The error is want of memory.
+    /// returns. The error comes where memory is refused.
     fn node(&mut self, node: Node) -> Result<&Value, AllocError>
         requires { IsNodeOf (tree_of self.old) node }
         ensures value { IfOk result (λ v. v.now ≡ solution (tree_of self.old) (user_of self.old) node) }

@@ -2,7 +2,7 @@ ghost use Rattle.std.specs.Prelude.{◌≡◌, None, IfOk, length, replicate};
 
 use std::alloc::{AllocError, Global};
 
-/// A list of so many places with nothing in them. The error is want of memory.
+/// A list of so many places with nothing in them. The error comes where memory is refused.
 pub(crate) fn empty_slots<T: Drop>(
     alloc: Global,
     count: usize,
@@ -16,7 +16,7 @@ pub(crate) fn empty_slots<T: Drop>(
     Ok(slots)
 }
 
-/// Takes away what is in each place of a list.
+/// Removes what is in each place of a list.
 pub(crate) fn clear_slots<T: Drop>(slots: &mut Vec<Option<T>>)
     ensures { slots.new.items ≡ replicate (length slots.old.items) None }
 {

@@ -248,7 +248,7 @@ pub(crate) fn tri_value(
 }
 
 /// The value of a symbol of this number: of a member of a choice whether it is selected, else by its type. The error is
-/// want of memory for a text.
+/// refused memory for a text.
 pub(crate) fn symbol_value(
     alloc: Global,
     tree: &Tree,

@@ -161,7 +161,7 @@ fn user_text(
 /// The value of a string, int or hex symbol (kconfig-language.rst, "Menu attributes", and Kconfiglib, "str_value"), and
 /// whether the `.config` has its line: the user's value where the symbol is visible and the value inside the first
 /// active range, else the first active default or the empty text, which that range clamps (this project's own). The
-/// error is want of memory.
+/// error comes where memory is refused.
 pub(crate) fn text_value(
     alloc: Global,
     tree: &Tree,

@@ -26,7 +26,7 @@ impl Model for User {
 impl User {
     /// No values and no chosen members, with room for one of each, so that setting one takes no memory.
     ///
-    /// The error is want of memory for that room.
+    /// The error comes where memory is refused for that room.
     pub fn empty(alloc: Global, tree: &Tree) -> Result<User, AllocError>
         ensures { IfOk result (λ u. u ≡ no_values tree.now) }
     {
@@ -37,7 +37,7 @@ impl User {
     }
 
     /// Gives a symbol of the tree a value, in place of the one that it has; those of all others stay. It
-    /// is kept, whether the symbol is visible or not, until it is set again or taken away.
+    /// is kept, whether the symbol is visible or not, until it is set again or removed.
     pub fn set(&mut self, symbol: SymId, value: UserVal)
         requires { symbol.0 < length self.old.values }
         ensures { self.new ≡ with_value self.old symbol (Some value) }

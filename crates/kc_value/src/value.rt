@@ -75,7 +75,7 @@ impl Value {
     }
 }
 
-/// A copy of a value. The error is want of memory for a text.
+/// A copy of a value. The error comes where memory is refused for a text.
 pub(crate) fn copy_of(alloc: Global, value: &Value) -> Result<Value, AllocError>
     ensures { IfOk result (λ v. v ≡ value.now) }
 {

@@ -64,7 +64,7 @@ fn selection_alone(tree: &Tree, choice: ChoiceId, env: &[Option<Value>]) -> Valu
 /// without a chosen member, all else as it is; an optional choice without a chosen member selects none. The resolver is
 /// asked for the node alone, and keeps tree and user values.
 ///
-/// The error is want of memory.
+/// The error comes where memory is refused.
 pub fn without_user<R: Resolver>(
     alloc: Global,
     resolver: &mut R,

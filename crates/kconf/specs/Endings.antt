@@ -11,7 +11,7 @@ code_of Done = 0
 code_of Fault = 1
 code_of Usage = 2
 
--- what a parse of words gave in place of arguments: help is an answer, want of memory a fault, and all else a
+-- what a parse of words gave in place of arguments: help is an answer, out of memory a fault, and all else a
 -- mistake of usage
 abbrev pub ending_of : ErrorKind → Status
 ending_of DisplayHelp = Done

@@ -125,8 +125,8 @@ impl<'a, F: Folder> Files<'a, F> {
         self.read_ahead()
     }
 
-    /// Reads the files that wait. One that cannot be read, or is not UTF-8, is left out: it is read again, and
-    /// told of, if it is ever wanted. So is what is left where too many paths wait.
+    /// Reads the files that wait. One that cannot be read, or is not UTF-8, is skipped: it is read again, and
+    /// reported, if it is ever wanted. So is what is left where too many paths wait.
     fn read_ahead(&mut self) -> Result<(), Fault> {
         for _ in 0..MAX_AHEAD {
             let Some(path) = self.waiting.next() else {

@@ -17,10 +17,10 @@ use std::io::{self, Read, Write};
 use std::mem;
 
 /// Does what the words of a command line ask for, and gives the exit status: 0 where it was done, 1 after a
-/// fault, which `errors` tells of, and 2 where the words are no command line. The first word is the program's
+/// fault, which `errors` reports, and 2 where the words are no command line. The first word is the program's
 /// name.
 ///
-/// The first fault is told: of the words, then of the variables in them, then of the files and their texts as they
+/// The first fault is reported: of the words, then of the variables in them, then of the files and their texts as they
 /// are read, then of the lines and the symbols, and last of the stream of commands. Where `errors` cannot be written nothing more is done.
 pub fn program<S: AsStr, F: Folder, R: Read, W: Write, E: Write>(
     alloc: Global,

@@ -323,7 +323,7 @@ impl Outline {
         let Some(found) = self.symbols.get_mut(symbol.0 as usize) else {
             return;
         };
-        found.take_choice(choice);
+        found.add_choice(choice);
     }
 
     /// Gives a symbol the number of the definition that a `config` line makes.
@@ -336,7 +336,7 @@ impl Outline {
         let Some(found) = self.symbols.get_mut(symbol.0 as usize) else {
             return Ok(());
         };
-        found.take_definition(number)
+        found.add_definition(number)
     }
 
     /// Gives the choice in which a `config` line stands its symbol as a member.
@@ -349,7 +349,7 @@ impl Outline {
         let Some(choice) = self.choices.get_mut(choice.0 as usize) else {
             return Ok(());
         };
-        choice.take_member(symbol)
+        choice.add_member(symbol)
     }
 
     /// Adds a type to the owner's symbol.
@@ -362,7 +362,7 @@ impl Outline {
         let Some(symbol) = self.symbols.get_mut(symbol.0 as usize) else {
             return;
         };
-        symbol.take_type(kind);
+        symbol.add_type(kind);
     }
 
     /// Notes that the owner's symbol selects or implies.
@@ -375,7 +375,7 @@ impl Outline {
         let Some(symbol) = self.symbols.get_mut(symbol.0 as usize) else {
             return;
         };
-        symbol.take_own_selection();
+        symbol.add_own_selection();
     }
 
     /// Adds an `optional` line to the choice that owns it.
@@ -388,7 +388,7 @@ impl Outline {
         let Some(choice) = self.choices.get_mut(choice.0 as usize) else {
             return;
         };
-        choice.take_optional();
+        choice.add_optional();
     }
 
     /// Adds a `modules` line to the owner's symbol.
@@ -401,7 +401,7 @@ impl Outline {
         let Some(symbol) = self.symbols.get_mut(symbol.0 as usize) else {
             return;
         };
-        symbol.take_modules();
+        symbol.add_modules();
     }
 
     /// Adds an `option allnoconfig_y` line to the owner's symbol.
@@ -414,7 +414,7 @@ impl Outline {
         let Some(symbol) = self.symbols.get_mut(symbol.0 as usize) else {
             return;
         };
-        symbol.take_yes_in_allnoconfig();
+        symbol.add_yes_in_allnoconfig();
     }
 
     fn add_definition_prompt(&mut self, number: usize, prompt: Prompt)
@@ -423,7 +423,7 @@ impl Outline {
         let Some(definition) = self.definitions.get_mut(number) else {
             return;
         };
-        definition.take_prompt(prompt);
+        definition.add_prompt(prompt);
     }
 
     fn add_choice_prompt(&mut self, choice: ChoiceId, prompt: Prompt)
@@ -432,7 +432,7 @@ impl Outline {
         let Some(choice) = self.choices.get_mut(choice.0 as usize) else {
             return;
         };
-        choice.take_prompt(prompt);
+        choice.add_prompt(prompt);
     }
 
     fn add_definition_default(
@@ -445,7 +445,7 @@ impl Outline {
         let Some(definition) = self.definitions.get_mut(number) else {
             return Ok(());
         };
-        definition.take_default(value)
+        definition.add_default(value)
     }
 
     fn add_choice_default(
@@ -458,7 +458,7 @@ impl Outline {
         let Some(choice) = self.choices.get_mut(choice.0 as usize) else {
             return Ok(());
         };
-        choice.take_default(ChoiceDefault::of(value))
+        choice.add_default(ChoiceDefault::of(value))
     }
 
     /// Adds a range to the definition that owns it.
@@ -472,7 +472,7 @@ impl Outline {
         let Some(definition) = self.definitions.get_mut(number) else {
             return Ok(());
         };
-        definition.take_range(range)
+        definition.add_range(range)
     }
 
     fn add_definition_depends(&mut self, number: usize, on: Expr) -> Result<(), AllocError>
@@ -481,7 +481,7 @@ impl Outline {
         let Some(definition) = self.definitions.get_mut(number) else {
             return Ok(());
         };
-        definition.take_depends(on)
+        definition.add_depends(on)
     }
 
     fn add_block_depends(&mut self, block: BlockId, on: Expr) -> Result<(), AllocError>
@@ -490,7 +490,7 @@ impl Outline {
         let Some(block) = self.blocks.get_mut(block.0) else {
             return Ok(());
         };
-        block.take_depends(on)
+        block.add_depends(on)
     }
 
     fn add_comment_depends(&mut self, comment: CommentId, on: Expr) -> Result<(), AllocError>
@@ -499,7 +499,7 @@ impl Outline {
         let Some(comment) = self.comments.get_mut(comment.0) else {
             return Ok(());
         };
-        comment.take_depends(on)
+        comment.add_depends(on)
     }
 
     /// Adds a `visible if` line to the menu that owns it.
@@ -513,7 +513,7 @@ impl Outline {
         let Some(block) = self.blocks.get_mut(block.0) else {
             return Ok(());
         };
-        block.take_visible(condition)
+        block.add_visible(condition)
     }
 
     /// Adds a `select` line to the symbol that it names, if there is one and a definition owns the line.
@@ -534,7 +534,7 @@ impl Outline {
         let Some(found) = self.symbols.get_mut(target.0 as usize) else {
             return Ok(());
         };
-        found.take_selection(Reverse {
+        found.add_selection(Reverse {
             by,
             definition,
             condition,
@@ -559,7 +559,7 @@ impl Outline {
         let Some(found) = self.symbols.get_mut(target.0 as usize) else {
             return Ok(());
         };
-        found.take_implication(Reverse {
+        found.add_implication(Reverse {
             by,
             definition,
             condition,

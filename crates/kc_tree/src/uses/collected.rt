@@ -7,6 +7,7 @@ ghost use Rattle.kc_tree.specs.declared.node.Node.{Node};
 ghost use Rattle.kc_tree.specs.Nodes.{number_in};
 ghost use Rattle.kc_tree.specs.Uses.{conditions_nodes, definition_nodes, prompt_nodes, reverse_nodes, type_nodes, visibility_nodes, symbol_value_nodes, mode_nodes, choice_prompt_nodes, choice_value_nodes};
 ghost use Rattle.kc_tree.specs.Collected.{Adds, HaveSame, HasNodes, Holds, own_lists, depends_lists, visible_lists, dependency_at, depends_at, visible_at, block_numbers_at, defaults_at, ranges_at, prompt_own_at, prompted_at};
+ghost use Rattle.kc_statement.specs.declared.limits.TheConstants.{MOST_SYMBOLS};
 
 use super::reader::Reader;
 use super::scratch::{Scratch, each_once, without_repeats};
@@ -107,9 +108,9 @@ fn add_rows(row: &mut Vec<u32>, rows: &Rows, numbers: &[usize]) -> Result<(), Al
 impl<'a> Collected<'a> {
     /// Of what lines define.
     pub fn new(alloc: Global, outline: &'a Outline) -> Result<Collected<'a>, AllocError>
-        requires few { length outline.now.symbols ≤ 65535 }
+        requires few { length outline.now.symbols ≤ MOST_SYMBOLS }
         requires few_choices { length outline.now.choices ≤ 2 ^ 30 }
-        requires named { length outline.now.names ≤ 65535 }
+        requires named { length outline.now.names ≤ MOST_SYMBOLS }
         ensures { IfOk result (λ collected. collected.reader.outline ≡ outline.entry) }
     {
         let reader = Reader::new(outline);
@@ -125,11 +126,7 @@ impl<'a> Collected<'a> {
     }
 
     /// Adds what the definitions depend on, and finds the blocks around them.
-    fn add_dependencies(
-        &self,
-        row: &mut Vec<u32>,
-        scratch: &mut Scratch,
-    ) -> Result<(), AllocError>
+    fn add_dependencies(&self, row: &mut Vec<u32>, scratch: &mut Scratch) -> Result<(), AllocError>
         ensures added { OnOk result (Adds (length self.now.reader.outline.now.symbols) row.old.items row.new.items (flat_map (dependency_at self.now.reader.outline.now) scratch.old.definitions.items)) }
         ensures blocks { OnOk result (HaveSame scratch.new.blocks.items (flat_map (block_numbers_at self.now.reader.outline.now) scratch.old.definitions.items)) }
     {
@@ -172,11 +169,7 @@ impl<'a> Collected<'a> {
     }
 
     /// Adds what the defaults of definitions read.
-    fn add_all_defaults(
-        &self,
-        row: &mut Vec<u32>,
-        definitions: &[usize],
-    ) -> Result<(), AllocError>
+    fn add_all_defaults(&self, row: &mut Vec<u32>, definitions: &[usize]) -> Result<(), AllocError>
         ensures { OnOk result (Adds (length self.now.reader.outline.now.symbols) row.old.items row.new.items (flat_map (defaults_at self.now.reader.outline.now) definitions.now)) }
     {
         for definition in definitions {
@@ -196,7 +189,7 @@ impl<'a> Collected<'a> {
     {
         self.add_all_defaults(row, definitions)?;
         self.add_all_ranges(row, definitions)?;
-        scratch.take_definitions(definitions)?;
+        scratch.set_definitions(definitions)?;
         self.add_dependencies(row, scratch)
     }
 
@@ -211,7 +204,7 @@ impl<'a> Collected<'a> {
         ensures { OnOk result (Adds (length self.now.reader.outline.now.symbols) row.old.items row.new.items (flat_map (reverse_nodes self.now.reader.outline.now) reverses.now)) }
     {
         self.reader.add_sources(row, reverses)?;
-        scratch.take_reverses(reverses)?;
+        scratch.set_reverses(reverses)?;
         self.add_dependencies(row, scratch)
     }
 

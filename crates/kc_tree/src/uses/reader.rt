@@ -4,6 +4,7 @@ ghost use Rattle.std.specs.Prelude.{◌≡◌, ◌≤◌, ◌^◌, flat_map, len
 ghost use Rattle.kc_outline.specs.TreeValue.{modules_symbol};
 ghost use Rattle.kc_tree.specs.Uses.{symbol_nodes, term_nodes, value_nodes, modules_nodes, conditions_nodes, own_condition_nodes, default_nodes, range_nodes, mode_nodes, selection_nodes, visibility_node, choice_default_nodes};
 ghost use Rattle.kc_tree.specs.Collected.{Adds, source_nodes};
+ghost use Rattle.kc_statement.specs.declared.limits.TheConstants.{MOST_SYMBOLS};
 
 use crate::node::Node;
 use kc_outline::{ChoiceDefault, ChoiceId, Outline, Reverse};
@@ -16,7 +17,7 @@ pub struct Reader<'a> {
     pub outline: &'a Outline,
     /// The symbol `MODULES`.
     modules: Option<SymId>,
-    ghost few: { length outline.now.symbols ≤ 65535 },
+    ghost few: { length outline.now.symbols ≤ MOST_SYMBOLS },
     ghost few_choices: { length outline.now.choices ≤ 2 ^ 30 },
     ghost modules_is: { modules ≡ modules_symbol outline.now },
 }
@@ -24,9 +25,9 @@ pub struct Reader<'a> {
 impl<'a> Reader<'a> {
     /// Of what lines define.
     pub fn new(outline: &'a Outline) -> Reader<'a>
-        requires few { length outline.now.symbols ≤ 65535 }
+        requires few { length outline.now.symbols ≤ MOST_SYMBOLS }
         requires few_choices { length outline.now.choices ≤ 2 ^ 30 }
-        requires named { length outline.now.names ≤ 65535 }
+        requires named { length outline.now.names ≤ MOST_SYMBOLS }
         ensures { result.outline ≡ outline.entry }
     {
         let modules = match outline.names().find("MODULES") {
@@ -39,7 +40,7 @@ impl<'a> Reader<'a> {
     /// How many symbols there are.
     pub fn symbol_count(&self) -> usize
         ensures count { result ≡ length self.now.outline.now.symbols }
-        ensures few { result ≤ 65535 }
+        ensures few { result ≤ MOST_SYMBOLS }
     {
         let outline = self.outline;
         outline.symbols().len()
@@ -116,11 +117,7 @@ impl<'a> Reader<'a> {
     }
 
     /// Adds what each of some conditions reads.
-    pub fn add_conditions(
-        &self,
-        row: &mut Vec<u32>,
-        conditions: &[Expr],
-    ) -> Result<(), AllocError>
+    pub fn add_conditions(&self, row: &mut Vec<u32>, conditions: &[Expr]) -> Result<(), AllocError>
         ensures { OnOk result (Adds (length self.now.outline.now.symbols) row.old.items row.new.items (conditions_nodes self.now.outline.now conditions.now)) }
     {
         for condition in conditions {
@@ -225,11 +222,7 @@ impl<'a> Reader<'a> {
     }
 
     /// Adds the visibilities of symbols.
-    pub fn add_visibilities(
-        &self,
-        row: &mut Vec<u32>,
-        symbols: &[SymId],
-    ) -> Result<(), AllocError>
+    pub fn add_visibilities(&self, row: &mut Vec<u32>, symbols: &[SymId]) -> Result<(), AllocError>
         ensures { OnOk result (Adds (length self.now.outline.now.symbols) row.old.items row.new.items (flat_map (visibility_node self.now.outline.now) symbols.now)) }
     {
         for symbol in symbols {

@@ -2,8 +2,9 @@
 
 ghost use Rattle.std.specs.Prelude.{◌≡◌, [], ◌++◌, flat_map, map, OnOk, Some};
 ghost use Rattle.kc_tree.specs.Collected.{HaveSame, block_numbers, block_numbers_at, innermost_at};
+ghost use Rattle.kc_outline.specs.declared.limits.TheConstants.{MOST_OPEN_BLOCKS};
 
-use kc_outline::{BlockId, Outline, Reverse};
+use kc_outline::{BlockId, MOST_OPEN_BLOCKS, Outline, Reverse};
 use std::alloc::{AllocError, Global};
 
 /// Numbers of definitions, and of blocks.
@@ -61,11 +62,11 @@ fn add_blocks_from(
     numbers: &mut Vec<usize>,
     innermost: Option<BlockId>,
 ) -> Result<(), AllocError>
-    ensures { OnOk result (numbers.new.items ≡ numbers.old.items ++ block_numbers outline.now.blocks 64 innermost) }
+    ensures { OnOk result (numbers.new.items ≡ numbers.old.items ++ block_numbers outline.now.blocks MOST_OPEN_BLOCKS innermost) }
 {
     let all = outline.blocks();
     let mut next = innermost;
-    for _depth in 0usize..64 {
+    for _depth in 0..MOST_OPEN_BLOCKS {
         let Some(id) = next else {
             return Ok(());
         };
@@ -84,7 +85,7 @@ fn add_blocks(
     numbers: &mut Vec<usize>,
     innermost: &[usize],
 ) -> Result<(), AllocError>
-    ensures { OnOk result (numbers.new.items ≡ numbers.old.items ++ flat_map (λ b. block_numbers outline.now.blocks 64 (Some (record { 0 = b }))) innermost.now) }
+    ensures { OnOk result (numbers.new.items ≡ numbers.old.items ++ flat_map (λ b. block_numbers outline.now.blocks MOST_OPEN_BLOCKS (Some (record { 0 = b }))) innermost.now) }
 {
     for block in innermost {
         add_blocks_from(outline, numbers, Some(BlockId(*block)))?;
@@ -134,8 +135,8 @@ impl Scratch {
         }
     }
 
-    /// Takes definitions.
-    pub fn take_definitions(&mut self, definitions: &[usize]) -> Result<(), AllocError>
+    /// Sets the definitions.
+    pub fn set_definitions(&mut self, definitions: &[usize]) -> Result<(), AllocError>
         ensures { OnOk result (self.new.definitions.items ≡ definitions.now) }
     {
         self.definitions.clear();
@@ -145,8 +146,8 @@ impl Scratch {
         Ok(())
     }
 
-    /// Takes the definitions in which `select` or `imply` lines stand.
-    pub fn take_reverses(&mut self, reverses: &[Reverse]) -> Result<(), AllocError>
+    /// Sets the definitions to those in which `select` or `imply` lines stand.
+    pub fn set_reverses(&mut self, reverses: &[Reverse]) -> Result<(), AllocError>
         ensures { OnOk result (self.new.definitions.items ≡ map (λ r. r.definition) reverses.now) }
     {
         self.definitions.clear();
@@ -162,7 +163,7 @@ impl Scratch {
         outline: &Outline,
         innermost: BlockId,
     ) -> Result<(), AllocError>
-        ensures { OnOk result (self.new.blocks.items ≡ block_numbers outline.now.blocks 64 (Some innermost)) }
+        ensures { OnOk result (self.new.blocks.items ≡ block_numbers outline.now.blocks MOST_OPEN_BLOCKS (Some innermost)) }
     {
         self.blocks.clear();
         add_blocks_from(outline, &mut self.blocks, Some(innermost))

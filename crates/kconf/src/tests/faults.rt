@@ -10,7 +10,7 @@ const SESSION: [&str; 4] = ["kconf", "session", "Kconfig", "-"];
 const FILES: [(&str, &[u8]); 1] = [("Kconfig", b"config A\nbool \"a\"\n")];
 
 #[test]
-fn faults_of_a_kconfig_are_told(rt: HostRuntime) -> Result<(), Fail> {
+fn faults_of_a_kconfig_are_reported(rt: HostRuntime) -> Result<(), Fail> {
     // Of a text, a line, a symbol and a choice.
     let rows = [
         ("config A\nbool \"a\n", "kconf: Kconfig:2: K03\n"),
@@ -36,7 +36,7 @@ fn faults_of_a_kconfig_are_told(rt: HostRuntime) -> Result<(), Fail> {
 }
 
 #[test]
-fn a_loop_is_told_by_its_nodes(rt: HostRuntime) -> Result<(), Fail> {
+fn a_loop_is_reported_by_its_nodes(rt: HostRuntime) -> Result<(), Fail> {
     let kconfig = b"config A\nbool\ndepends on B\nconfig B\nbool\ndepends on A\n";
     let outcome = run_session(rt.alloc(), kconfig, b"config\n");
     assert_eq!(rt; outcome.status, 1);
@@ -50,7 +50,7 @@ fn a_loop_is_told_by_its_nodes(rt: HostRuntime) -> Result<(), Fail> {
 }
 
 #[test]
-fn faults_of_files_are_told(rt: HostRuntime) -> Result<(), Fail> {
+fn faults_of_files_are_reported(rt: HostRuntime) -> Result<(), Fail> {
     let alloc = rt.alloc();
     let big = vec![in alloc; b'#'; 16_777_217]?;
     let big_and_bad = vec![in alloc; b'\xff'; 16_777_217]?;
@@ -90,7 +90,7 @@ impl Folder for NoMemoryFolder {
 }
 
 #[test]
-fn want_of_memory_is_told(rt: HostRuntime) {
+fn refused_memory_is_reported(rt: HostRuntime) {
     let outcome = run_in(
         rt.alloc(),
         SESSION.as_slice(),
@@ -103,7 +103,7 @@ fn want_of_memory_is_told(rt: HostRuntime) {
 }
 
 #[test]
-fn a_failing_output_is_told(rt: HostRuntime) {
+fn a_failing_output_is_reported(rt: HostRuntime) {
     let folder = MemoryFolder {
         files: FILES.as_slice(),
     };
@@ -124,7 +124,7 @@ fn a_failing_output_is_told(rt: HostRuntime) {
 }
 
 #[test]
-fn a_failing_input_is_told(rt: HostRuntime) {
+fn a_failing_input_is_reported(rt: HostRuntime) {
     let folder = MemoryFolder {
         files: FILES.as_slice(),
     };

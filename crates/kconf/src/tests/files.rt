@@ -68,7 +68,7 @@ fn tells_fault(rt: &impl Abort, alloc: Global, kconfig: &str, want: &str) {
 }
 
 #[test]
-fn faults_of_sourced_files_are_told(rt: HostRuntime) {
+fn faults_of_sourced_files_are_reported(rt: HostRuntime) {
     let rows = [
         ("source \"missing\"\n", "kconf: missing: cannot read\n"),
         ("source \"$(NAME)/b\"\n", "kconf: /b: cannot read\n"),
@@ -90,7 +90,7 @@ fn faults_of_sourced_files_are_told(rt: HostRuntime) {
 }
 
 #[test]
-fn the_first_fault_of_files_is_told(rt: HostRuntime) {
+fn the_first_fault_of_files_is_reported(rt: HostRuntime) {
     let missing = "kconf: missing: cannot read\n";
     let rows = [
         ("source \"missing\"\nsource \"bad\"\n", missing),

@@ -43,7 +43,7 @@ fn long_variable(alloc: Global, length: usize) -> Result<String, AllocError> {
 }
 
 #[test]
-fn faults_of_variables_are_told(rt: HostRuntime) -> Result<(), Fail> {
+fn faults_of_variables_are_reported(rt: HostRuntime) -> Result<(), Fail> {
     let long = long_variable(rt.alloc(), 65_537)?;
     let rows = [
         ("V=a\nb", "kconf: V:0: K02\n"),

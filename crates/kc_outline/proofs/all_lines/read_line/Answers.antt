@@ -28,4 +28,4 @@ returns-clause-outline c = λ earlier before at.
       choice = c.choice-choice.ensures ∙ ap choice_among at.stack;
       owner = c.owner.ensures ∙ after.owner;
     } in
-    next_outline names c.args.following earlier line c.args.outline.now c.take.new.self r before reading c.in_ok-take.ensures
+    next_outline names c.args.following earlier line c.args.outline.now c.add_line.new.self r before reading c.in_ok-add_line.ensures

@@ -21,9 +21,9 @@ pub returns-then-is_too_deep : goal.returns-then-is_too_deep
 returns-then-is_too_deep c =
     let ts = c.args.tokens.now in
     let i = c.loop-token.token-index in
-    let deep : is_too_deep c.take.new.self ≡ true = sym c.is_too_deep.ensures ∙ c.if-is_too_deep.true in
-    sym (passes_deep-here c.take.new.self (drop (i + 1) ts) deep)
-    ∙ ap (λ (d : Depth). passes_deep d (drop (i + 1) ts)) c.take.ensures
+    let deep : is_too_deep c.count_token.new.self ≡ true = sym c.is_too_deep.ensures ∙ c.if-is_too_deep.true in
+    sym (passes_deep-here c.count_token.new.self (drop (i + 1) ts) deep)
+    ∙ ap (λ (d : Depth). passes_deep d (drop (i + 1) ts)) c.count_token.ensures
     ∙ sym (passes_deep-at c.loop-token.depth ts i c.token-item.result c.loop-token-test.true c.token-item.is c.loop-token.invariant.shallow)
     ∙ c.loop-token.invariant.passes
     ∙ nests_too_deep_is ts
@@ -37,13 +37,13 @@ loop-token-preserved c =
     let known = c.loop-token.invariant in
     record {
       passes =
-          ap (λ (x : Depth). passes_deep x (drop (i + 1) ts)) c.take.ensures
+          ap (λ (x : Depth). passes_deep x (drop (i + 1) ts)) c.count_token.ensures
           ∙ sym (passes_deep-at d ts i t c.loop-token-test.true c.token-item.is known.shallow)
           ∙ known.passes;
       shallow = sym c.is_too_deep.ensures ∙ c.if-is_too_deep.false;
-      opened = rw c.take.ensures (one_more (is_opening t) d.opened i known.opened);
-      closed = rw c.take.ensures (one_more (is_closing t) d.closed i known.closed);
-      nots = rw c.take.ensures (one_more_row (is_not t) d.nots i known.nots);
+      opened = rw c.count_token.ensures (one_more (is_opening t) d.opened i known.opened);
+      closed = rw c.count_token.ensures (one_more (is_closing t) d.closed i known.closed);
+      nots = rw c.count_token.ensures (one_more_row (is_not t) d.nots i known.nots);
     }
 
 pub returns : goal.returns

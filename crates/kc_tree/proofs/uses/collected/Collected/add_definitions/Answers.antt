@@ -12,9 +12,9 @@ returns c =
     let s = length t.symbols in
     let js = c.args.definitions.now in
     on_ok_weaker c.add_dependencies.result
-    (λ (h : Adds s c.add_all_ranges.new.row.items c.add_dependencies.new.row.items (flat_map (dependency_at t) c.take_definitions.new.self.definitions.items)).
+    (λ (h : Adds s c.add_all_ranges.new.row.items c.add_dependencies.new.row.items (flat_map (dependency_at t) c.set_definitions.new.self.definitions.items)).
     adds_alike s _ _ _ _
     (adds_then s _ _ _ (flat_map (defaults_at t) js) (flat_map (ranges_at t) js ++ flat_map (dependency_at t) js) c.in_ok-add_all_defaults.ensures
     (adds_then s _ _ _ (flat_map (ranges_at t) js) (flat_map (dependency_at t) js) c.in_ok-add_all_ranges.ensures
-    (subst (λ (xs : List ℕ). Adds s c.add_all_ranges.new.row.items c.add_dependencies.new.row.items (flat_map (dependency_at t) xs)) c.in_ok-take_definitions.ensures h))) (definitions_alike s t js))
+    (subst (λ (xs : List ℕ). Adds s c.add_all_ranges.new.row.items c.add_dependencies.new.row.items (flat_map (dependency_at t) xs)) c.in_ok-set_definitions.ensures h))) (definitions_alike s t js))
     c.add_dependencies.ensures.added

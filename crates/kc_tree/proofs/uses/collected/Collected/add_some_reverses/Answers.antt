@@ -12,7 +12,7 @@ returns c =
     let t = c.args.self.now.reader.outline.now in
     let rs = c.args.reverses.now in
     on_ok_weaker c.add_dependencies.result
-    (λ (h : Adds (length t.symbols) c.add_sources.new.row.items c.add_dependencies.new.row.items (flat_map (dependency_at t) c.take_reverses.new.self.definitions.items)).
+    (λ (h : Adds (length t.symbols) c.add_sources.new.row.items c.add_dependencies.new.row.items (flat_map (dependency_at t) c.set_reverses.new.self.definitions.items)).
     adds_alike (length t.symbols) _ _ _ _ (adds_then (length t.symbols) _ _ _ (flat_map (source_nodes t) rs) (flat_map (dependency_at t) (map (λ r. r.definition) rs)) c.in_ok-add_sources.ensures
-    (subst (λ (xs : List ℕ). Adds (length t.symbols) c.add_sources.new.row.items c.add_dependencies.new.row.items (flat_map (dependency_at t) xs)) c.in_ok-take_reverses.ensures h)) (reverses_alike (length t.symbols) t rs))
+    (subst (λ (xs : List ℕ). Adds (length t.symbols) c.add_sources.new.row.items c.add_dependencies.new.row.items (flat_map (dependency_at t) xs)) c.in_ok-set_reverses.ensures h)) (reverses_alike (length t.symbols) t rs))
     c.add_dependencies.ensures.added

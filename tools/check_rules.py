@@ -1,0 +1,223 @@
+#!/usr/bin/env python3
+"""Checks that docs/RULES.md names what is there, and that docs/EDITS.md lists the edits of the gate.
+
+    tools/check_rules.py
+
+It is run by hand, after a change of a rule: of a heading in docs/, of a definition, a function, a test, a file of
+cases or an edit. docs/RULES.md says at its beginning what the cells of a row hold. A line is written for each mistake,
+and the status is 1 where there is one:
+
+- a row without its five cells, or a cell that names nothing;
+- a document, a file of specs/ or src/, a file of cases or a test that is not there;
+- a heading that its document does not have, and an anchor that is not that of its heading;
+- a definition that its file of specs/ does not define, and a function, a constant or a test that its file of src/ does
+  not define;
+- a number from K01 to K20 without a row;
+- a file of crates/kc_cases/data that no row names;
+- an edit of crates/NAME/must-fail that docs/EDITS.md does not list below NAME, and one listed there that is not there.
+"""
+
+import re
+import sys
+from dataclasses import dataclass
+from pathlib import Path
+from typing import Callable, Iterator, List, Set
+
+ROOT = Path(__file__).resolve().parent.parent
+DOCS = ROOT / "docs"
+CRATES = ROOT / "crates"
+DATA = CRATES / "kc_cases" / "data"
+
+COLUMNS = ("Rule", "Document", "Definition", "Code", "Cases")
+NUMBERS = [f"K{number:02}" for number in range(1, 21)]
+
+
+def text_of(path: Path) -> str:
+    return path.read_text(encoding="utf-8")
+
+
+def shown(path: Path) -> str:
+    return str(path.relative_to(ROOT))
+
+
+# ------------------------------------------------------------------------------------------------ rows
+
+
+@dataclass(frozen=True)
+class Row:
+    """A row of a table: a rule, and what its cells say."""
+
+    line: int
+    cells: List[str]
+
+    @property
+    def rule(self) -> str:
+        return self.cells[0]
+
+    def items(self, column: str) -> List[str]:
+        """What stands between backticks in a cell."""
+        return re.findall(r"`([^`]+)`", self.cells[COLUMNS.index(column)])
+
+    def links(self) -> List[List[str]]:
+        """Text, document and anchor of each link in the cell of documents."""
+        return [list(link) for link in re.findall(r"\[([^\]]+)\]\(([^)#]+)#?([^)]*)\)", self.cells[1])]
+
+
+def cells_of(line: str) -> List[str]:
+    return [cell.strip() for cell in line.strip().strip("|").split("|")]
+
+
+def rows_of(text: str) -> Iterator[Row]:
+    """The rows of all tables, without their heads."""
+    for number, line in enumerate(text.split("\n"), start=1):
+        if line.startswith("|") and not line.startswith(("|---", "| Rule |")):
+            yield Row(number, cells_of(line))
+
+
+# ------------------------------------------------------------------------------------------------ documents
+
+
+def headings_of(text: str) -> List[str]:
+    """The headings of a document. A line of a code block is none."""
+    headings, is_code = [], False
+    for line in text.split("\n"):
+        if line.startswith("```"):
+            is_code = not is_code
+        elif not is_code and re.match(r"#+ ", line):
+            headings.append(line.lstrip("#").strip())
+    return headings
+
+
+def anchor_of(heading: str) -> str:
+    return re.sub(r"[^\w\- ]", "", heading.lower()).replace(" ", "-")
+
+
+def document_mistakes(row: Row) -> Iterator[str]:
+    for heading, name, anchor in row.links():
+        path = (DOCS / name).resolve()
+        if not path.is_file():
+            yield f"no document {name}"
+        elif heading not in headings_of(text_of(path)):
+            yield f"{name} has no heading {heading!r}"
+        elif anchor != anchor_of(heading):
+            yield f"the anchor of {heading!r} in {name} is #{anchor_of(heading)}"
+
+
+# ------------------------------------------------------------------------------------------------ definitions and code
+
+
+def defines(text: str, name: str) -> bool:
+    """Whether a file of specs/ defines a name."""
+    kind = r"(?:abbrev |unfoldable )?pub (?:record |data )?"
+    return bool(re.search(rf"^{kind}{re.escape(name)}(?= |$)", text, re.MULTILINE))
+
+
+def has_item(text: str, name: str) -> bool:
+    """Whether a file of src/ has a function or a constant of a name."""
+    kind = r"\s*(?:pub(?:\(crate\))? )?(?:const )?(?:fn|const) "
+    return bool(re.search(rf"^{kind}{re.escape(name)}\b", text, re.MULTILINE))
+
+
+def item_mistakes(item: str, folder: str, ending: str, has: Callable[[str, str], bool]) -> Iterator[str]:
+    """The mistakes of `CRATE/FILE NAME..`, whose file stands in a folder of the crate."""
+    place, *names = item.split()
+    crate, _, file = place.partition("/")
+    path = CRATES / crate / folder / (file + ending)
+    if not names:
+        yield f"`{item}` names nothing in {shown(path)}"
+    elif not path.is_file():
+        yield f"no file {shown(path)}"
+    else:
+        text = text_of(path)
+        yield from (f"{shown(path)} has no {name}" for name in names if not has(text, name))
+
+
+def definition_mistakes(row: Row) -> Iterator[str]:
+    for item in row.items("Definition"):
+        yield from item_mistakes(item, "specs", ".antt", defines)
+
+
+def code_mistakes(row: Row) -> Iterator[str]:
+    for item in row.items("Code"):
+        yield from item_mistakes(item, "src", "", has_item)
+
+
+# ------------------------------------------------------------------------------------------------ cases
+
+
+def is_test(item: str) -> bool:
+    return "/" in item
+
+
+def case_mistakes(row: Row) -> Iterator[str]:
+    for item in row.items("Cases"):
+        if is_test(item):
+            yield from item_mistakes(item, "src", "", has_item)
+        elif not (DATA / f"{item}.cases").is_file():
+            yield f"no file {shown(DATA / item)}.cases"
+
+
+# ------------------------------------------------------------------------------------------------ all rows
+
+
+def row_mistakes(row: Row) -> Iterator[str]:
+    if len(row.cells) != len(COLUMNS):
+        yield f"a row has the cells {', '.join(COLUMNS)}, and this one has {len(row.cells)}"
+        return
+    if not row.links():
+        yield "no document is named"
+    for column in COLUMNS[2:]:
+        if not row.items(column):
+            yield f"nothing is named as {column}"
+    for mistakes in (document_mistakes, definition_mistakes, code_mistakes, case_mistakes):
+        yield from mistakes(row)
+
+
+def named_cases(rows: List[Row]) -> Set[str]:
+    return {item for row in rows for item in row.items("Cases") if not is_test(item)}
+
+
+def mistakes_of(rows: List[Row]) -> Iterator[str]:
+    for row in rows:
+        for mistake in row_mistakes(row):
+            yield f"docs/RULES.md:{row.line}: {row.rule}: {mistake}"
+    whole = [row for row in rows if len(row.cells) == len(COLUMNS)]
+    numbers = {row.rule[:3] for row in whole}
+    yield from (f"docs/RULES.md: no row of {number}" for number in NUMBERS if number not in numbers)
+    named = named_cases(whole)
+    unnamed = (path for path in sorted(DATA.glob("*.cases")) if path.stem not in named)
+    yield from (f"{shown(path)}: no row of docs/RULES.md names it" for path in unnamed)
+
+
+# ------------------------------------------------------------------------------------------------ edits
+
+
+def listed_edits(text: str) -> Set[str]:
+    """The edits in the second column of the tables, each as CRATE/NAME by the heading above its table."""
+    edits, crate = set(), ""
+    for line in text.split("\n"):
+        if line.startswith("### "):
+            crate = line[4:]
+        elif line.startswith("#"):
+            crate = ""
+        elif crate and line.startswith("|"):
+            edits |= {f"{crate}/{name}" for name in re.findall(r"`([^`]+)`", cells_of(line)[1])}
+    return edits
+
+
+def edit_mistakes(text: str) -> Iterator[str]:
+    listed = listed_edits(text)
+    there = {f"{path.parts[-3]}/{path.stem}" for path in CRATES.glob("*/must-fail/*.edit")}
+    yield from (f"docs/EDITS.md: it does not list {edit}" for edit in sorted(there - listed))
+    yield from (f"docs/EDITS.md: it lists {edit}, which is not there" for edit in sorted(listed - there))
+
+
+def main() -> int:
+    rows = list(rows_of(text_of(DOCS / "RULES.md")))
+    mistakes = [*mistakes_of(rows), *edit_mistakes(text_of(DOCS / "EDITS.md"))]
+    print("\n".join(mistakes) if mistakes else f"{len(rows)} rules")
+    return 1 if mistakes else 0
+
+
+if __name__ == "__main__":
+    sys.exit(main())
