@@ -48,7 +48,7 @@ pub enum LineFault {
         path: Text,
         line: usize,
     },
-    /// Memory was refused.
+    /// Memory was refused, or there are more than 2^30 lines.
     NoMemory,
 }
 

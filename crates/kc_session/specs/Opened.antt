@@ -22,7 +22,7 @@ pub record IsOpened (files vars : List File) (top prefix : List ℕ) (s : Sessio
 abbrev pub IsNumbered : TreeFault → Type 0
 IsNumbered (Line problem path number) = Unit {0}
 IsNumbered (Symbol problem name) = Unit {0}
-IsNumbered (Choice path number) = Unit {0}
+IsNumbered (Choice problem path number) = Unit {0}
 IsNumbered (Loop nodes) = Unit {0}
 IsNumbered NoTreeMemory = ⊥
 

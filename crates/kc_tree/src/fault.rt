@@ -101,7 +101,7 @@ pub enum TreeFault {
     /// A dependency loop (K19): each node uses the next, and the last the first.
     #[error("K19")]
     Loop(Vec<NamedNode>),
-    /// Memory was refused.
+    /// Memory was refused, or the lines or the uses of nodes are more than a tree has room for (`Tree::parse`).
     #[error("memory")]
     NoMemory,
 }

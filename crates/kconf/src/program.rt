@@ -51,10 +51,10 @@ fn serve<F: Folder, R: Read, W: Write>(
     output: &mut W,
 ) -> Result<(), Fault> {
     let mut session = open_session(alloc, arguments, folder)?;
-    run(alloc, input, output, &mut session)?;
+    let served = run(alloc, input, output, &mut session);
     // The program ends here, so its memory need not be given back piece by piece.
     mem::forget(session);
-    Ok(())
+    Ok(served?)
 }
 
 /// The session of the Kconfig of a folder, which sees the variables of the words alone.
