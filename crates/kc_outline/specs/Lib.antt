@@ -3,6 +3,7 @@ pub mod ContextAfter
 pub mod Enclosing
 pub mod Entries
 pub mod FirstProblem
+pub mod Grouped
 pub mod LineFaults
 pub mod Outline
 pub mod Reader
