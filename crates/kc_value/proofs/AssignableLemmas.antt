@@ -15,6 +15,8 @@ use Rattle.kc_tree.specs.declared.user_value.UserVal.TheVariants.{Tri as TriVal}
 use Rattle.kc_tree.specs.SymbolFaults.{is_tri_type}
 use Rattle.kc_outline.specs.TreeOf.{same_type}
 use Rattle.kc_outline.specs.TreeValue.{TreeValue, SymbolValue, kind_of, choice_of}
+use Rattle.kc_tree.specs.Accepted.{IsAccepted}
+use Rattle.kc_tree.specs.Nodes.{IsNodeOf}
 use Rattle.kc_tree.specs.Uses.{Uses}
 use Rattle.kc_value.specs.declared.value.Value.TheVariants.{Tri as Level}
 use Rattle.kc_statement.specs.Tristate.{is_no}
@@ -25,7 +27,7 @@ use Rattle.kc_value.specs.ChoiceRule.{member_rule}
 use Rattle.kc_value.specs.TextRule.{text_rule}
 use Rattle.kc_value.specs.Rule.{rule, tri_rule, free_rule, symbol_rule}
 use Rattle.kc_value.specs.Assignable.{same_tri, shown_with, values_of_type, values_of, is_shown_with_some, assignable_in}
-use Rattle.kc_value.specs.Solution.{solution}
+use Rattle.kc_value.specs.Solution.{solution, AreSolved}
 use Rattle.kc_value.proofs.Agreement.{rule_agrees}
 
 none_of : {X : Type 0} (o : Option X) → is_some o ≡ false → o ≡ None
@@ -141,6 +143,19 @@ visible_values t t₁ t₂ u u₁ s env lent items e₁ f₁ e₂ g sized right 
     ∙ ap (λ x. filter (is_shown_with_some x u (assignment_of x lent) s) (No ∷ Module ∷ Yes ∷ [])) e₂
     ∙ ap (λ l. filter (is_shown_with_some t u (assignment_of t l) s) (No ∷ Module ∷ Yes ∷ [])) g
     ∙ shown_agrees t u (assignment_of t env) (solution t u) s same
+    ∙ sym (ap (λ b. if b then [] else (if is_some (choice_of t s) then Yes ∷ [] else all)) seen ∙ ap (λ b. if b then Yes ∷ [] else all) alone)
+
+-- the same of what was shown over the values of all nodes
+pub solved_values : (t : TreeValue) (u : UserValues) (s : SymId) (values : List (Option Value)) (items : List Tri)
+    → IsAccepted t → IsNodeOf t (Val s) → AreSolved t u values
+    → items ≡ filter (is_shown_with_some t u (assignment_of t values) s) (No ∷ Module ∷ Yes ∷ [])
+    → is_no (as_tri (solution t u (Vis s))) ≡ false
+    → is_some (choice_of t s) ≡ false
+    → items ≡ assignable_in t u (solution t u) s
+solved_values t u s values items accepted node solved shown seen alone =
+    let all = filter (is_shown_with_some t u (solution t u) s) (No ∷ Module ∷ Yes ∷ []) in
+    shown
+    ∙ shown_agrees t u (assignment_of t values) (solution t u) s (λ n uses. solved n (accepted.within (Val s) n node uses))
     ∙ sym (ap (λ b. if b then [] else (if is_some (choice_of t s) then Yes ∷ [] else all)) seen ∙ ap (λ b. if b then Yes ∷ [] else all) alone)
 
 -- y alone can be given to a visible member

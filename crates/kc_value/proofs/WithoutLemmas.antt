@@ -1,5 +1,5 @@
 -- The value without a user value or a chosen member is the rule without it.
-use Rattle.std.proofs.Common.{◌≡◌, ◌<◌, true, false, List, Option, Some, None, length, if◌then◌else◌, get_or-set_same, sym, ap, ◌∙◌, subst, arith}
+use Rattle.std.proofs.Common.{◌≡◌, ◌<◌, true, false, List, Option, Some, None, length, if◌then◌else◌, get_or-set_same, refl, sym, ap, ◌∙◌, subst, arith}
 use Rattle.std.specs.List.{slice_get}
 use Rattle.std.specs.Option.{option_map_or}
 use Rattle.kc_statement.specs.declared.id.SymId.{SymId}
@@ -8,13 +8,15 @@ use Rattle.kc_tree.specs.declared.node.Node.{Node}
 use Rattle.kc_tree.specs.declared.node.Node.TheVariants.{Vis, Val, Sel}
 use Rattle.kc_statement.specs.declared.tri.Tri.TheVariants.{No}
 use Rattle.kc_outline.specs.TreeValue.{TreeValue, SymbolValue, ChoiceValue}
+use Rattle.kc_tree.specs.Accepted.{IsAccepted}
+use Rattle.kc_tree.specs.Nodes.{IsNodeOf}
 use Rattle.kc_tree.specs.Uses.{Uses}
 use Rattle.kc_value.specs.declared.value.Value.{Value}
 use Rattle.kc_value.specs.declared.value.Value.TheVariants.{Tri as Level, Member}
 use Rattle.kc_value.specs.Assignment.{Assignment, as_tri, assignment_of}
 use Rattle.kc_value.specs.ChoiceRule.{selection}
 use Rattle.kc_value.specs.Rule.{rule, symbol_rule}
-use Rattle.kc_value.specs.Solution.{solution}
+use Rattle.kc_value.specs.Solution.{solution, AreSolved}
 use Rattle.kc_value.specs.UserValues.{UserValues, IsUserFor, user_value, chosen_in, with_value, with_chosen}
 use Rattle.kc_value.specs.Without.{user_without, selects_none, value_without}
 use Rattle.kc_value.proofs.Agreement.{rule_agrees}
@@ -70,3 +72,11 @@ without_solution t t₁ t₂ u u₁ n env lent v e₁ f₁ e₂ g some right is 
     ∙ ap (λ l. rule t (user_without u n) (assignment_of t l) n) g
     ∙ rule_agrees t (user_without u n) (assignment_of t env) (solution t u) n same
     ∙ sym (ap (λ b. if b then Member None else rule t (user_without u n) (solution t u) n) some)
+
+-- over the values of all nodes, too
+pub without_solved : (t : TreeValue) (u : UserValues) (n : Node) (values : List (Option Value)) (v : Value)
+    → IsAccepted t → IsNodeOf t n → selects_none t n ≡ false → AreSolved t u values
+    → v ≡ rule t (user_without u n) (assignment_of t values) n
+    → v ≡ value_without t u n
+without_solved t u n values v accepted node some solved is =
+    without_solution t t t u u n values values v refl refl refl refl some (λ m uses. solved m (accepted.within n m node uses)) is

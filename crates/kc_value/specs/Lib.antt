@@ -1,6 +1,7 @@
 pub mod Assignable
 pub mod Assignment
 pub mod BoundsRange
+pub mod ChangedValue
 pub mod ChoiceRule
 pub mod Conditions
 pub mod Counting

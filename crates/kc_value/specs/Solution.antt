@@ -1,11 +1,12 @@
 -- The solution: the assignment in which every node has the value that its rule gives. This project's own.
-use Rattle.std.specs.Prelude.{◌≡◌, ℕ, zero, suc}
+use Rattle.std.specs.Prelude.{◌≡◌, ℕ, zero, suc, List, Option}
 use Rattle.kc_statement.specs.declared.tri.Tri.TheVariants.{No}
 use Rattle.kc_tree.specs.declared.node.Node.{Node}
 use Rattle.kc_outline.specs.TreeValue.{TreeValue}
 use Rattle.kc_tree.specs.Nodes.{IsNodeOf, node_count}
+use Rattle.kc_value.specs.declared.value.Value.{Value}
 use Rattle.kc_value.specs.declared.value.Value.TheVariants.{Tri as Level}
-use Rattle.kc_value.specs.Assignment.{Assignment}
+use Rattle.kc_value.specs.Assignment.{Assignment, assignment_of}
 use Rattle.kc_value.specs.UserValues.{UserValues}
 use Rattle.kc_value.specs.Rule.{rule}
 
@@ -28,3 +29,7 @@ applied t u (suc k) n = rule t u (applied t u k) n
 -- applied as often as there are nodes. That it is the only solution is a clause of `solve`.
 unfoldable pub solution : TreeValue → UserValues → Assignment
 solution t u = applied t u (node_count t)
+
+-- a list by number has the solution's value for each node of the tree
+abbrev pub AreSolved : TreeValue → UserValues → List (Option Value) → Type 0
+AreSolved t u values = (n : Node) → IsNodeOf t n → assignment_of t values n ≡ solution t u n

@@ -5,6 +5,7 @@ ghost use Rattle.kc_tree.specs.declared.node.Node.TheVariants.{Vis, Val};
 ghost use Rattle.kc_statement.specs.declared.symbol_type.SymbolType.TheVariants.{Tristate};
 ghost use Rattle.kc_tree.specs.declared.user_value.UserVal.TheVariants.{Tri as TriVal};
 ghost use Rattle.kc_statement.specs.declared.tri.Tri.TheVariants.{No, Module, Yes};
+ghost use Rattle.kc_tree.specs.Accepted.{IsAccepted};
 ghost use Rattle.kc_tree.specs.Nodes.{IsNodeOf};
 ghost use Rattle.kc_tree.specs.SymbolFaults.{is_tri_type};
 ghost use Rattle.kc_outline.specs.TreeOf.{same_type};
@@ -12,6 +13,7 @@ ghost use Rattle.kc_outline.specs.TreeValue.{choice_of};
 ghost use Rattle.kc_value.specs.Assignable.{same_tri, is_shown_with_some, assignable_values};
 ghost use Rattle.kc_value.specs.Assignment.{as_tri, assignment_of};
 ghost use Rattle.kc_value.specs.Rule.{tri_rule};
+ghost use Rattle.kc_value.specs.Solution.{AreSolved};
 ghost use Rattle.kc_value.specs.UserValues.{UserValues, IsUserFor};
 
 use crate::expr_value::node_tri;
@@ -23,7 +25,7 @@ use kc_tree::{Node, SymId, Symbol, SymbolType, Tree, Tri, UserVal};
 use std::alloc::{AllocError, Global};
 
 /// Whether two values are the same.
-fn is_same(left: Tri, right: Tri) -> bool
+pub(crate) fn is_same(left: Tri, right: Tri) -> bool
     ensures { result ≡ same_tri left right }
 {
     match (left, right) {
@@ -106,7 +108,8 @@ fn shown_values(
 
 /// Whether a symbol is a member of a choice.
 fn is_member(tree: &Tree, symbol: SymId) -> bool
-    ensures { result ≡ is_some (choice_of tree.now symbol) }
+    ensures member { result ≡ is_some (choice_of tree.now symbol) }
+    ensures accepted { IsAccepted tree.now }
 {
     match tree.symbols().get(symbol.0 as usize) {
         Some(symbol) => symbol.choice().is_some(),
@@ -152,4 +155,26 @@ pub fn assignable<R: Resolver>(
     let env = used_values(alloc, resolver, Node::Val(symbol))?;
     let values = shown_values(alloc, resolver.tree(), symbol, env.as_slice())?;
     Ok(values)
+}
+
+/// The values that a user can give a symbol with an effect, as [`assignable`] has them, over the values of all nodes.
+///
+/// The error comes where memory is refused.
+pub fn assignable_among(
+    alloc: Global,
+    tree: &Tree,
+    values: &[Option<Value>],
+    symbol: SymId,
+) -> Result<Vec<Tri>, AllocError>
+    requires { IsNodeOf tree.now (Vis symbol) }
+    ensures { (u : UserValues) → IsUserFor tree.now u → AreSolved tree.now u values.now
+        → IfOk result (λ v. v.items ≡ assignable_values tree.now u symbol) }
+{
+    if node_tri(tree, values, Node::Vis(symbol)).is_no() {
+        return Ok(Vec::new(alloc));
+    }
+    if is_member(tree, symbol) {
+        return one_value(alloc, Tri::Yes);
+    }
+    shown_values(alloc, tree, symbol, values)
 }

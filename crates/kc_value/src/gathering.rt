@@ -5,7 +5,7 @@ ghost use Rattle.kc_tree.specs.declared.node.Node.{Node};
 ghost use Rattle.kc_tree.specs.Nodes.{IsNodeOf, all_nodes};
 ghost use Rattle.kc_tree.specs.Uses.{Uses};
 ghost use Rattle.kc_value.specs.Assignment.{assignment_of};
-ghost use Rattle.kc_value.specs.Solution.{solution};
+ghost use Rattle.kc_value.specs.Solution.{solution, AreSolved};
 
 use crate::resolver::Resolver;
 use crate::slots::empty_slots;
@@ -32,8 +32,7 @@ pub fn all_values<R: Resolver>(
     alloc: Global,
     resolver: &mut R,
 ) -> Result<Vec<Option<Value>>, AllocError>
-    ensures values { IfOk result (λ v. (n : Node) → IsNodeOf (R.tree_of resolver.old) n
-        → assignment_of (R.tree_of resolver.old) v.items n ≡ solution (R.tree_of resolver.old) (R.user_of resolver.old) n) }
+    ensures values { IfOk result (λ v. AreSolved (R.tree_of resolver.old) (R.user_of resolver.old) v.items) }
     ensures tree { R.tree_of resolver.new ≡ R.tree_of resolver.old }
     ensures user { R.user_of resolver.new ≡ R.user_of resolver.old }
     ensures grew { R.grew resolver.old resolver.new (all_nodes (R.tree_of resolver.old)) }

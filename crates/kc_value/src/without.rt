@@ -18,7 +18,7 @@ use kc_tree::{ChoiceId, Node, SymId, Tree, Tri};
 use std::alloc::{AllocError, Global};
 
 /// Whether the node is the selection of an optional choice, which without a chosen member selects none.
-fn selects_none(tree: &Tree, node: Node) -> bool
+pub(crate) fn selects_none(tree: &Tree, node: Node) -> bool
     ensures { result ≡ selects_none tree.now node }
 {
     match node {
@@ -31,7 +31,7 @@ fn selects_none(tree: &Tree, node: Node) -> bool
 }
 
 /// What the rule gives a symbol without a user value, over the values of the nodes that it is computed from.
-fn value_alone(
+pub(crate) fn value_alone(
     alloc: Global,
     tree: &Tree,
     symbol: SymId,
@@ -50,7 +50,7 @@ fn value_alone(
 }
 
 /// What the rule gives a selection without a chosen member, over the values of the nodes that it is computed from.
-fn selection_alone(tree: &Tree, choice: ChoiceId, env: &[Option<Value>]) -> Value
+pub(crate) fn selection_alone(tree: &Tree, choice: ChoiceId, env: &[Option<Value>]) -> Value
     ensures { (u : UserValues) → IsUserFor tree.now u
         → result ≡ rule tree.now (user_without u (Sel choice)) (assignment_of tree.now env.now) (Sel choice) }
 {

@@ -26,12 +26,12 @@ returns-then-is_member-clause-values g c =
     let u = g.R.Resolver.user_of c.args.resolver.now in
     let s = c.args.symbol in
     let seen : is_no (as_tri (solution t u (Vis s))) ≡ false = sym (ap is_no (c.as_tri-visibility.ensures ∙ ap as_tri c.in_ok-node.ensures.value)) ∙ sym c.is_no.ensures ∙ c.if-is_no.false in
-    let member : is_some (choice_of t s) ≡ true = sym (ap (λ x. is_some (choice_of x s)) (c.tree.ensures ∙ c.node.follows.holds-at-none.0)) ∙ sym c.is_member.ensures ∙ c.if-is_member.true in
+    let member : is_some (choice_of t s) ≡ true = sym (ap (λ x. is_some (choice_of x s)) (c.tree.ensures ∙ c.node.follows.holds-at-none.0)) ∙ sym c.is_member.ensures.member ∙ c.if-is_member.true in
     IfOk-weaker c.one_value.result (λ v. v.items ≡ Yes ∷ []) (λ v. v.items ≡ assignable_values t u s) (λ v is. member_values t u s v.items is seen member) c.one_value.ensures
 
 pub shown_values-requires-clause-alone : goal.shown_values-requires-clause-alone
 shown_values-requires-clause-alone g c =
-    ap (λ x. is_some (choice_of x c.args.symbol)) (c.tree-2.ensures ∙ c.used_values.ensures.tree ∙ sym c.tree.ensures) ∙ sym c.is_member.ensures ∙ c.if-is_member.false
+    ap (λ x. is_some (choice_of x c.args.symbol)) (c.tree-2.ensures ∙ c.used_values.ensures.tree ∙ sym c.tree.ensures) ∙ sym c.is_member.ensures.member ∙ c.if-is_member.false
 
 pub returns-in_err-env-clause-grew : goal.returns-in_err-env-clause-grew
 returns-in_err-env-clause-grew g c =
@@ -48,7 +48,7 @@ returns-clause-values g c =
     let u = g.R.Resolver.user_of c.args.resolver.now in
     let s = c.args.symbol in
     let seen : is_no (as_tri (solution t u (Vis s))) ≡ false = sym (ap is_no (c.as_tri-visibility.ensures ∙ ap as_tri c.in_ok-node.ensures.value)) ∙ sym c.is_no.ensures ∙ c.if-is_no.false in
-    let alone : is_some (choice_of t s) ≡ false = sym (ap (λ x. is_some (choice_of x s)) (c.tree.ensures ∙ c.node.follows.holds-at-none.0)) ∙ sym c.is_member.ensures ∙ c.if-is_member.false in
+    let alone : is_some (choice_of t s) ≡ false = sym (ap (λ x. is_some (choice_of x s)) (c.tree.ensures ∙ c.node.follows.holds-at-none.0)) ∙ sym c.is_member.ensures.member ∙ c.if-is_member.false in
     visible_values t _ _ u _ s c.in_ok-env.env.items c.as_slice.result.now c.in_ok-values.values.items
     c.node.follows.holds-at-none.0 c.node.follows.holds-at-none.1 (c.tree-2.ensures ∙ c.used_values.ensures.tree ∙ c.node.follows.holds-at-none.0)
     c.as_slice.ensures.value c.requires.sized c.in_ok-env.ensures.values c.in_ok-values.ensures seen alone

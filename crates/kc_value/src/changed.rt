@@ -1,0 +1,123 @@
+//! The value of a node where the user's own makes a difference to it.
+
+ghost use Rattle.std.specs.Prelude.{◌≡◌, IfOk};
+ghost use Rattle.kc_tree.specs.Accepted.{IsAccepted};
+ghost use Rattle.kc_tree.specs.Nodes.{IsNodeOf};
+ghost use Rattle.kc_value.specs.Assignable.{same_tri};
+ghost use Rattle.kc_value.specs.Assignment.{assignment_of};
+ghost use Rattle.kc_value.specs.ChangedValue.{same_user_value, same_mark, same_member, same_value, changed_value};
+ghost use Rattle.kc_value.specs.Solution.{AreSolved};
+ghost use Rattle.kc_value.specs.UserValues.{UserValues, IsUserFor};
+ghost use Rattle.kc_value.specs.Without.{value_without, IsOwned};
+
+use crate::assignable_values::is_same;
+use crate::value::{Value, copy_of};
+use crate::without::{selection_alone, selects_none, value_alone};
+use kc_tree::{Node, SymId, Tree, Tri, UserVal};
+use std::alloc::{AllocError, Global};
+
+/// Whether two user values are the same, texts as they are spelt.
+fn is_same_user_value(left: &UserVal, right: &UserVal) -> bool
+    ensures { result ≡ same_user_value left.now right.now }
+{
+    match (left, right) {
+        (UserVal::Tri(left), UserVal::Tri(right)) => is_same(*left, *right),
+        (UserVal::Text(left), UserVal::Text(right)) => left.as_str() == right.as_str(),
+        (UserVal::Tri(_), UserVal::Text(_)) | (UserVal::Text(_), UserVal::Tri(_)) => false,
+    }
+}
+
+/// Whether two marks are the same.
+fn is_same_mark(left: bool, right: bool) -> bool
+    ensures { result ≡ same_mark left right }
+{
+    if left { right } else { !right }
+}
+
+/// Whether two members, or none, are the same.
+fn is_same_member(left: Option<SymId>, right: Option<SymId>) -> bool
+    ensures { result ≡ same_member left right }
+{
+    match (left, right) {
+        (None, None) => true,
+        (Some(left), Some(right)) => left.0 == right.0,
+        (None, Some(_)) | (Some(_), None) => false,
+    }
+}
+
+/// Whether two values are the same.
+fn is_same_value(left: &Value, right: &Value) -> bool
+    ensures { result ≡ same_value left.now right.now }
+{
+    match (left, right) {
+        (Value::Tri(left), Value::Tri(right)) => is_same(*left, *right),
+        (Value::Shown(left, marked), Value::Shown(right, remarked)) => {
+            is_same_user_value(left, right) && is_same_mark(*marked, *remarked)
+        }
+        (Value::Member(left), Value::Member(right)) => is_same_member(*left, *right),
+        _ => false,
+    }
+}
+
+/// A copy of the value of a node, by its number.
+fn value_at(
+    alloc: Global,
+    tree: &Tree,
+    values: &[Option<Value>],
+    node: Node,
+) -> Result<Value, AllocError>
+    ensures value { IfOk result (λ v. v ≡ assignment_of tree.now values.now node) }
+    ensures accepted { IsAccepted tree.now }
+{
+    match values.get(tree.number(node)) {
+        Some(Some(value)) => copy_of(alloc, value),
+        Some(None) | None => Ok(Value::Tri(Tri::No)),
+    }
+}
+
+/// The value of a node without the user's own, over the values of all nodes.
+fn value_without(
+    alloc: Global,
+    tree: &Tree,
+    values: &[Option<Value>],
+    node: Node,
+) -> Result<Value, AllocError>
+    requires inside { IsNodeOf tree.now node }
+    requires owned { IsOwned node }
+    requires accepted { IsAccepted tree.now }
+    ensures { (u : UserValues) → IsUserFor tree.now u → AreSolved tree.now u values.now
+        → IfOk result (λ v. v ≡ value_without tree.now u node) }
+{
+    if selects_none(tree, node) {
+        return Ok(Value::Member(None));
+    }
+    match node {
+        Node::Val(symbol) => value_alone(alloc, tree, symbol, values),
+        Node::Sel(choice) => Ok(selection_alone(tree, choice, values)),
+        Node::Vis(_) | Node::Mode(_) => unreachable!(),
+    }
+}
+
+/// The value of a symbol or the selection of a choice, where it is another than it would be without the user's own value
+/// or chosen member, all else as it is; none where that makes no difference. `values` has the value of each node, by
+/// number. Texts are compared as they are spelt.
+///
+/// The error comes where memory is refused.
+pub fn changed_value(
+    alloc: Global,
+    tree: &Tree,
+    values: &[Option<Value>],
+    node: Node,
+) -> Result<Option<Value>, AllocError>
+    requires inside { IsNodeOf tree.now node }
+    requires owned { IsOwned node }
+    ensures value { (u : UserValues) → IsUserFor tree.now u → AreSolved tree.now u values.now
+        → IfOk result (λ v. v ≡ changed_value tree.now u node) }
+{
+    let value = value_at(alloc, tree, values, node)?;
+    let without = value_without(alloc, tree, values, node)?;
+    if is_same_value(&value, &without) {
+        return Ok(None);
+    }
+    Ok(Some(value))
+}
