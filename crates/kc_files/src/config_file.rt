@@ -1,5 +1,4 @@
 ghost use Rattle.std.specs.Prelude.{◌≡◌, ◌&&◌, not, None, option_map, IfOk, OnOk};
-ghost use Rattle.std.specs.Option.{option_copied};
 ghost use Rattle.std.specs.String.{string_bytes};
 ghost use Rattle.kc_outline.specs.Entries.{IsEntryOf};
 ghost use Rattle.kc_tree.specs.Nodes.{all_nodes};
@@ -13,30 +12,11 @@ ghost use Rattle.kc_files.specs.DraftValue.{with_option, with_pieces, Agrees};
 
 use crate::draft::Draft;
 use crate::prefix::Prefix;
+use crate::symbols::{type_of, written_value};
 use crate::titles::{comment_title, menu_title};
-use kc_tree::{BlockId, CommentId, Entry, Node, SymId, SymbolType, Tree, UserVal};
+use kc_tree::{BlockId, CommentId, Entry, SymId, Tree};
 use kc_value::{Resolver, Value, all_values, comment_condition, menu_condition};
 use std::alloc::{AllocError, Global};
-
-/// The value of a symbol that has a line.
-fn written_value<'a>(tree: &Tree, values: &'a [Option<Value>], symbol: SymId) -> Option<&'a UserVal>
-    ensures { option_copied result ≡ written_value (assignment_of tree.now values.now) symbol }
-{
-    match values.get(tree.number(Node::Val(symbol))) {
-        Some(Some(Value::Shown(value, true))) => Some(value),
-        Some(Some(Value::Shown(_, false) | Value::Tri(_) | Value::Member(_)) | None) | None => None,
-    }
-}
-
-/// The declared type of a symbol.
-fn type_of(tree: &Tree, symbol: SymId) -> SymbolType
-    ensures { result ≡ type_of tree.now symbol }
-{
-    match tree.symbols().get(symbol.0 as usize) {
-        Some(symbol) => symbol.kind(),
-        None => SymbolType::Bool,
-    }
-}
 
 /// Whether a menu has its lines: its condition is not n.
 fn menu_shows(tree: &Tree, menu: BlockId, values: &[Option<Value>]) -> bool

@@ -2,35 +2,14 @@
 
 ghost use Rattle.std.specs.Prelude.{◌≡◌, ◌++◌, codes, OnOk, if◌then◌else◌, []};
 ghost use Rattle.std.specs.String.{string_bytes};
-ghost use Rattle.kc_files.specs.ConfigText.{line_start, line_end, tri_line, text_line, symbol_line, line_of_symbol, title_of, title_block, end_of, end_line};
+ghost use Rattle.kc_files.specs.ConfigText.{symbol_line, line_of_symbol, title_of, title_block, end_of, end_line};
 ghost use Rattle.kc_files.specs.DraftValue.{draft_of, with_piece};
 
 use crate::prefix::Prefix;
-use crate::quoting::push_text_in;
-use kc_tree::{SymbolType, Tri, UserVal};
+use crate::symbol_line::push_symbol_line;
+use kc_tree::{SymbolType, UserVal};
 use std::alloc::AllocError;
 use std::marker::Model;
-
-/// What stands before the prefix: an n symbol's line is a comment.
-fn line_start(value: Tri) -> &'static str
-    ensures { result.now ≡ line_start value }
-{
-    match value {
-        Tri::No => "# ",
-        Tri::Module | Tri::Yes => "",
-    }
-}
-
-/// What stands after the name, with the end of the line.
-fn line_end(value: Tri) -> &'static str
-    ensures { result.now ≡ line_end value }
-{
-    match value {
-        Tri::No => " is not set\n",
-        Tri::Module => "=m\n",
-        Tri::Yes => "=y\n",
-    }
-}
 
 /// The text so far, and what has to be known of its last piece. Contracts see the record of both.
 #[derive(Debug, Drop)]
@@ -80,39 +59,6 @@ impl Draft {
         Ok(())
     }
 
-    /// Appends the line of a bool or tristate symbol.
-    fn push_tri(&mut self, prefix: &Prefix, name: &str, value: Tri) -> Result<(), AllocError>
-        ensures { OnOk result (self.new
-            ≡ with_piece self.old (line_of_symbol (tri_line prefix.now name.now value))) }
-    {
-        self.push_gap()?;
-        self.text.push_str(line_start(value))?;
-        self.text.push_str(prefix.as_str())?;
-        self.text.push_str(name)?;
-        self.text.push_str(line_end(value))?;
-        Ok(())
-    }
-
-    /// Appends the line of a symbol of another type: a string stands in quotes.
-    fn push_text(
-        &mut self,
-        prefix: &Prefix,
-        name: &str,
-        kind: SymbolType,
-        value: &str,
-    ) -> Result<(), AllocError>
-        ensures { OnOk result (self.new
-            ≡ with_piece self.old (line_of_symbol (text_line prefix.now name.now kind value.now))) }
-    {
-        self.push_gap()?;
-        self.text.push_str(prefix.as_str())?;
-        self.text.push_str(name)?;
-        self.text.push_str("=")?;
-        push_text_in(&mut self.text, kind, value)?;
-        self.text.push_str("\n")?;
-        Ok(())
-    }
-
     /// Appends the line of a symbol of a type.
     pub(crate) fn push_symbol(
         &mut self,
@@ -124,10 +70,8 @@ impl Draft {
         ensures { OnOk result (self.new
             ≡ with_piece self.old (line_of_symbol (symbol_line prefix.now name.now kind value.now))) }
     {
-        match value {
-            UserVal::Tri(tri) => self.push_tri(prefix, name, *tri),
-            UserVal::Text(text) => self.push_text(prefix, name, kind, text.as_str()),
-        }
+        self.push_gap()?;
+        push_symbol_line(&mut self.text, prefix, name, kind, value)
     }
 
     /// Appends the title of a menu or a comment, between lines of `#` and after an empty line.

@@ -1,0 +1,216 @@
+//! The list of symbols that have no value from the user yet.
+
+ghost use Rattle.std.specs.Prelude.{◌≡◌, ◌++◌, nat_le, count_by, IfOk, OnOk};
+ghost use Rattle.std.specs.String.{string_bytes};
+ghost use Rattle.kc_outline.specs.Entries.{IsEntryOf};
+ghost use Rattle.kc_tree.specs.declared.node.Node.TheVariants.{Vis};
+ghost use Rattle.kc_tree.specs.Nodes.{IsNodeOf, all_nodes};
+ghost use Rattle.kc_value.specs.Assignment.{assignment_of};
+ghost use Rattle.kc_value.specs.ChoiceRule.{is_visible};
+ghost use Rattle.kc_value.specs.Solution.{AreSolved};
+ghost use Rattle.kc_value.specs.UserValues.{IsUserFor};
+ghost use Rattle.kc_files.specs.NewText.{has_another_value, is_new_symbol, visible_count, is_new_member, is_new, new_line, new_entry, new_text_of};
+
+use crate::prefix::Prefix;
+use crate::symbol_line::push_text_line;
+use crate::symbols::{choice_of, is_symbol, is_tri_type, selected_member, shown_text, type_of, visibility};
+use kc_tree::{ChoiceId, Entry, SymId, Tree};
+use kc_value::{Resolver, User, Value, all_values, assignable_among};
+use std::alloc::{AllocError, Global};
+
+/// Whether a user can give the symbol another value than it has.
+fn has_another_value(
+    alloc: Global,
+    tree: &Tree,
+    user: &User,
+    values: &[Option<Value>],
+    symbol: SymId,
+) -> Result<bool, AllocError>
+    requires inside { IsNodeOf tree.now (Vis symbol) }
+    requires sized { IsUserFor tree.now user.now }
+    requires solved { AreSolved tree.now user.now values.now }
+    ensures { IfOk result (λ b. b ≡ has_another_value tree.now user.now symbol) }
+{
+    if !is_tri_type(type_of(tree, symbol)) {
+        return Ok(true);
+    }
+    let assignable = assignable_among(alloc, tree, values, symbol)?;
+    Ok(assignable.len() >= 2)
+}
+
+/// Whether a symbol that is no member of a choice is visible, has no value from the user, and can have another one.
+fn is_new_symbol(
+    alloc: Global,
+    tree: &Tree,
+    user: &User,
+    values: &[Option<Value>],
+    symbol: SymId,
+) -> Result<bool, AllocError>
+    requires inside { IsNodeOf tree.now (Vis symbol) }
+    requires sized { IsUserFor tree.now user.now }
+    requires solved { AreSolved tree.now user.now values.now }
+    ensures { IfOk result (λ b. b ≡ is_new_symbol tree.now user.now symbol) }
+{
+    if visibility(tree, values, symbol).is_no() || user.get(symbol).is_some() {
+        return Ok(false);
+    }
+    has_another_value(alloc, tree, user, values, symbol)
+}
+
+/// Whether a symbol of the tree is visible.
+fn is_visible(tree: &Tree, values: &[Option<Value>], symbol: SymId) -> bool
+    ensures { result ≡ is_visible tree.now (assignment_of tree.now values.now) symbol }
+{
+    match tree.symbols().get(symbol.0 as usize) {
+        Some(_) => !visibility(tree, values, symbol).is_no(),
+        None => false,
+    }
+}
+
+/// How many of the members are visible.
+fn visible_count(tree: &Tree, values: &[Option<Value>], members: &[SymId]) -> usize
+    ensures { result ≡ count_by (is_visible tree.now (assignment_of tree.now values.now)) members.now }
+{
+    members
+        .iter()
+        .filter(|member| is_visible(tree, values, **member))
+        .count()
+}
+
+/// Whether two members of a choice or more are visible.
+fn has_another_member(tree: &Tree, values: &[Option<Value>], choice: ChoiceId) -> bool
+    ensures { result ≡ nat_le 2 (visible_count tree.now (assignment_of tree.now values.now) choice) }
+{
+    match tree.choices().get(choice.0 as usize) {
+        Some(choice) => visible_count(tree, values, choice.members()) >= 2,
+        None => false,
+    }
+}
+
+/// Whether a member is the selected one of its choice, the user chose none, and another one is visible, too.
+fn is_new_member(
+    tree: &Tree,
+    user: &User,
+    values: &[Option<Value>],
+    choice: ChoiceId,
+    member: SymId,
+) -> bool
+    requires { AreSolved tree.now user.now values.now }
+    ensures { result ≡ is_new_member tree.now user.now choice member }
+{
+    is_symbol(selected_member(tree, values, choice), member)
+        && user.chosen(choice).is_none()
+        && has_another_member(tree, values, choice)
+}
+
+/// Whether a symbol has a line.
+fn is_new(
+    alloc: Global,
+    tree: &Tree,
+    user: &User,
+    values: &[Option<Value>],
+    symbol: SymId,
+) -> Result<bool, AllocError>
+    requires inside { IsNodeOf tree.now (Vis symbol) }
+    requires sized { IsUserFor tree.now user.now }
+    requires solved { AreSolved tree.now user.now values.now }
+    ensures { IfOk result (λ b. b ≡ is_new tree.now user.now symbol) }
+{
+    match choice_of(tree, symbol) {
+        Some(choice) => Ok(is_new_member(tree, user, values, choice, symbol)),
+        None => is_new_symbol(alloc, tree, user, values, symbol),
+    }
+}
+
+/// Appends the line of a symbol that has one.
+fn push_symbol(
+    alloc: Global,
+    out: &mut String,
+    tree: &Tree,
+    user: &User,
+    prefix: &Prefix,
+    values: &[Option<Value>],
+    symbol: SymId,
+) -> Result<(), AllocError>
+    requires inside { IsNodeOf tree.now (Vis symbol) }
+    requires sized { IsUserFor tree.now user.now }
+    requires solved { AreSolved tree.now user.now values.now }
+    ensures { OnOk result (string_bytes out.new
+        ≡ string_bytes out.old ++ new_line tree.now user.now prefix.now symbol) }
+{
+    if is_new(alloc, tree, user, values, symbol)? {
+        let value = shown_text(tree, values, symbol);
+        push_text_line(out, prefix, tree.name(symbol), type_of(tree, symbol), value)?;
+    }
+    Ok(())
+}
+
+/// Appends what an entry gives.
+fn push_entry(
+    alloc: Global,
+    out: &mut String,
+    tree: &Tree,
+    user: &User,
+    prefix: &Prefix,
+    values: &[Option<Value>],
+    entry: Entry,
+) -> Result<(), AllocError>
+    requires inside { IsEntryOf tree.now entry }
+    requires sized { IsUserFor tree.now user.now }
+    requires solved { AreSolved tree.now user.now values.now }
+    ensures { OnOk result (string_bytes out.new
+        ≡ string_bytes out.old ++ new_entry tree.now user.now prefix.now entry) }
+{
+    match entry {
+        Entry::Symbol(symbol) => push_symbol(alloc, out, tree, user, prefix, values, symbol),
+        Entry::Again(_)
+        | Entry::Choice(_)
+        | Entry::Menu(_)
+        | Entry::EndMenu(_)
+        | Entry::Comment(_) => Ok(()),
+    }
+}
+
+/// Appends what the entries of the tree give.
+fn push_entries(
+    alloc: Global,
+    out: &mut String,
+    tree: &Tree,
+    user: &User,
+    prefix: &Prefix,
+    values: &[Option<Value>],
+) -> Result<(), AllocError>
+    requires sized { IsUserFor tree.now user.now }
+    requires solved { AreSolved tree.now user.now values.now }
+    ensures { OnOk result (string_bytes out.new
+        ≡ string_bytes out.old ++ new_text_of tree.now user.now prefix.now) }
+{
+    for entry in tree.entries() {
+        push_entry(alloc, out, tree, user, prefix, values, *entry)?;
+    }
+    Ok(())
+}
+
+/// The list of symbols that the user can still decide on, each with the value that it has (`listnewconfig` of the
+/// kernel's scripts/kconfig/conf.c; which symbols these are is this project's own): in the order of their first
+/// definitions, a line `CONFIG_X=value` for each visible symbol without a user value that can have another value, n as
+/// `CONFIG_X=n` and a string in quotes; and one for the selected member of each choice without a chosen member that has
+/// two visible members or more. The resolver keeps its tree and its user values. Only memory can be refused.
+pub fn new_text<R: Resolver>(
+    alloc: Global,
+    resolver: &mut R,
+    prefix: &Prefix,
+) -> Result<String, AllocError>
+    requires { IsUserFor (R.tree_of resolver.old) (R.user_of resolver.old) }
+    ensures text { IfOk result (λ text. string_bytes text
+        ≡ new_text_of (R.tree_of resolver.old) (R.user_of resolver.old) prefix.now) }
+    ensures tree { R.tree_of resolver.new ≡ R.tree_of resolver.old }
+    ensures user { R.user_of resolver.new ≡ R.user_of resolver.old }
+    ensures grew { R.grew resolver.old resolver.new (all_nodes (R.tree_of resolver.old)) }
+{
+    let values = all_values(alloc, resolver)?;
+    let mut text = String::new(alloc);
+    let (tree, user) = (resolver.tree(), resolver.user());
+    push_entries(alloc, &mut text, tree, user, prefix, values.as_slice())?;
+    Ok(text)
+}

@@ -1,0 +1,106 @@
+//! What is written of a symbol of a tree: its type, its choice and its value.
+
+ghost use Rattle.std.specs.Prelude.{◌≡◌};
+ghost use Rattle.std.specs.Option.{option_copied};
+ghost use Rattle.kc_outline.specs.TreeValue.{choice_of};
+ghost use Rattle.kc_tree.specs.declared.node.Node.TheVariants.{Vis, Val};
+ghost use Rattle.kc_tree.specs.SymbolFaults.{is_tri_type};
+ghost use Rattle.kc_value.specs.Assignment.{as_tri, as_text, assignment_of, value_at};
+ghost use Rattle.kc_value.specs.ChoiceRule.{is_symbol, selected_in};
+ghost use Rattle.kc_files.specs.ConfigText.{type_of, written_value};
+
+use kc_tree::{ChoiceId, Node, SymId, SymbolType, Tree, Tri, UserVal};
+use kc_value::Value;
+
+/// The declared type of a symbol, bool for a number that the tree doesn't have.
+pub(crate) fn type_of(tree: &Tree, symbol: SymId) -> SymbolType
+    ensures { result ≡ type_of tree.now symbol }
+{
+    match tree.symbols().get(symbol.0 as usize) {
+        Some(symbol) => symbol.kind(),
+        None => SymbolType::Bool,
+    }
+}
+
+/// The choice that a symbol is a member of.
+pub(crate) fn choice_of(tree: &Tree, symbol: SymId) -> Option<ChoiceId>
+    ensures { result ≡ choice_of tree.now symbol }
+{
+    tree.symbols().get(symbol.0 as usize)?.choice()
+}
+
+/// The value of a symbol that is written.
+pub(crate) fn written_value<'a>(
+    tree: &Tree,
+    values: &'a [Option<Value>],
+    symbol: SymId,
+) -> Option<&'a UserVal>
+    ensures { option_copied result ≡ written_value (assignment_of tree.now values.now) symbol }
+{
+    match values.get(tree.number(Node::Val(symbol))) {
+        Some(Some(Value::Shown(value, true))) => Some(value),
+        Some(Some(Value::Shown(_, false) | Value::Tri(_) | Value::Member(_)) | None) | None => None,
+    }
+}
+
+/// The value of a node, by its number.
+fn value_at<'a>(tree: &Tree, values: &'a [Option<Value>], node: Node) -> Option<&'a Value>
+    ensures { option_copied result ≡ value_at tree.now values.now node }
+{
+    match values.get(tree.number(node)) {
+        Some(Some(value)) => Some(value),
+        Some(None) | None => None,
+    }
+}
+
+/// The visibility of a symbol.
+pub(crate) fn visibility(tree: &Tree, values: &[Option<Value>], symbol: SymId) -> Tri
+    ensures { result ≡ as_tri (assignment_of tree.now values.now (Vis symbol)) }
+{
+    match value_at(tree, values, Node::Vis(symbol)) {
+        Some(value) => value.as_tri(),
+        None => Tri::No,
+    }
+}
+
+/// The text of the value that a symbol shows.
+pub(crate) fn shown_text<'a>(tree: &Tree, values: &'a [Option<Value>], symbol: SymId) -> &'a str
+    ensures { result.now ≡ as_text (assignment_of tree.now values.now (Val symbol)) }
+{
+    match value_at(tree, values, Node::Val(symbol)) {
+        Some(value) => value.as_text(),
+        None => "n",
+    }
+}
+
+/// The selected member of a choice of the tree.
+pub(crate) fn selected_member(
+    tree: &Tree,
+    values: &[Option<Value>],
+    choice: ChoiceId,
+) -> Option<SymId>
+    ensures { result ≡ selected_in tree.now (assignment_of tree.now values.now) choice }
+{
+    tree.choices().get(choice.0 as usize)?;
+    value_at(tree, values, Node::Sel(choice))?.as_member()
+}
+
+/// Whether the values of a type are n, m and y.
+pub(crate) fn is_tri_type(kind: SymbolType) -> bool
+    ensures { result ≡ is_tri_type kind }
+{
+    match kind {
+        SymbolType::Bool | SymbolType::Tristate => true,
+        SymbolType::String | SymbolType::Int | SymbolType::Hex => false,
+    }
+}
+
+/// Whether a symbol is this one.
+pub(crate) fn is_symbol(wanted: Option<SymId>, symbol: SymId) -> bool
+    ensures { result ≡ is_symbol wanted symbol }
+{
+    match wanted {
+        Some(wanted) => wanted.0 == symbol.0,
+        None => false,
+    }
+}
