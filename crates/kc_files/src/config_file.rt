@@ -6,7 +6,7 @@ ghost use Rattle.kc_outline.specs.TreeValue.{name_of};
 ghost use Rattle.kc_statement.specs.Tristate.{is_no};
 ghost use Rattle.kc_value.specs.Assignment.{Assignment, assignment_of};
 ghost use Rattle.kc_value.specs.Conditions.{menu_condition, comment_condition};
-ghost use Rattle.kc_value.specs.Solution.{solution};
+ghost use Rattle.kc_value.specs.Solution.{solution, IsOnlySolution};
 ghost use Rattle.kc_files.specs.ConfigText.{type_of, symbol_line, written_value, title_block, end_line, menu_title, comment_title, line_of_symbol, title_of, end_of, opens_menu, piece_if, piece_of, pieces_after, config_text_of};
 ghost use Rattle.kc_files.specs.DraftValue.{with_option, with_pieces, Agrees};
 
@@ -168,6 +168,8 @@ pub fn config_text<R: Resolver>(
     ensures text { IfOk result (λ text. string_bytes text
         ≡ config_text_of (R.tree_of resolver.old) prefix.now header.now
         (solution (R.tree_of resolver.old) (R.user_of resolver.old))) }
+    ensures solved { IsOnlySolution (R.tree_of resolver.old) (R.user_of resolver.old)
+        (solution (R.tree_of resolver.old) (R.user_of resolver.old)) }
     ensures tree { R.tree_of resolver.new ≡ R.tree_of resolver.old }
     ensures user { R.user_of resolver.new ≡ R.user_of resolver.old }
     ensures grew { R.grew resolver.old resolver.new (all_nodes (R.tree_of resolver.old)) }

@@ -5,8 +5,8 @@ ghost use Rattle.std.specs.String.{string_bytes};
 ghost use Rattle.kc_outline.specs.Entries.{IsEntryOf};
 ghost use Rattle.kc_tree.specs.declared.node.Node.TheVariants.{Vis};
 ghost use Rattle.kc_tree.specs.Nodes.{IsNodeOf, all_nodes};
-ghost use Rattle.kc_value.specs.Solution.{AreSolved};
-ghost use Rattle.kc_value.specs.UserValues.{UserValues, IsUserFor};
+ghost use Rattle.kc_value.specs.Solution.{solution, AreSolved, IsOnlySolution};
+ghost use Rattle.kc_value.specs.UserValues.{UserValues};
 ghost use Rattle.kc_files.specs.DefaultText.{value_line, is_changed_member, member_line, default_line, default_entry, default_text_of};
 
 use crate::prefix::Prefix;
@@ -26,7 +26,7 @@ fn push_value(
     symbol: SymId,
 ) -> Result<(), AllocError>
     requires { IsNodeOf tree.now (Vis symbol) }
-    ensures { (u : UserValues) → IsUserFor tree.now u → AreSolved tree.now u values.now
+    ensures { (u : UserValues) → AreSolved tree.now u values.now
         → OnOk result (string_bytes out.new ≡ string_bytes out.old ++ value_line tree.now u prefix.now symbol) }
 {
     if let Some(Value::Shown(value, _)) = changed_value(alloc, tree, values, Node::Val(symbol))? {
@@ -43,7 +43,7 @@ fn is_changed_member(
     choice: ChoiceId,
     member: SymId,
 ) -> Result<bool, AllocError>
-    ensures { (u : UserValues) → IsUserFor tree.now u → AreSolved tree.now u values.now
+    ensures { (u : UserValues) → AreSolved tree.now u values.now
         → IfOk result (λ b. b ≡ is_changed_member tree.now u choice member) }
 {
     if tree.choices().get(choice.0 as usize).is_none() {
@@ -66,7 +66,7 @@ fn push_member(
     choice: ChoiceId,
     member: SymId,
 ) -> Result<(), AllocError>
-    ensures { (u : UserValues) → IsUserFor tree.now u → AreSolved tree.now u values.now
+    ensures { (u : UserValues) → AreSolved tree.now u values.now
         → OnOk result (string_bytes out.new ≡ string_bytes out.old ++ member_line tree.now u prefix.now choice member) }
 {
     if is_changed_member(alloc, tree, values, choice, member)? {
@@ -85,7 +85,7 @@ fn push_symbol(
     symbol: SymId,
 ) -> Result<(), AllocError>
     requires { IsNodeOf tree.now (Vis symbol) }
-    ensures { (u : UserValues) → IsUserFor tree.now u → AreSolved tree.now u values.now
+    ensures { (u : UserValues) → AreSolved tree.now u values.now
         → OnOk result (string_bytes out.new ≡ string_bytes out.old ++ default_line tree.now u prefix.now symbol) }
 {
     match choice_of(tree, symbol) {
@@ -104,7 +104,7 @@ fn push_entry(
     entry: Entry,
 ) -> Result<(), AllocError>
     requires { IsEntryOf tree.now entry }
-    ensures { (u : UserValues) → IsUserFor tree.now u → AreSolved tree.now u values.now
+    ensures { (u : UserValues) → AreSolved tree.now u values.now
         → OnOk result (string_bytes out.new ≡ string_bytes out.old ++ default_entry tree.now u prefix.now entry) }
 {
     match entry {
@@ -125,7 +125,7 @@ fn push_entries(
     prefix: &Prefix,
     values: &[Option<Value>],
 ) -> Result<(), AllocError>
-    ensures { (u : UserValues) → IsUserFor tree.now u → AreSolved tree.now u values.now
+    ensures { (u : UserValues) → AreSolved tree.now u values.now
         → OnOk result (string_bytes out.new ≡ string_bytes out.old ++ default_text_of tree.now u prefix.now) }
 {
     for entry in tree.entries() {
@@ -144,9 +144,10 @@ pub fn defconfig_text<R: Resolver>(
     resolver: &mut R,
     prefix: &Prefix,
 ) -> Result<String, AllocError>
-    requires { IsUserFor (R.tree_of resolver.old) (R.user_of resolver.old) }
     ensures text { IfOk result (λ text. string_bytes text
         ≡ default_text_of (R.tree_of resolver.old) (R.user_of resolver.old) prefix.now) }
+    ensures solved { IsOnlySolution (R.tree_of resolver.old) (R.user_of resolver.old)
+        (solution (R.tree_of resolver.old) (R.user_of resolver.old)) }
     ensures tree { R.tree_of resolver.new ≡ R.tree_of resolver.old }
     ensures user { R.user_of resolver.new ≡ R.user_of resolver.old }
     ensures grew { R.grew resolver.old resolver.new (all_nodes (R.tree_of resolver.old)) }

@@ -6,7 +6,7 @@ ghost use Rattle.kc_outline.specs.Entries.{IsEntryOf};
 ghost use Rattle.kc_outline.specs.TreeValue.{name_of};
 ghost use Rattle.kc_tree.specs.Nodes.{all_nodes};
 ghost use Rattle.kc_value.specs.Assignment.{assignment_of};
-ghost use Rattle.kc_value.specs.Solution.{solution, AreSolved};
+ghost use Rattle.kc_value.specs.Solution.{solution, AreSolved, IsOnlySolution};
 ghost use Rattle.kc_value.specs.UserValues.{UserValues};
 ghost use Rattle.kc_files.specs.HeaderText.{has_hex_sign, missing_hex_sign, text_in_c, has_no_macro, macro_line, tri_macro, text_macro, symbol_macro, macro_of, entry_macro, header_text_of};
 
@@ -212,6 +212,8 @@ pub fn header_text<R: Resolver>(
     ensures text { IfOk result (λ text. string_bytes text
         ≡ header_text_of (R.tree_of resolver.old) prefix.now
         (solution (R.tree_of resolver.old) (R.user_of resolver.old))) }
+    ensures solved { IsOnlySolution (R.tree_of resolver.old) (R.user_of resolver.old)
+        (solution (R.tree_of resolver.old) (R.user_of resolver.old)) }
     ensures tree { R.tree_of resolver.new ≡ R.tree_of resolver.old }
     ensures user { R.user_of resolver.new ≡ R.user_of resolver.old }
     ensures grew { R.grew resolver.old resolver.new (all_nodes (R.tree_of resolver.old)) }

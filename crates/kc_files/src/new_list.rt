@@ -7,7 +7,7 @@ ghost use Rattle.kc_tree.specs.declared.node.Node.TheVariants.{Vis};
 ghost use Rattle.kc_tree.specs.Nodes.{IsNodeOf, all_nodes};
 ghost use Rattle.kc_value.specs.Assignment.{assignment_of};
 ghost use Rattle.kc_value.specs.ChoiceRule.{is_visible};
-ghost use Rattle.kc_value.specs.Solution.{AreSolved};
+ghost use Rattle.kc_value.specs.Solution.{solution, AreSolved, IsOnlySolution};
 ghost use Rattle.kc_value.specs.UserValues.{IsUserFor};
 ghost use Rattle.kc_files.specs.NewText.{has_another_value, is_new_symbol, visible_count, is_new_member, is_new, new_line, new_entry, new_text_of};
 
@@ -201,9 +201,10 @@ pub fn new_text<R: Resolver>(
     resolver: &mut R,
     prefix: &Prefix,
 ) -> Result<String, AllocError>
-    requires { IsUserFor (R.tree_of resolver.old) (R.user_of resolver.old) }
     ensures text { IfOk result (λ text. string_bytes text
         ≡ new_text_of (R.tree_of resolver.old) (R.user_of resolver.old) prefix.now) }
+    ensures solved { IsOnlySolution (R.tree_of resolver.old) (R.user_of resolver.old)
+        (solution (R.tree_of resolver.old) (R.user_of resolver.old)) }
     ensures tree { R.tree_of resolver.new ≡ R.tree_of resolver.old }
     ensures user { R.user_of resolver.new ≡ R.user_of resolver.old }
     ensures grew { R.grew resolver.old resolver.new (all_nodes (R.tree_of resolver.old)) }

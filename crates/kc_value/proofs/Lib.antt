@@ -13,4 +13,5 @@ pub mod NumeralLemmas
 pub mod PartLemmas
 pub mod SlotLemmas
 pub mod SolutionLaws
+pub mod UserLemmas
 pub mod WithoutLemmas

@@ -1,5 +1,5 @@
 -- The value without a user value or a chosen member is the rule without it.
-use Rattle.std.proofs.Common.{◌≡◌, ◌<◌, true, false, List, Option, Some, None, length, if◌then◌else◌, get_or-set_same, refl, sym, ap, ◌∙◌, subst, arith}
+use Rattle.std.proofs.Common.{◌≡◌, true, false, List, Option, Some, None, if◌then◌else◌, refl, sym, ap, ◌∙◌, subst}
 use Rattle.std.specs.List.{slice_get}
 use Rattle.std.specs.Option.{option_map_or}
 use Rattle.kc_statement.specs.declared.id.SymId.{SymId}
@@ -17,18 +17,18 @@ use Rattle.kc_value.specs.Assignment.{Assignment, as_tri, assignment_of}
 use Rattle.kc_value.specs.ChoiceRule.{selection}
 use Rattle.kc_value.specs.Rule.{rule, symbol_rule}
 use Rattle.kc_value.specs.Solution.{solution, AreSolved}
-use Rattle.kc_value.specs.UserValues.{UserValues, IsUserFor, user_value, chosen_in, with_value, with_chosen}
+use Rattle.kc_value.specs.UserValues.{UserValues, user_value, chosen_in, with_value, with_chosen}
 use Rattle.kc_value.specs.Without.{user_without, selects_none, value_without}
 use Rattle.kc_value.proofs.Agreement.{rule_agrees}
+use Rattle.kc_value.proofs.SlotLemmas.{none_set}
 
 -- a symbol of the tree
-pub without_found : (t : TreeValue) (u : UserValues) (a : Assignment) (s : SymId) (x : SymbolValue) → IsUserFor t u → s.0 < length t.symbols
+pub without_found : (t : TreeValue) (u : UserValues) (a : Assignment) (s : SymId) (x : SymbolValue)
     → slice_get t.symbols s.0 ≡ Some x → symbol_rule t a s x (as_tri (a (Vis s))) None ≡ rule t (with_value u s None) a (Val s)
 unfolding rule
-without_found t u a s x sized within found =
-    let room : s.0 < length u.values = omega (arith, within, sized.values) in
+without_found t u a s x found =
     sym (ap (λ o. option_map_or (λ y. symbol_rule t a s y (as_tri (a (Vis s))) (user_value (with_value u s None) s)) o (Level No)) found
-    ∙ ap (λ w. symbol_rule t a s x (as_tri (a (Vis s))) w) (get_or-set_same u.values s.0 None None room))
+    ∙ ap (λ w. symbol_rule t a s x (as_tri (a (Vis s))) w) (none_set u.values s.0))
 
 -- a number that the tree doesn't have
 pub without_none : (t : TreeValue) (u : UserValues) (a : Assignment) (s : SymId) → slice_get t.symbols s.0 ≡ None → Level No ≡ rule t (with_value u s None) a (Val s)
@@ -37,13 +37,12 @@ without_none t u a s past =
     sym (ap (λ o. option_map_or (λ y. symbol_rule t a s y (as_tri (a (Vis s))) (user_value (with_value u s None) s)) o (Level No)) past)
 
 -- a choice of the tree
-pub alone_found : (t : TreeValue) (u : UserValues) (a : Assignment) (c : ChoiceId) (x : ChoiceValue) → IsUserFor t u → c.0 < length t.choices
+pub alone_found : (t : TreeValue) (u : UserValues) (a : Assignment) (c : ChoiceId) (x : ChoiceValue)
     → slice_get t.choices c.0 ≡ Some x → Member (selection t a c x None) ≡ rule t (with_chosen u c None) a (Sel c)
 unfolding rule
-alone_found t u a c x sized within found =
-    let room : c.0 < length u.chosen = omega (arith, within, sized.chosen) in
+alone_found t u a c x found =
     sym (ap (λ o. option_map_or (λ y. Member (selection t a c y (chosen_in (with_chosen u c None) c))) o (Level No)) found
-    ∙ ap (λ m. Member (selection t a c x m)) (get_or-set_same u.chosen c.0 None None room))
+    ∙ ap (λ m. Member (selection t a c x m)) (none_set u.chosen c.0))
 
 -- a number that the tree doesn't have
 pub alone_none : (t : TreeValue) (u : UserValues) (a : Assignment) (c : ChoiceId) → slice_get t.choices c.0 ≡ None → Level No ≡ rule t (with_chosen u c None) a (Sel c)

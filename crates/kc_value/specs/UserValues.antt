@@ -1,9 +1,10 @@
 -- What a user gave and chose: this project's own.
-use Rattle.std.specs.Prelude.{◌≡◌, List, Option, None, slice_index_or, slice_set, replicate, length}
+use Rattle.std.specs.Prelude.{◌≡◌, true, List, Option, Some, None, slice_index_or, slice_set, replicate, length}
 use Rattle.kc_statement.specs.declared.id.SymId.{SymId}
 use Rattle.kc_outline.specs.declared.id.ChoiceId.{ChoiceId}
 use Rattle.kc_tree.specs.declared.user_value.UserVal.{UserVal}
 use Rattle.kc_outline.specs.TreeValue.{TreeValue}
+use Rattle.kc_tree.specs.Fits.{fits}
 
 -- a value or none for each symbol, and a chosen member or none for each choice, by number
 pub record UserValues : Type 0 where
@@ -28,7 +29,9 @@ with_chosen u c m = record { values = u.values; chosen = slice_set u.chosen c.0 
 abbrev pub no_values : TreeValue → UserValues
 no_values t = record { values = replicate (length t.symbols) None; chosen = replicate (length t.choices) None }
 
--- the values are those of a user of this tree: one place for each symbol and for each choice
+-- the values are those of a user of this tree: one place for each symbol and for each choice, and each symbol takes the
+-- value that it was given
 pub record IsUserFor (t : TreeValue) (u : UserValues) : Type 0 where
   pub values : length u.values ≡ length t.symbols
   pub chosen : length u.chosen ≡ length t.choices
+  pub fitting : (s : SymId) (v : UserVal) → user_value u s ≡ Some v → fits t s v ≡ true

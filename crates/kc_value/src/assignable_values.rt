@@ -137,8 +137,7 @@ pub fn assignable<R: Resolver>(
     resolver: &mut R,
     symbol: SymId,
 ) -> Result<Vec<Tri>, AllocError>
-    requires inside { IsNodeOf (R.tree_of resolver.old) (Vis symbol) }
-    requires sized { IsUserFor (R.tree_of resolver.old) (R.user_of resolver.old) }
+    requires { IsNodeOf (R.tree_of resolver.old) (Vis symbol) }
     ensures values { IfOk result
         (λ v. v.items ≡ assignable_values (R.tree_of resolver.old) (R.user_of resolver.old) symbol) }
     ensures tree { R.tree_of resolver.new ≡ R.tree_of resolver.old }

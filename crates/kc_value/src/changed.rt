@@ -1,13 +1,12 @@
 //! The value of a node where the user's own makes a difference to it.
 
 ghost use Rattle.std.specs.Prelude.{◌≡◌, IfOk};
-ghost use Rattle.kc_tree.specs.Accepted.{IsAccepted};
 ghost use Rattle.kc_tree.specs.Nodes.{IsNodeOf};
 ghost use Rattle.kc_value.specs.Assignable.{same_tri};
 ghost use Rattle.kc_value.specs.Assignment.{assignment_of};
 ghost use Rattle.kc_value.specs.ChangedValue.{same_user_value, same_mark, same_member, same_value, changed_value};
 ghost use Rattle.kc_value.specs.Solution.{AreSolved};
-ghost use Rattle.kc_value.specs.UserValues.{UserValues, IsUserFor};
+ghost use Rattle.kc_value.specs.UserValues.{UserValues};
 ghost use Rattle.kc_value.specs.Without.{value_without, IsOwned};
 
 use crate::assignable_values::is_same;
@@ -66,8 +65,7 @@ fn value_at(
     values: &[Option<Value>],
     node: Node,
 ) -> Result<Value, AllocError>
-    ensures value { IfOk result (λ v. v ≡ assignment_of tree.now values.now node) }
-    ensures accepted { IsAccepted tree.now }
+    ensures { IfOk result (λ v. v ≡ assignment_of tree.now values.now node) }
 {
     match values.get(tree.number(node)) {
         Some(Some(value)) => copy_of(alloc, value),
@@ -84,8 +82,7 @@ fn value_without(
 ) -> Result<Value, AllocError>
     requires inside { IsNodeOf tree.now node }
     requires owned { IsOwned node }
-    requires accepted { IsAccepted tree.now }
-    ensures { (u : UserValues) → IsUserFor tree.now u → AreSolved tree.now u values.now
+    ensures { (u : UserValues) → AreSolved tree.now u values.now
         → IfOk result (λ v. v ≡ value_without tree.now u node) }
 {
     if selects_none(tree, node) {
@@ -111,7 +108,7 @@ pub fn changed_value(
 ) -> Result<Option<Value>, AllocError>
     requires inside { IsNodeOf tree.now node }
     requires owned { IsOwned node }
-    ensures value { (u : UserValues) → IsUserFor tree.now u → AreSolved tree.now u values.now
+    ensures value { (u : UserValues) → AreSolved tree.now u values.now
         → IfOk result (λ v. v ≡ changed_value tree.now u node) }
 {
     let value = value_at(alloc, tree, values, node)?;

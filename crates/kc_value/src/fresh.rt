@@ -1,6 +1,7 @@
 ghost use Rattle.std.specs.Prelude.{◌≡◌, IfOk};
 ghost use Rattle.kc_tree.specs.Nodes.{IsNodeOf};
 ghost use Rattle.kc_value.specs.Solution.{solution, IsOnlySolution};
+ghost use Rattle.kc_value.specs.UserValues.{IsUserFor};
 
 use crate::evaluation::apply_rule;
 use crate::marking::marked_nodes;
@@ -46,11 +47,13 @@ pub struct Fresh<'a> {
     tree: &'a Tree,
     user: &'a User,
     answer: Value,
+    ghost fitting: { IsUserFor tree.now user.now },
 }
 
 impl<'a> Fresh<'a> {
-    /// A resolver for the values of this user over this tree.
+    /// A resolver for the values of this user over this tree, which are those of a user of it.
     pub fn new(alloc: Global, tree: &'a Tree, user: &'a User) -> Fresh<'a>
+        requires { IsUserFor tree.now user.now }
         ensures tree { ⟦<Fresh<'a> as Resolver>⟧.tree_of result ≡ tree.entry.now }
         ensures user { ⟦<Fresh<'a> as Resolver>⟧.user_of result ≡ user.entry.now }
     {

@@ -5,7 +5,7 @@ ghost use Rattle.kc_tree.specs.declared.node.Node.{Node};
 ghost use Rattle.kc_tree.specs.Nodes.{IsNodeOf, all_nodes};
 ghost use Rattle.kc_tree.specs.Uses.{Uses};
 ghost use Rattle.kc_value.specs.Assignment.{assignment_of};
-ghost use Rattle.kc_value.specs.Solution.{solution, AreSolved};
+ghost use Rattle.kc_value.specs.Solution.{solution, AreSolved, IsOnlySolution};
 
 use crate::resolver::Resolver;
 use crate::slots::empty_slots;
@@ -25,7 +25,8 @@ fn value_at<R: Resolver>(alloc: Global, resolver: &mut R, node: Node) -> Result<
     Ok(value)
 }
 
-/// A copy of the value of each node, by number: all nodes of the tree are asked.
+/// A copy of the value of each node in the only solution, by number: all nodes of the tree are asked. That there is one,
+/// and no other, holds whatever the call returns.
 ///
 /// The error comes where memory is refused.
 pub fn all_values<R: Resolver>(
@@ -33,6 +34,8 @@ pub fn all_values<R: Resolver>(
     resolver: &mut R,
 ) -> Result<Vec<Option<Value>>, AllocError>
     ensures values { IfOk result (λ v. AreSolved (R.tree_of resolver.old) (R.user_of resolver.old) v.items) }
+    ensures solved { IsOnlySolution (R.tree_of resolver.old) (R.user_of resolver.old)
+        (solution (R.tree_of resolver.old) (R.user_of resolver.old)) }
     ensures tree { R.tree_of resolver.new ≡ R.tree_of resolver.old }
     ensures user { R.user_of resolver.new ≡ R.user_of resolver.old }
     ensures grew { R.grew resolver.old resolver.new (all_nodes (R.tree_of resolver.old)) }

@@ -5,8 +5,8 @@ ghost use Rattle.kc_tree.specs.declared.node.Node.{Node};
 ghost use Rattle.kc_outline.specs.TreeValue.{TreeValue};
 ghost use Rattle.kc_tree.specs.Nodes.{IsNodeOf};
 ghost use Rattle.kc_tree.specs.Reached.{Reached};
-ghost use Rattle.kc_value.specs.UserValues.{UserValues};
-ghost use Rattle.kc_value.specs.Solution.{solution};
+ghost use Rattle.kc_value.specs.UserValues.{UserValues, IsUserFor};
+ghost use Rattle.kc_value.specs.Solution.{solution, IsOnlySolution};
 
 use crate::user::User;
 use crate::value::Value;
@@ -32,15 +32,18 @@ pub trait Resolver {
     fn tree(&self) -> &Tree
         ensures { result.now ≡ tree_of self.now };
 
-    /// The user values that are answered for.
+    /// The user values that are answered for: those of a user of the tree.
     fn user(&self) -> &User
-        ensures { result.now ≡ user_of self.now };
+        ensures user { result.now ≡ user_of self.now }
+        ensures fitting { IsUserFor (tree_of self.now) (user_of self.now) };
 
-    /// The value of a node of the tree in the only solution. Tree and user values stay, whatever the call
-    /// returns. The error comes where memory is refused.
+    /// The value of a node of the tree in the only solution. That there is one, and no other, holds whatever the call
+    /// returns; tree and user values stay. The error comes where memory is refused.
     fn node(&mut self, node: Node) -> Result<&Value, AllocError>
         requires { IsNodeOf (tree_of self.old) node }
         ensures value { IfOk result (λ v. v.now ≡ solution (tree_of self.old) (user_of self.old) node) }
+        ensures solved { IsOnlySolution (tree_of self.old) (user_of self.old) (solution (tree_of self.old) (user_of self.old)) }
+        ensures fitting { IsUserFor (tree_of self.old) (user_of self.old) }
         ensures* after_borrow { sem 𝓛 (Rests Self.row self.entry (λ new.
             (tree_of new ≡ tree_of self.old) × (user_of new ≡ user_of self.old)
             × grew self.old new (node ∷ []) × OnOk result (knows new node))) };

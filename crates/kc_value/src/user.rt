@@ -1,6 +1,10 @@
-ghost use Rattle.std.specs.Prelude.{◌≡◌, ◌<◌, length, replicate, None, Some, IfOk};
+//! What a user gave and chose.
+ghost use Rattle.std.specs.Prelude.{◌≡◌, ◌<◌, length, replicate, None, Some, true, IfOk};
 ghost use Rattle.std.specs.Option.{option_copied};
-ghost use Rattle.kc_value.specs.UserValues.{no_values, with_value, with_chosen, user_value, chosen_in};
+ghost use Rattle.kc_outline.specs.TreeValue.{TreeValue};
+ghost use Rattle.kc_tree.specs.Fits.{fits};
+ghost use Rattle.kc_value.specs.UserValues.{UserValues, IsUserFor, no_values, with_value, with_chosen, user_value, chosen_in};
+ghost use Rattle.kc_value.specs.Solution.{solution, IsOnlySolution};
 
 use crate::slots::{clear_slots, empty_slots};
 use kc_tree::{ChoiceId, SymId, Tree, UserVal};
@@ -9,6 +13,9 @@ use std::marker::Model;
 
 /// The values that a user gave to the symbols of a tree, and the members that he chose. Contracts see a value or none
 /// for each symbol, and a member or none for each choice.
+///
+/// The values belong to a tree: each symbol of it has a place, and takes the value that it was given, as `Tree::fits`
+/// says.
 #[derive(Debug, Drop)]
 pub struct User {
     values: Vec<Option<UserVal>>,
@@ -24,11 +31,15 @@ impl Model for User {
 }
 
 impl User {
-    /// No values and no chosen members, with room for one of each, so that setting one takes no memory.
+    /// No values and no chosen members, with room for one of each, so that setting one takes no memory. Whatever is set
+    /// later, the tree has one solution, and no other.
     ///
     /// The error comes where memory is refused for that room.
+    #[tactic(auto, using(crate::proofs::UserLemmas::empty_fits))]
     pub fn empty(alloc: Global, tree: &Tree) -> Result<User, AllocError>
-        ensures { IfOk result (λ u. u ≡ no_values tree.now) }
+        ensures values { IfOk result (λ u. u ≡ no_values tree.now) }
+        ensures user { IfOk result (IsUserFor tree.now) }
+        ensures solved { (u : UserValues) → IsOnlySolution tree.now u (solution tree.now u) }
     {
         Ok(User {
             values: empty_slots(alloc, tree.symbols().len())?,
@@ -36,36 +47,45 @@ impl User {
         })
     }
 
-    /// Gives a symbol of the tree a value, in place of the one that it has; those of all others stay. It
+    /// Gives a symbol of the tree a value that it takes, in place of the one that it has; those of all others stay. It
     /// is kept, whether the symbol is visible or not, until it is set again or removed.
+    #[tactic(auto, using(crate::proofs::UserLemmas::value_room))]
     pub fn set(&mut self, symbol: SymId, value: UserVal)
-        requires { symbol.0 < length self.old.values }
-        ensures { self.new ≡ with_value self.old symbol (Some value) }
+        requires fits { (t : TreeValue) × IsUserFor t self.old × (fits t symbol value ≡ true) }
+        ensures values { self.new ≡ with_value self.old symbol (Some value) }
+        ensures user { (t : TreeValue) → IsUserFor t self.old → fits t symbol value ≡ true → IsUserFor t self.new }
     {
         self.values[symbol.0 as usize] = Some(value);
     }
 
     /// Takes the value of a symbol of the tree away, if it has one; those of all others stay.
+    #[tactic(auto, using(crate::proofs::UserLemmas::none_kept))]
     pub fn unset(&mut self, symbol: SymId)
         requires { symbol.0 < length self.old.values }
-        ensures { self.new ≡ with_value self.old symbol None }
+        ensures values { self.new ≡ with_value self.old symbol None }
+        ensures user { (t : TreeValue) → IsUserFor t self.old → IsUserFor t self.new }
     {
         self.values[symbol.0 as usize] = None;
     }
 
     /// Takes all values and chosen members away.
+    #[tactic(auto, using(crate::proofs::UserLemmas::all_removed, crate::proofs::UserLemmas::empty_fits))]
     pub fn reset(&mut self)
         ensures values { self.new.values ≡ replicate (length self.old.values) None }
         ensures chosen { self.new.chosen ≡ replicate (length self.old.chosen) None }
+        ensures none { (t : TreeValue) → IsUserFor t self.old → self.new ≡ no_values t }
+        ensures user { (t : TreeValue) → IsUserFor t self.old → IsUserFor t self.new }
     {
         clear_slots(&mut self.values);
         clear_slots(&mut self.chosen);
     }
 
     /// Chooses a member of a choice of the tree, or none, in place of the one that was chosen; all else stays.
+    #[tactic(auto, using(crate::proofs::UserLemmas::member_kept))]
     pub fn choose(&mut self, choice: ChoiceId, member: Option<SymId>)
         requires { choice.0 < length self.old.chosen }
-        ensures { self.new ≡ with_chosen self.old choice member }
+        ensures values { self.new ≡ with_chosen self.old choice member }
+        ensures user { (t : TreeValue) → IsUserFor t self.old → IsUserFor t self.new }
     {
         self.chosen[choice.0 as usize] = member;
     }

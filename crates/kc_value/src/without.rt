@@ -2,10 +2,11 @@
 
 ghost use Rattle.std.specs.Prelude.{◌≡◌, IfOk, [], ◌∷◌, true, false};
 ghost use Rattle.kc_tree.specs.declared.node.Node.TheVariants.{Val, Sel};
+ghost use Rattle.kc_tree.specs.Accepted.{IsAccepted};
 ghost use Rattle.kc_tree.specs.Nodes.{IsNodeOf};
 ghost use Rattle.kc_value.specs.Assignment.{assignment_of};
 ghost use Rattle.kc_value.specs.Rule.{rule};
-ghost use Rattle.kc_value.specs.UserValues.{UserValues, IsUserFor};
+ghost use Rattle.kc_value.specs.UserValues.{UserValues};
 ghost use Rattle.kc_value.specs.Without.{user_without, value_without, selects_none, IsOwned};
 
 use crate::choice_value::selection_value;
@@ -19,11 +20,13 @@ use std::alloc::{AllocError, Global};
 
 /// Whether the node is the selection of an optional choice, which without a chosen member selects none.
 pub(crate) fn selects_none(tree: &Tree, node: Node) -> bool
-    ensures { result ≡ selects_none tree.now node }
+    ensures test { result ≡ selects_none tree.now node }
+    ensures accepted { IsAccepted tree.now }
 {
+    let choices = tree.choices();
     match node {
         Node::Vis(_) | Node::Val(_) | Node::Mode(_) => false,
-        Node::Sel(choice) => match tree.choices().get(choice.0 as usize) {
+        Node::Sel(choice) => match choices.get(choice.0 as usize) {
             Some(choice) => choice.is_optional(),
             None => false,
         },
@@ -37,7 +40,7 @@ pub(crate) fn value_alone(
     symbol: SymId,
     env: &[Option<Value>],
 ) -> Result<Value, AllocError>
-    ensures { (u : UserValues) → IsUserFor tree.now u → IfOk result (λ v. v
+    ensures { (u : UserValues) → IfOk result (λ v. v
         ≡ rule tree.now (user_without u (Val symbol)) (assignment_of tree.now env.now) (Val symbol)) }
 {
     match tree.symbols().get(symbol.0 as usize) {
@@ -51,8 +54,8 @@ pub(crate) fn value_alone(
 
 /// What the rule gives a selection without a chosen member, over the values of the nodes that it is computed from.
 pub(crate) fn selection_alone(tree: &Tree, choice: ChoiceId, env: &[Option<Value>]) -> Value
-    ensures { (u : UserValues) → IsUserFor tree.now u
-        → result ≡ rule tree.now (user_without u (Sel choice)) (assignment_of tree.now env.now) (Sel choice) }
+    ensures { (u : UserValues) →
+        result ≡ rule tree.now (user_without u (Sel choice)) (assignment_of tree.now env.now) (Sel choice) }
 {
     match tree.choices().get(choice.0 as usize) {
         Some(found) => Value::Member(selection_value(tree, choice, found, None, env)),
@@ -72,9 +75,9 @@ pub fn without_user<R: Resolver>(
 ) -> Result<Value, AllocError>
     requires inside { IsNodeOf (R.tree_of resolver.old) node }
     requires owned { IsOwned node }
-    requires sized { IsUserFor (R.tree_of resolver.old) (R.user_of resolver.old) }
     ensures value { IfOk result
         (λ v. v ≡ value_without (R.tree_of resolver.old) (R.user_of resolver.old) node) }
+    ensures accepted { IsAccepted (R.tree_of resolver.old) }
     ensures tree { R.tree_of resolver.new ≡ R.tree_of resolver.old }
     ensures user { R.user_of resolver.new ≡ R.user_of resolver.old }
     ensures grew { R.grew resolver.old resolver.new (node ∷ []) }

@@ -1,7 +1,9 @@
 use Rattle.std.proofs.Common.{[], ◌∷◌, ◌++◌, ℕ, length, drop, sym, ap, ◌∙◌, subst, arith}
+use Rattle.kc_tree.specs.Accepted.{IsAccepted}
 use Rattle.kc_tree.specs.Nodes.{IsNodeOf, all_nodes, node_at}
 use Rattle.kc_tree.proofs.NodeNumbers.{at_below}
 use Rattle.kc_value.proofs.GatheringLemmas.{once_more_in_all, one_more_counted, next_of_all, none_of_all, all_values_right}
+use Rattle.kc_value.proofs.SolutionLaws.{one_solution}
 use Rattle.kc_value.proofs.gathering.all_values.Goals as goal
 
 pub value_at-requires : goal.value_at-requires
@@ -61,3 +63,23 @@ returns-clause-values g c =
     let k : ℕ = length c.loop-node.values.items in
     let done = none_of_all t k kept.within (sym c.in-None.ensures.steps.0 ∙ kept.left) in
     all_values_right t u k c.loop-node.values.items done kept.values
+
+pub returns-in_err-values-clause-solved : goal.returns-in_err-values-clause-solved
+returns-in_err-values-clause-solved g c =
+    let r = g.R.Resolver in
+    one_solution (r.tree_of c.args.resolver.now) (r.user_of c.args.resolver.now) (subst IsAccepted c.tree.ensures c.node_count.ensures.accepted)
+
+pub returns-in_err-value-clause-solved : goal.returns-in_err-value-clause-solved
+returns-in_err-value-clause-solved g c =
+    let r = g.R.Resolver in
+    one_solution (r.tree_of c.args.resolver.now) (r.user_of c.args.resolver.now) (subst IsAccepted c.tree.ensures c.node_count.ensures.accepted)
+
+pub returns-in_err-push-clause-solved : goal.returns-in_err-push-clause-solved
+returns-in_err-push-clause-solved g c =
+    let r = g.R.Resolver in
+    one_solution (r.tree_of c.args.resolver.now) (r.user_of c.args.resolver.now) (subst IsAccepted c.tree.ensures c.node_count.ensures.accepted)
+
+pub returns-clause-solved : goal.returns-clause-solved
+returns-clause-solved g c =
+    let r = g.R.Resolver in
+    one_solution (r.tree_of c.args.resolver.now) (r.user_of c.args.resolver.now) (subst IsAccepted c.tree.ensures c.node_count.ensures.accepted)

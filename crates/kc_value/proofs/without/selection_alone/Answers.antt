@@ -1,4 +1,4 @@
-use Rattle.std.proofs.Common.{◌≡◌, ◌<◌, Some, None, length, sym, ap, ◌∙◌, subst, true≢false}
+use Rattle.std.proofs.Common.{◌≡◌, ◌<◌, Some, None, length, sym, ap, ◌∙◌, true≢false}
 use Rattle.std.specs.List.{slice_get}
 use Rattle.std.proofs.lemmas.Option.{slice_get-get_or}
 use Rattle.kc_value.specs.declared.value.Value.TheVariants.{Member}
@@ -8,7 +8,7 @@ use Rattle.kc_value.proofs.WithoutLemmas.{alone_found, alone_none}
 use Rattle.kc_value.proofs.without.selection_alone.Goals as goal
 
 pub returns-in-Some : goal.returns-in-Some
-returns-in-Some c = λ u sized.
+returns-in-Some c = λ u.
     let t = c.args.tree.now in
     let a = assignment_of t c.args.env.now in
     let i = c.args.choice.0 in
@@ -19,11 +19,10 @@ returns-in-Some c = λ u sized.
     ∙ slice_get-get_or c.choices.result.now i x place
     ∙ ap Some (sym c.in-Some.ensures.lookup.1)
     in
-    let within : i < length t.choices = subst (λ xs. i < length xs) c.choices.ensures.choices place in
-    ap Member c.selection_value.ensures ∙ alone_found t u a c.args.choice x sized within found
+    ap Member c.selection_value.ensures ∙ alone_found t u a c.args.choice x found
 
 pub returns-in-None : goal.returns-in-None
-returns-in-None c = λ u sized.
+returns-in-None c = λ u.
     let t = c.args.tree.now in
     let i = c.args.choice.0 in
     let past : slice_get t.choices i ≡ None =

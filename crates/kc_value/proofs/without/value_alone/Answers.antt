@@ -1,4 +1,4 @@
-use Rattle.std.proofs.Common.{◌≡◌, ◌<◌, Some, None, length, sym, ap, ◌∙◌, subst, true≢false}
+use Rattle.std.proofs.Common.{◌≡◌, ◌<◌, Some, None, length, sym, ap, ◌∙◌, true≢false}
 use Rattle.std.specs.List.{slice_get}
 use Rattle.std.proofs.lemmas.Option.{slice_get-get_or}
 use Rattle.std.proofs.lemmas.Result.{IfOk-weaker}
@@ -11,7 +11,7 @@ use Rattle.kc_value.proofs.WithoutLemmas.{without_found, without_none}
 use Rattle.kc_value.proofs.without.value_alone.Goals as goal
 
 pub returns-in-Some : goal.returns-in-Some
-returns-in-Some c = λ u sized.
+returns-in-Some c = λ u.
     let t = c.args.tree.now in
     let a = assignment_of t c.args.env.now in
     let s = c.args.symbol in
@@ -22,13 +22,12 @@ returns-in-Some c = λ u sized.
     ∙ slice_get-get_or c.symbols.result.now s.0 x place
     ∙ ap Some (sym c.in-Some.ensures.lookup.1)
     in
-    let within : s.0 < length t.symbols = subst (λ xs. s.0 < length xs) c.symbols.ensures.symbols place in
-    let last = ap (λ v. symbol_rule t a s x v None) c.node_tri-visibility.ensures ∙ without_found t u a s x sized within found in
+    let last = ap (λ v. symbol_rule t a s x v None) c.node_tri-visibility.ensures ∙ without_found t u a s x found in
     IfOk-weaker c.symbol_value.result (λ v. v ≡ symbol_rule t a s x c.node_tri-visibility.result None) (λ v. v ≡ rule t (with_value u s None) a (Val s))
     (λ v is. is ∙ last) c.symbol_value.ensures
 
 pub returns-in-None : goal.returns-in-None
-returns-in-None c = λ u sized.
+returns-in-None c = λ u.
     let t = c.args.tree.now in
     let i = c.args.symbol.0 in
     let past : slice_get t.symbols i ≡ None =

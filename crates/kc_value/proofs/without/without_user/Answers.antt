@@ -4,7 +4,6 @@ use Rattle.kc_tree.specs.declared.node.Node.{Node}
 use Rattle.kc_tree.specs.declared.node.Node.TheVariants.{Val}
 use Rattle.kc_value.specs.Assignment.{assignment_of}
 use Rattle.kc_value.specs.Rule.{rule}
-use Rattle.kc_value.specs.UserValues.{IsUserFor}
 use Rattle.kc_value.specs.Without.{user_without, selects_none, value_without}
 use Rattle.kc_value.proofs.WithoutLemmas.{without_member, without_solution}
 use Rattle.kc_value.proofs.without.without_user.Goals as goal
@@ -13,7 +12,7 @@ pub returns-then-selects_none-clause-value : goal.returns-then-selects_none-clau
 returns-then-selects_none-clause-value g c =
     let t = g.R.Resolver.tree_of c.args.resolver.now in
     let u = g.R.Resolver.user_of c.args.resolver.now in
-    without_member t u c.args.node (sym (ap (λ x. selects_none x c.args.node) c.tree.ensures) ∙ sym c.selects_none.ensures ∙ c.if-selects_none.true)
+    without_member t u c.args.node (sym (ap (λ x. selects_none x c.args.node) c.tree.ensures) ∙ sym c.selects_none.ensures.test ∙ c.if-selects_none.true)
 
 pub returns-in-Val-clause-value : goal.returns-in-Val-clause-value
 returns-in-Val-clause-value g c =
@@ -23,13 +22,13 @@ returns-in-Val-clause-value g c =
     let now = c.tree-in-Val.result.now in
     let lent = c.as_slice.result.now in
     let tree : now ≡ t = c.tree-in-Val.ensures ∙ c.used_values.ensures.tree in
-    let some : selects_none t n ≡ false = sym (ap (λ x. selects_none x n) c.tree.ensures) ∙ sym c.selects_none.ensures ∙ c.if-selects_none.false in
+    let some : selects_none t n ≡ false = sym (ap (λ x. selects_none x n) c.tree.ensures) ∙ sym c.selects_none.ensures.test ∙ c.if-selects_none.false in
     IfOk-weaker c.value_alone.result
     (λ v. v ≡ rule now (user_without u (Val c.in-Val.symbol)) (assignment_of now lent) (Val c.in-Val.symbol))
     (λ v. v ≡ value_without t u n)
     (λ v is. without_solution t _ now u _ n c.in_ok-env.env.items lent v refl refl tree c.as_slice.ensures.value some c.in_ok-env.ensures.values
     (subst (λ (m : Node). v ≡ rule now (user_without u m) (assignment_of now lent) m) (sym c.in-Val.is) is))
-    (c.value_alone.ensures u (subst (λ x. IsUserFor x u) (sym tree) c.requires.sized))
+    (c.value_alone.ensures u)
 
 pub returns-in-Sel-clause-value : goal.returns-in-Sel-clause-value
 returns-in-Sel-clause-value g c =
@@ -39,7 +38,7 @@ returns-in-Sel-clause-value g c =
     let now = c.tree-in-Sel.result.now in
     let lent = c.as_slice-in-Sel.result.now in
     let tree : now ≡ t = c.tree-in-Sel.ensures ∙ c.used_values.ensures.tree in
-    let some : selects_none t n ≡ false = sym (ap (λ x. selects_none x n) c.tree.ensures) ∙ sym c.selects_none.ensures ∙ c.if-selects_none.false in
-    let is = c.selection_alone.ensures u (subst (λ x. IsUserFor x u) (sym tree) c.requires.sized) in
+    let some : selects_none t n ≡ false = sym (ap (λ x. selects_none x n) c.tree.ensures) ∙ sym c.selects_none.ensures.test ∙ c.if-selects_none.false in
+    let is = c.selection_alone.ensures u in
     without_solution t _ now u _ n c.in_ok-env.env.items lent c.selection_alone.result refl refl tree c.as_slice-in-Sel.ensures.value some c.in_ok-env.ensures.values
     (subst (λ (m : Node). c.selection_alone.result ≡ rule now (user_without u m) (assignment_of now lent) m) (sym c.in-Sel.is) is)
