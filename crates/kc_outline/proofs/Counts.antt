@@ -11,7 +11,7 @@ use Rattle.kc_outline.specs.TreeOf.{map_placed, choice_at, choice_heads}
 use Rattle.kc_outline.specs.TreeValue.{TreeValue}
 use Rattle.kc_outline.proofs.OwnerLaws.{counted}
 
-length-map_placed : {A B : Type 0} (f : ℕ → A → B) (k : ℕ) (xs : List A) → length (map_placed f k xs) ≡ length xs
+pub length-map_placed : {A B : Type 0} (f : ℕ → A → B) (k : ℕ) (xs : List A) → length (map_placed f k xs) ≡ length xs
 length-map_placed f k [] = refl
 length-map_placed f k (x ∷ xs) = let rest = length-map_placed f (k + 1) xs in omega arith
 

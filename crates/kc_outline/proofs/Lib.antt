@@ -6,7 +6,10 @@ pub mod ChangeLaws
 pub mod ContextLaws
 pub mod Counts
 pub mod Examples
+pub mod FirstLaws
 pub mod FormLaws
+pub mod MemberLaws
+pub mod NameLaws
 pub mod OpenChoices
 pub mod OutlineFacts
 pub mod OwnerLaws

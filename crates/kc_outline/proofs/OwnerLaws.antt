@@ -33,13 +33,13 @@ use Rattle.kc_outline.proofs.OutlineFacts.{named_by_form}
 use Rattle.kc_outline.proofs.ReadingLaws.{word_of, form_word}
 
 -- ---- how many a reading makes
-within_limit : (no_name deep past : Bool) → (if no_name then Some Malformed else (if deep || past then Some Limit else None)) ≡ None → past ≡ false
+pub within_limit : (no_name deep past : Bool) → (if no_name then Some Malformed else (if deep || past then Some Limit else None)) ≡ None → past ≡ false
 within_limit true deep past h = cc
 within_limit false true past h = cc
 within_limit false false true h = cc
 within_limit false false false h = refl
 
-abbrev definitions_made : Option BlockId → Statement → List (Option BlockId × SymId)
+abbrev pub definitions_made : Option BlockId → Statement → List (Option BlockId × SymId)
 definitions_made b s = cons_option (option_map (λ d. (b, d)) (defined_in s)) []
 
 abbrev blocks_made : Option BlockId → Statement → List (Option BlockId × (BlockKind × List Expr))
@@ -51,7 +51,7 @@ comments_made b h s = cons_option (option_map (λ t. (b, (h, t))) (title_in s)) 
 abbrev choices_made : Statement → Option Owner → List BlockId
 choices_made s o = cons_option (choice_block s o) []
 
-one_definition : (b : Option BlockId) (s : Statement) → is_past_limit s ≡ false → length (definitions_made b s) ≡ cond (option_map_or is_config_word (word_of s) false) 1 0
+pub one_definition : (b : Option BlockId) (s : Statement) → is_past_limit s ≡ false → length (definitions_made b s) ≡ cond (option_map_or is_config_word (word_of s) false) 1 0
 one_definition b statement.EndOfFile h = refl
 one_definition b (statement.Config (Some s)) h = refl
 one_definition b (statement.Config None) h = cc

@@ -5,6 +5,8 @@ pub mod Entries
 pub mod FirstProblem
 pub mod Grouped
 pub mod LineFaults
+pub mod Members
+pub mod NameList
 pub mod Outline
 pub mod Reader
 pub mod TreeOf

@@ -1,7 +1,9 @@
 //! From logical lines to what they define, or the first fault.
 
 ghost use Rattle.std.specs.Prelude.{◌≡◌, ◌≤◌, ◌+◌, ◌^◌, ◌==◌, ◌∷◌, List, All, count_by, length, nat_lt, IfOk, IfErr, OnOk};
-ghost use Rattle.kc_outline.specs.Entries.{IsEntryOf};
+ghost use Rattle.kc_outline.specs.Entries.{IsEntryOf, first_symbols, symbol_ids};
+ghost use Rattle.kc_outline.specs.Members.{AreMembersListed};
+ghost use Rattle.kc_outline.specs.NameList.{AreNames};
 ghost use Rattle.kc_text.specs.LineValue.{LineValue};
 ghost use Rattle.kc_statement.specs.Keywords.{is_choice};
 ghost use Rattle.kc_outline.specs.TreeOf.{IsOutlineOf};
@@ -127,6 +129,9 @@ pub fn read_outline(alloc: Global, lines: &[Line<'_>]) -> Result<Outline, LineFa
     ensures choices { IfOk result (λ o. length o.choices ≡ count_by is_choice lines.now) }
     ensures named { IfOk result (λ o. length o.names ≡ length o.symbols) }
     ensures entries { IfOk result (λ o. All (IsEntryOf o) o.entries) }
+    ensures members { IfOk result AreMembersListed }
+    ensures firsts { IfOk result (λ o. first_symbols o.entries ≡ symbol_ids o) }
+    ensures names { IfOk result (λ o. AreNames o.names) }
     ensures fault { IfErr result (IsReadFault lines.now) }
 {
     if are_too_many(lines) {

@@ -2,6 +2,7 @@ pub mod ChoiceLines
 pub mod CollectedLaws
 pub mod DependencyLaws
 pub mod ExprLaws
+pub mod GroupLaws
 pub mod LinkLaws
 pub mod NodeGraphLaws
 pub mod NodeNumbers

@@ -7,14 +7,16 @@ use Rattle.std.proofs.lemmas.Bool.{cases_lt}
 use Rattle.kc_tree.specs.declared.fault.ChoiceProblem.{ChoiceProblem}
 use Rattle.kc_tree.specs.declared.fault.NamedNode.{NamedNode}
 use Rattle.kc_tree.specs.Uses.{Uses}
-use Rattle.kc_tree.specs.Accepted.{IsTableOf}
+use Rattle.kc_tree.specs.Accepted.{IsAccepted, IsTableOf}
 use Rattle.kc_tree.specs.declared.node.Node.{Node}
 use Rattle.kc_outline.specs.TreeValue.{TreeValue}
 use Rattle.kc_tree.specs.Nodes.{node_in, number_of, node_at}
 use Rattle.kc_tree.specs.Order.{IsOrder, IsLoop}
 use Rattle.kc_tree.specs.declared.tree.Tree.TheInside.{Inside}
 use Rattle.kc_tree.specs.Inside.{IsWellMade}
-use Rattle.kc_outline.specs.Entries.{IsEntryOf}
+use Rattle.kc_outline.specs.Entries.{IsEntryOf, first_symbols, symbol_ids}
+use Rattle.kc_outline.specs.Members.{AreMembersListed}
+use Rattle.kc_outline.specs.NameList.{AreNames}
 use Rattle.kc_text.specs.LineValue.{LineValue}
 use Rattle.kc_outline.specs.declared.id.ChoiceId.{ChoiceId}
 use Rattle.kc_tree.specs.declared.fault.TreeFault.{TreeFault}
@@ -25,6 +27,7 @@ use Rattle.kc_tree.specs.Faults.{IsNamed, IsNamedLoop, IsLoopless, IsTreeProblem
 use Rattle.kc_tree.specs.Linked.{named_node, IsLinkFault, IsReported}
 use Rattle.kc_graph.specs.Graph as graph
 use Rattle.kc_tree.specs.NodeGraph.{IsGraphOf}
+use Rattle.kc_tree.proofs.GroupLaws.{grouped}
 use Rattle.kc_tree.proofs.NodeNumbers.{at_below, below_at}
 use Rattle.kc_tree.proofs.WithinLaws.{used_within}
 use Rattle.kc_tree.proofs.NodeGraphLaws.{loop_of_nodes, loop_of_numbers, table_of_uses, table_of_users}
@@ -103,19 +106,36 @@ choice_reported lines t p c is (Choice problem path number) h = record {
 choice_reported lines t p c is (Loop nodes) h = absurd h
 choice_reported lines t p c is NoMemory h = h
 
+-- what the lines define, without faults
+pub record IsSoundOutline (t : TreeValue) : Type 0 where
+  pub few : length t.symbols ≤ 65535
+  pub few_choices : length t.choices ≤ 2 ^ 30
+  pub named : length t.names ≡ length t.symbols
+  pub names : AreNames t.names
+  pub entries : All (IsEntryOf t) t.entries
+  pub firsts : first_symbols t.entries ≡ symbol_ids t
+  pub members : AreMembersListed t
+  pub faultless : outline_fault t ≡ None
+
+pub accepted : (t : TreeValue) (order : List Node) → IsSoundOutline t → IsOrder t order → IsAccepted t
+accepted t order sound in_order = record {
+  few = sound.few;
+  few_choices = sound.few_choices;
+  named = sound.named;
+  names = sound.names;
+  grouped = grouped t sound.faultless sound.members;
+  within = used_within t;
+  ordered = (order, in_order);
+  entries = sound.entries;
+  firsts = sound.firsts;
+}
+
 -- the fields of a tree, from the graph of its nodes and the users in it
-pub well_made : (a : Inside) (g users : List (List ℕ)) → length a.outline.symbols ≤ 65535 → length a.outline.choices ≤ 2 ^ 30 → length a.outline.names ≡ length a.outline.symbols → All (IsEntryOf a.outline) a.outline.entries
+pub well_made : (a : Inside) (g users : List (List ℕ)) → IsSoundOutline a.outline
     → IsGraphOf a.outline g → IsOrder a.outline a.order.items → graph.IsConverse g users
     → a.uses ≡ map (map (node_in (length a.outline.symbols))) g → a.used_by ≡ map (map (node_in (length a.outline.symbols))) users → IsWellMade a
-well_made a g users few few_choices named entries h order converse is_uses is_users = record {
-  accepted = record {
-    few = few;
-    few_choices = few_choices;
-    named = named;
-    within = used_within a.outline;
-    ordered = (a.order.items, order);
-    entries = entries;
-  };
+well_made a g users sound h order converse is_uses is_users = record {
+  accepted = accepted a.outline a.order.items sound order;
   order = order;
   uses = subst (λ (rows : List (List Node)). IsTableOf a.outline (Uses a.outline) rows) (sym is_uses) (table_of_uses a.outline g (used_within a.outline) h);
   used_by = subst (λ (rows : List (List Node)). IsTableOf a.outline (λ n m. Uses a.outline m n) rows) (sym is_users) (table_of_users a.outline g users h converse);

@@ -7,8 +7,11 @@ ghost use Rattle.kc_statement.specs.Keywords.{is_choice};
 ghost use Rattle.kc_outline.specs.TreeValue.{choice_title};
 ghost use Rattle.kc_tree.specs.Nodes.{node_in, node_name};
 ghost use Rattle.kc_tree.specs.NodeGraph.{IsGraphOf};
+ghost use Rattle.kc_tree.specs.Accepted.{IsAccepted};
 ghost use Rattle.kc_tree.specs.Order.{IsOrder};
-ghost use Rattle.kc_outline.specs.Entries.{IsEntryOf};
+ghost use Rattle.kc_outline.specs.Entries.{IsEntryOf, first_symbols, symbol_ids};
+ghost use Rattle.kc_outline.specs.Members.{AreMembersListed};
+ghost use Rattle.kc_outline.specs.NameList.{AreNames};
 ghost use Rattle.kc_tree.specs.OutlineFaults.{outline_fault};
 ghost use Rattle.kc_tree.specs.Faults.{IsLoopless, IsTreeProblem};
 ghost use Rattle.kc_tree.specs.Linked.{named_node, IsLinkFault, IsReported};
@@ -164,8 +167,12 @@ pub(crate) fn link(alloc: Global, lines: &[Line<'_>], outline: Outline) -> Resul
     requires few_choices { length outline.choices ≤ 2 ^ 30 }
     requires choices { length outline.choices ≡ count_by is_choice lines.now }
     requires named { length outline.names ≡ length outline.symbols }
+    requires names { AreNames outline.names }
+    requires members { AreMembersListed outline }
     requires entries { All (IsEntryOf outline) outline.entries }
+    requires firsts { first_symbols outline.entries ≡ symbol_ids outline }
     ensures tree { IfOk result (λ tree. tree ≡ outline) }
+    ensures accepted { IfOk result IsAccepted }
     ensures faultless { OnOk result (outline_fault outline ≡ None) }
     ensures loopless { OnOk result (IsLoopless outline) }
     ensures fault { IfErr result (IsTreeProblem lines.now outline) }

@@ -65,6 +65,10 @@ impl Tree {
 
     /// Reads the tree of logical lines (kconfig-language.rst, "Menu entries").
     ///
+    /// No name stands twice in a tree. Its symbols have numbers in the order of their first definitions, which are the
+    /// entries `Entry::Symbol`. The members of a choice, none of which is a tristate, and the symbols that its defaults
+    /// name are in that choice, and it lists all symbols that are in it.
+    ///
     /// # Errors
     ///
     /// - `TreeFault::Line` with the first line that is at fault: K04 its word is unknown, K20 it is unsupported, K06 its
@@ -80,6 +84,7 @@ impl Tree {
     ///   2^32 - 1 times in all.
     pub fn parse(alloc: Global, lines: &[Line<'_>]) -> Result<Tree, TreeFault>
         ensures tree { IfOk result (IsTreeOf lines.now) }
+        ensures accepted { IfOk result IsAccepted }
         ensures fault { IfErr result (IsFaultOf lines.now) }
     {
         let outline = read_outline(alloc, lines)?;

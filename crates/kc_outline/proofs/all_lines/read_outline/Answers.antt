@@ -11,6 +11,9 @@ use Rattle.kc_outline.specs.Reader.{IsOutlineAfter}
 use Rattle.kc_outline.specs.ContextAfter.{IsContextAfter}
 use Rattle.kc_outline.proofs.Counts.{has_room, count_reverse, choices_of_outline}
 use Rattle.kc_outline.proofs.OutlineFacts.{first_outline_of, outline_at, context_at, first_fault, symbols_of_outline, names_of_outline, entries_of_outline}
+use Rattle.kc_outline.proofs.FirstLaws.{firsts_of_outline}
+use Rattle.kc_outline.proofs.MemberLaws.{members_of_outline}
+use Rattle.kc_outline.proofs.NameLaws.{names_of_lines}
 use Rattle.kc_outline.proofs.all_lines.read_outline.Goals as goal
 
 pub loop-index-init : goal.loop-index-init
@@ -87,3 +90,17 @@ returns-clause-named c =
 
 pub returns-clause-entries : goal.returns-clause-entries
 returns-clause-entries c = entries_of_outline _ _ _ _ c.loop-index.invariant.outline
+
+pub returns-clause-members : goal.returns-clause-members
+returns-clause-members c = members_of_outline _ _ _ _ c.loop-index.invariant.outline
+
+pub returns-clause-firsts : goal.returns-clause-firsts
+returns-clause-firsts c =
+    let lines = c.args.lines.now in
+    let all : lines ≡ take c.loop-index.index lines = sym (ap (λ i. take i lines) (search rules) ∙ take-length lines) in
+    let few = c.in_ok-names.ensures.few in
+    let count = ap length c.in_ok-names.ensures.names in
+    firsts_of_outline _ _ _ _ (ap names_of all) (omega (arith, few, count)) c.loop-index.invariant.outline
+
+pub returns-clause-names : goal.returns-clause-names
+returns-clause-names c = names_of_lines _ (reverse c.args.lines.now) (names_of_outline _ _ _ _ c.loop-index.invariant.outline)

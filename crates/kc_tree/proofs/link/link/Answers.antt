@@ -2,9 +2,10 @@ use Rattle.std.proofs.Common.{sym, ap, subst, ◌≡◌, ◌∙◌, List, ℕ, l
 use Rattle.kc_outline.specs.TreeValue.{TreeValue}
 use Rattle.kc_graph.specs.Graph.{IsConverse}
 use Rattle.kc_tree.specs.declared.tree.Tree.TheInside.{Inside}
+use Rattle.kc_tree.specs.Accepted.{IsAccepted}
 use Rattle.kc_tree.specs.Inside.{IsWellMade}
 use Rattle.kc_tree.specs.Nodes.{node_in}
-use Rattle.kc_tree.proofs.LinkLaws.{closed_graph, well_made}
+use Rattle.kc_tree.proofs.LinkLaws.{IsSoundOutline, closed_graph, accepted, well_made}
 use Rattle.kc_tree.proofs.link.link.Goals as goal
 
 pub of-graph-requires : goal.of-graph-requires
@@ -16,9 +17,34 @@ invariant_of-result c =
     let fields : TreeValue → Inside = λ o. record { outline = o; order = c.in_ok-order.order; uses = c.in_ok-of.field-0; used_by = c.in_ok-of-2.field-0 } in
     let count : length c.symbols-symbols.result.now ≡ length t.symbols = ap length c.symbols-symbols.ensures in
     let nodes = λ (g : List (List ℕ)). ap (λ (n : ℕ). map (map (node_in n)) g) count in
+    let sound : IsSoundOutline t = record {
+      few = c.requires.few;
+      few_choices = c.requires.few_choices;
+      named = c.requires.named;
+      names = c.requires.names;
+      entries = c.requires.entries;
+      firsts = c.requires.firsts;
+      members = c.requires.members;
+      faultless = c.in_ok-check_outline.ensures.faultless;
+    } in
     subst (λ (o : TreeValue). IsWellMade (fields o)) (sym c.outline.view_is)
-    (well_made (fields t) c.in_ok-used.used c.in_ok-users.users c.requires.few c.requires.few_choices c.requires.named c.requires.entries
+    (well_made (fields t) c.in_ok-used.used c.in_ok-users.users sound
     c.in_ok-used.ensures c.in_ok-order.ensures.order
     (subst (λ (g : List (List ℕ)). IsConverse g c.in_ok-users.users) c.of-graph.ensures c.in_ok-users.ensures.converse)
     (c.in_ok-of.ensures ∙ nodes c.in_ok-used.used)
     (c.in_ok-of-2.ensures ∙ nodes c.in_ok-users.users))
+
+pub returns-clause-accepted : goal.returns-clause-accepted
+returns-clause-accepted c =
+    let t = c.args.outline in
+    let sound : IsSoundOutline t = record {
+      few = c.requires.few;
+      few_choices = c.requires.few_choices;
+      named = c.requires.named;
+      names = c.requires.names;
+      entries = c.requires.entries;
+      firsts = c.requires.firsts;
+      members = c.requires.members;
+      faultless = c.in_ok-check_outline.ensures.faultless;
+    } in
+    subst IsAccepted (sym c.outline.view_is) (accepted t c.in_ok-order.order.items sound c.in_ok-order.ensures.order)

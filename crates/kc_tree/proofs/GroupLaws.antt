@@ -1,0 +1,148 @@
+-- How choices and their members belong together where nothing that lines define has a fault.
+use Rattle.std.proofs.Common.{◌≡◌, ℕ, zero, suc, ◌+◌, ◌<◌, ◌≤◌, ◌==◌, ◌||◌, not, Bool, true, false, if◌then◌else◌, List, [], ◌∷◌, Option, Some, None, option_map, option_and_then, is_some, slice_get, length, refl, sym, ap, ◌∙◌, inl, inr, arith}
+use Rattle.std.specs.List.{AllByRecursion, find, list_any, range_with_len}
+use Rattle.std.specs.Option.{option_map_or, option_or}
+use Rattle.std.proofs.lemmas.Bool.{true≢false, eqb-true, eqb-false, eq-eqb, cases_lt, or_parts, or_left, or_right}
+use Rattle.std.proofs.lemmas.Option.{none-some, same_Some, slice_get_within}
+use Rattle.kc_statement.specs.declared.id.SymId.{SymId}
+use Rattle.kc_statement.specs.declared.symbol_type.SymbolType.{SymbolType}
+use Rattle.kc_statement.specs.declared.symbol_type.SymbolType.TheVariants as kind
+use Rattle.kc_outline.specs.declared.id.ChoiceId.{ChoiceId}
+use Rattle.kc_outline.specs.declared.choice.ChoiceDefault.{ChoiceDefault}
+use Rattle.kc_outline.specs.Grouped.{IsGrouped}
+use Rattle.kc_outline.specs.Members.{AreMembersListed}
+use Rattle.kc_outline.specs.TreeOf.{same_type}
+use Rattle.kc_outline.specs.TreeValue.{TreeValue, SymbolValue, ChoiceValue, choice_of, kind_of}
+use Rattle.kc_tree.specs.declared.fault.SymbolProblem.{SymbolProblem}
+use Rattle.kc_tree.specs.declared.fault.ChoiceProblem.{ChoiceProblem}
+use Rattle.kc_tree.specs.ChoiceFaults.{same_choice, is_member, is_of_other_type, lacks_prompt, is_defined_again, symbol_has, member_problem, choice_problem, problem_at, choice_fault}
+use Rattle.kc_tree.specs.OutlineFaults.{of_symbol, of_choice, outline_fault}
+
+-- ---- no choice has a problem
+module _ {A B : Type 0} (f : ℕ → Option A) (g : ℕ → A → B) where
+  abbrev reported : Option ℕ → Option B
+  reported o = option_and_then (λ k. option_map (g k) (f k)) o
+
+  abbrev first_from : ℕ → ℕ → Option ℕ
+  first_from a n = find (λ k. is_some (f k)) (range_with_len a n)
+
+  none_step : (a n k : ℕ) → reported (if is_some (f a) then Some a else first_from (a + 1) n) ≡ None → a ≤ k → (reported (first_from (a + 1) n) ≡ None → a < k → f k ≡ None) → (o : Option A) → f a ≡ o → f k ≡ None
+  none_step a n k none l later (Some x) e =
+      let here : reported (if is_some (f a) then Some a else first_from (a + 1) n) ≡ Some (g a x) =
+      ap (λ o. reported (if is_some o then Some a else first_from (a + 1) n)) e ∙ ap (option_map (g a)) e in
+      absurd (none-some (g a x) (sym none ∙ here))
+  none_step a n k none l later None e =
+      let rest : reported (first_from (a + 1) n) ≡ None = sym (ap (λ o. reported (if is_some o then Some a else first_from (a + 1) n)) e) ∙ none in
+      elim (cases_lt a k) [
+        | inl past ↦ later rest past
+        | inr same ↦ (let is : k ≡ a = omega (arith, same, l) in ap f is ∙ e)
+      ]
+
+  none_found : (a n : ℕ) → reported (first_from a n) ≡ None → (k : ℕ) → a ≤ k → k < a + n → f k ≡ None
+  none_found a zero none k l m = absurd (omega (arith, l, m))
+  none_found a (suc n) none k l m =
+      none_step a n k none l (λ rest past. none_found (a + 1) n rest k (omega (arith, past)) (omega (arith, m))) (f a) refl
+
+second_none : (a : Option (SymbolProblem × SymId)) (b : Option (ChoiceProblem × ChoiceId)) (c : Option (SymbolProblem × SymId)) → option_or (option_map of_symbol a) (option_or (option_map of_choice b) (option_map of_symbol c)) ≡ None → b ≡ None
+second_none (Some x) b c e = absurd (none-some (of_symbol x) (sym e))
+second_none None (Some x) c e = absurd (none-some (of_choice x) (sym e))
+second_none None None c e = refl
+
+module _ (t : TreeValue) (faultless : outline_fault t ≡ None) (c : ChoiceId) (y : ChoiceValue) (is : slice_get t.choices c.0 ≡ Some y) where
+  no_problem : choice_problem t c y ≡ None
+  no_problem =
+      let inside = slice_get_within t.choices c.0 y is in
+      let none : problem_at t c.0 ≡ None =
+      none_found (problem_at t) (λ k p. (p, record { 0 = k })) 0 (length t.choices) (second_none _ _ _ faultless) c.0 (omega arith) (omega (arith, inside)) in
+      sym (ap (option_and_then (choice_problem t c)) is) ∙ none
+
+-- ---- what a choice and its members are not
+last_none : {A : Type 0} (a b d : Bool) (x y z : A) (e : Option A) → (if a then Some x else (if b then Some y else (if d then Some z else e))) ≡ None → (d ≡ false) × (e ≡ None)
+last_none true b d x y z e h = absurd (none-some x (sym h))
+last_none false true d x y z e h = absurd (none-some y (sym h))
+last_none false false true x y z e h = absurd (none-some z (sym h))
+last_none false false false x y z e h = (refl, h)
+
+first_none : {A : Type 0} (a b d : Bool) (x y z : A) → (if a then Some x else (if b then Some y else (if d then Some z else None))) ≡ None → (a ≡ false) × (d ≡ false)
+first_none true b d x y z h = absurd (none-some x (sym h))
+first_none false true d x y z h = absurd (none-some y (sym h))
+first_none false false true x y z h = absurd (none-some z (sym h))
+first_none false false false x y z h = (refl, refl)
+
+-- what no member has, a symbol that is listed hasn't
+unlisted_test : (test : SymId → Bool) (s : SymId) (ms : List SymId) → list_any (λ m. m.0 == s.0) ms ≡ true → list_any test ms ≡ false → test s ≡ false
+unlisted_test test s [] listed none = absurd (true≢false (sym listed))
+unlisted_test test s (m ∷ ms) listed none = by (m.0 == s.0) refl (λ there. unlisted_test test s ms there (or_parts (test m) (list_any test ms) none).1)
+  where
+    by : (b : Bool) → (m.0 == s.0) ≡ b → (list_any (λ (x : SymId). x.0 == s.0) ms ≡ true → test s ≡ false) → test s ≡ false
+    by true e before =
+        let same : m ≡ s = ap (λ (k : ℕ). record { 0 = k }) (eqb-true m.0 s.0 e) in
+        sym (ap test same) ∙ (or_parts (test m) (list_any test ms) none).0
+    by false e before = before (sym (ap (λ b. b || list_any (λ (x : SymId). x.0 == s.0) ms) e) ∙ listed)
+
+each_listed : (P : SymId → Type 0) (ms : List SymId) → ((s : SymId) → list_any (λ m. m.0 == s.0) ms ≡ true → P s) → AllByRecursion P ms
+each_listed P [] f = tt
+each_listed P (m ∷ ms) f = (
+    f m (or_left (m.0 == m.0) (list_any (λ (x : SymId). x.0 == m.0) ms) (eq-eqb m.0 m.0 refl)),
+    each_listed P ms (λ s e. f s (or_right (m.0 == s.0) (list_any (λ (x : SymId). x.0 == s.0) ms) e)),
+  )
+
+same_in : (c : ChoiceId) (o : Option ChoiceId) → not (same_choice c o) ≡ false → o ≡ Some c
+same_in c None e = absurd (true≢false e)
+same_in c (Some d) e = by (d.0 == c.0) refl
+  where
+    by : (b : Bool) → (d.0 == c.0) ≡ b → Some d ≡ Some c
+    by true is =
+        let same : d ≡ c = ap (λ (k : ℕ). record { 0 = k }) (eqb-true d.0 c.0 is) in ap Some same
+    by false is = absurd (true≢false (sym (ap not is) ∙ e))
+
+named_in : (t : TreeValue) (c : ChoiceId) (o : Option SymId) → not (is_member t c o) ≡ false → option_and_then (choice_of t) o ≡ Some c
+named_in t c None e = absurd (true≢false e)
+named_in t c (Some s) e = same_in c (choice_of t s) e
+
+defaults_in : (t : TreeValue) (c : ChoiceId) (ds : List ChoiceDefault) → list_any (λ d. not (is_member t c d.symbol)) ds ≡ false → AllByRecursion (λ d. option_and_then (choice_of t) d.symbol ≡ Some c) ds
+defaults_in t c [] none = tt
+defaults_in t c (d ∷ ds) none =
+    let parts = or_parts (not (is_member t c d.symbol)) (list_any (λ (x : ChoiceDefault). not (is_member t c x.symbol)) ds) none in
+    (named_in t c d.symbol parts.0, defaults_in t c ds parts.1)
+
+no_tristate : (k : SymbolType) → not (same_type k kind.Bool) ≡ false → same_type k kind.Tristate ≡ false
+no_tristate kind.Bool e = refl
+no_tristate kind.Tristate e = absurd (true≢false e)
+no_tristate kind.String e = refl
+no_tristate kind.Int e = refl
+no_tristate kind.Hex e = refl
+
+one_definition : (n : ℕ) → not (n == 1) ≡ false → n ≡ 1
+one_definition n e = by (n == 1) refl
+  where
+    by : (b : Bool) → (n == 1) ≡ b → n ≡ 1
+    by true is = eqb-true n 1 is
+    by false is = absurd (true≢false (sym (ap not is) ∙ e))
+
+-- ---- all
+pub grouped : (t : TreeValue) → outline_fault t ≡ None → AreMembersListed t → IsGrouped t
+grouped t faultless lists = record {
+  members = λ c y is. each_listed (λ s. choice_of t s ≡ Some c) y.members (λ s listed. in_it s c y is listed);
+  defaults = λ c y is. defaults_in t c y.defaults (parts c y is).0;
+  kinds = λ s c x chosen is.
+      let own = lists.listed s c (ap (option_and_then (λ (v : SymbolValue). v.choice)) is ∙ chosen) in
+      let fit = unlisted_test (symbol_has t is_of_other_type) s own.0.members own.2 (tests c own.0 own.1).0 in
+      no_tristate (kind_of x) (sym (ap (λ o. option_map_or (is_of_other_type t) o false) is) ∙ fit);
+  listed = λ s c y chosen is.
+      let own = lists.listed s c chosen in
+      let same : own.0 ≡ y = same_Some own.0 y (sym own.1 ∙ is) in
+      ap (λ (v : ChoiceValue). list_any (λ m. m.0 == s.0) v.members) (sym same) ∙ own.2;
+} where
+  parts : (c : ChoiceId) (y : ChoiceValue) → slice_get t.choices c.0 ≡ Some y → (list_any (λ d. not (is_member t c d.symbol)) y.defaults ≡ false) × (member_problem t y.members ≡ None)
+  parts c y is = last_none (not (is_some y.prompt)) y.has_second_prompt (list_any (λ d. not (is_member t c d.symbol)) y.defaults) _ _ _ (member_problem t y.members) (no_problem t faultless c y is)
+
+  tests : (c : ChoiceId) (y : ChoiceValue) → slice_get t.choices c.0 ≡ Some y → (list_any (symbol_has t is_of_other_type) y.members ≡ false) × (list_any (symbol_has t is_defined_again) y.members ≡ false)
+  tests c y is = first_none (list_any (symbol_has t is_of_other_type) y.members) (list_any (symbol_has t lacks_prompt) y.members) (list_any (symbol_has t is_defined_again) y.members) _ _ _ (parts c y is).1
+
+  in_it : (s : SymId) (c : ChoiceId) (y : ChoiceValue) → slice_get t.choices c.0 ≡ Some y → list_any (λ m. m.0 == s.0) y.members ≡ true → choice_of t s ≡ Some c
+  in_it s c y is listed =
+      let own = lists.members s c y is listed in
+      let once = unlisted_test (symbol_has t is_defined_again) s y.members listed (tests c y is).1 in
+      let one : length own.0.definitions ≡ 1 = one_definition (length own.0.definitions) (sym (ap (λ o. option_map_or (is_defined_again t) o false) own.1) ∙ once) in
+      ap (option_and_then (λ (v : SymbolValue). v.choice)) own.1 ∙ own.2 one
