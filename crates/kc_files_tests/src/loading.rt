@@ -10,7 +10,7 @@ use std::test::Fail;
 /// Each warning as ` line:number`.
 fn push_warnings(alloc: Global, out: &mut String, warnings: &[Warning]) -> Result<(), Fail> {
     for warning in warnings {
-        let (line, number) = (warning.line(), warning.kind().number());
+        let (line, number) = (warning.line, warning.kind.number());
         out.push_str(format!(in alloc; " {line}:{number}")?.as_str())?;
     }
     Ok(())

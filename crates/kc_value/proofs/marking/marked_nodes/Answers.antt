@@ -1,4 +1,5 @@
-use Rattle.std.proofs.Common.{◌≡◌, ◌<◌, ◌+◌, ◌-◌, ℕ, drop, length, subst, arith}
+use Rattle.std.proofs.Common.{◌≡◌, ◌<◌, ◌+◌, ◌-◌, ℕ, drop, get_or, length, subst, arith}
+use Rattle.std.proofs.lemmas.List.Elements.{Contains-get_or}
 use Rattle.std.specs.List.{Contains}
 use Rattle.kc_tree.specs.declared.node.Node.{Node}
 use Rattle.kc_tree.specs.declared.node.Node.TheVariants.{Vis}
@@ -7,6 +8,13 @@ use Rattle.kc_value.proofs.marking.marked_nodes.Goals as goal
 
 abbrev any : Node
 any = Vis (record { 0 = 0 })
+
+pub mark_used-requires-clause-inside : goal.mark_used-requires-clause-inside
+mark_used-requires-clause-inside c =
+    let order = c.order-order.result.now in
+    let left = c.loop-left.left in
+    let within : left - 1 < length order = omega (arith, c.loop-left-test.true, c.loop-left.invariant.within) in
+    c.order-order.ensures.order.only (get_or order (left - 1) any) (Contains-get_or order (left - 1) any within)
 
 pub loop-left-preserved : goal.loop-left-preserved
 loop-left-preserved c =
