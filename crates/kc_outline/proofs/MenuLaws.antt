@@ -1,8 +1,8 @@
 -- Each menu ends once, after it began.
-use Rattle.std.proofs.Common.{◌≡◌, ℕ, zero, suc, ◌+◌, ◌<◌, ◌≤◌, ◌==◌, Bool, true, false, not, ◌||◌, ◌&&◌, cond, if◌then◌else◌, List, [], ◌∷◌, ◌++◌, drop, Option, Some, None, length, count_by, filter_map, unwrap_or, reverse, refl, sym, ap, ◌∙◌, subst, inl, inr, ◌⊎◌, arith}
+use Rattle.std.proofs.Common.{◌≡◌, ℕ, zero, suc, ◌+◌, ◌<◌, ◌≤◌, ◌==◌, Bool, true, false, not, ◌||◌, ◌&&◌, cond, if◌then◌else◌, List, [], ◌∷◌, ◌++◌, drop, Option, Some, None, count_by, filter_map, unwrap_or, reverse, refl, sym, ap, ◌∙◌, subst, inl, inr, ◌⊎◌, arith}
 use Rattle.std.specs.List.{Contains, list_any}
 use Rattle.std.specs.Option.{option_map, option_map_or}
-use Rattle.std.proofs.lemmas.Bool.{true≢false, eqb-true, eq-eqb, ne_eqb, eqb-false, or_parts, or_from, or_left, and_from, and_left, and_right}
+use Rattle.std.proofs.lemmas.Bool.{true≢false, eqb-true, eq-eqb, ne_eqb, or_parts, or_from, or_left, and_from, and_left, and_right}
 use Rattle.std.proofs.lemmas.List.{append_assoc}
 use Rattle.std.proofs.lemmas.List.Folds.{list_any-append, list_any_at}
 use Rattle.std.proofs.lemmas.List.Sums.{sum_by-cons}
@@ -29,12 +29,11 @@ use Rattle.kc_outline.specs.declared.fault.LineProblem.TheVariants.{Limit, Stray
 use Rattle.kc_statement.specs.Keywords.{keyword_of, is_opener, is_closer, is_opener_word, is_closer_word, is_attribute_word, is_end_of}
 use Rattle.kc_statement.specs.NestingDepth.{nests_too_deep}
 use Rattle.kc_statement.specs.Statements.{HasFormOf, HasForm, type_word, default_word}
-use Rattle.kc_outline.specs.ContextAfter.{blocks_after}
 use Rattle.kc_outline.specs.Enclosing.{block_opened, still_open, open_blocks, innermost, made_by, nearest_statement, owner_at}
 use Rattle.kc_outline.specs.LineFaults.{is_unsupported, is_stray, closes_wrongly, stays_open, block_problem, word_problem, kind_problem}
 use Rattle.kc_outline.specs.Entries.{is_of_menu, IsClosedIn, AreMenusClosed}
 use Rattle.kc_outline.specs.Reader.{IsOutlineAfter}
-use Rattle.kc_outline.specs.TreeOf.{Reading, IsReading, AreReadingsBefore, definition_number, symbol_entry, menu_entry, choice_entry, comment_entry, entry_at, with_entry, entries_before}
+use Rattle.kc_outline.specs.TreeOf.{Reading, IsReading, AreReadingsBefore, definition_number, symbol_entry, choice_entry, comment_entry, entry_at, with_entry, entries_before}
 use Rattle.kc_outline.specs.TreeValue.{TreeValue}
 use Rattle.kc_outline.proofs.AddingParts.{reading}
 use Rattle.kc_outline.proofs.ContextLaws.{open_blocks-cons}
