@@ -1,17 +1,17 @@
 -- Symbols are first defined in the order of their numbers.
-use Rattle.std.proofs.Common.{◌≡◌, ℕ, suc, ◌+◌, ◌<◌, ◌≤◌, ◌==◌, Bool, true, false, ◌||◌, cond, if◌then◌else◌, List, [], ◌∷◌, ◌++◌, Option, Some, None, length, map, get_or, position, reverse, filter_map, refl, sym, ap, ◌∙◌, subst, inl, inr, arith}
-use Rattle.std.specs.Prelude.{nat_le, slice_get}
+use Rattle.std.proofs.Common.{◌≡◌, ℕ, ◌+◌, ◌<◌, ◌≤◌, ◌==◌, Bool, true, false, ◌||◌, cond, if◌then◌else◌, List, [], ◌∷◌, ◌++◌, Option, Some, None, length, map, get_or, position, reverse, filter_map, refl, sym, ap, ◌∙◌, subst, inl, inr, arith}
+use Rattle.std.specs.Prelude.{nat_le}
 use Rattle.std.specs.List.{list_any, range_with_len}
-use Rattle.std.specs.Option.{option_map, option_map_or, option_and_then}
+use Rattle.std.specs.Option.{option_map, option_map_or}
 use Rattle.std.specs.Str.{bytes_eq}
-use Rattle.std.proofs.lemmas.Bool.{true≢false, eqb-true, eq-eqb, ne_eqb, leb-true, cases_lt}
+use Rattle.std.proofs.lemmas.Bool.{true≢false, eq-eqb, ne_eqb, leb-true, cases_lt}
 use Rattle.std.proofs.lemmas.List.{reverse-append, append_assoc, append-nil, length-append, get_or_append_left, get_or_push}
 use Rattle.std.proofs.lemmas.List.Quantifiers.{position-Some}
 use Rattle.std.proofs.lemmas.List.Elements.{All-from_get_or}
 use Rattle.std.proofs.lemmas.List.Folds.{list_any_at, list_any_none}
 use Rattle.std.proofs.lemmas.List.FromFn.{map-range_with_len_more}
 use Rattle.std.proofs.lemmas.Slice.Eq.{bytes_eq-Decides}
-use Rattle.std.proofs.lemmas.Option.{none-some, same_Some, option_and_then_some}
+use Rattle.std.proofs.lemmas.Option.{none-some, option_and_then_some}
 use Rattle.kc_text.specs.LineValue.{LineValue}
 use Rattle.kc_statement.specs.declared.id.SymId.{SymId}
 use Rattle.kc_statement.specs.declared.limits.TheConstants.{MOST_SYMBOLS}
@@ -37,7 +37,7 @@ use Rattle.kc_outline.proofs.ChangeLaws.{filter_map_push}
 use Rattle.kc_outline.proofs.FormLaws.{defined-form}
 use Rattle.kc_outline.proofs.MemberLaws.{OwnsDefinition, is_defining}
 use Rattle.kc_outline.proofs.OutlineFacts.{symbols_of_outline}
-use Rattle.kc_outline.proofs.OwnerLaws.{within_limit, one_definition, definitions_made}
+use Rattle.kc_outline.proofs.OwnerLaws.{within_limit, one_definition}
 use Rattle.kc_outline.proofs.ReadingLaws.{word_of, form_word}
 
 -- ---- the first place in a list and what is added to it

@@ -9,6 +9,7 @@ pub mod Examples
 pub mod FirstLaws
 pub mod FormLaws
 pub mod MemberLaws
+pub mod MenuLaws
 pub mod NameLaws
 pub mod OpenChoices
 pub mod OutlineFacts

@@ -1,9 +1,9 @@
 -- The members of choices and the choices of symbols, as readings give them.
-use Rattle.std.proofs.Common.{◌≡◌, ℕ, zero, suc, ◌+◌, ◌<◌, ◌==◌, Bool, true, false, if◌then◌else◌, List, [], ◌∷◌, ◌++◌, Option, Some, None, length, map, reverse, filter_map, refl, sym, ap, ◌∙◌, subst, inl, inr, arith}
+use Rattle.std.proofs.Common.{◌≡◌, ℕ, zero, suc, ◌+◌, ◌<◌, ◌==◌, Bool, true, false, if◌then◌else◌, List, [], ◌∷◌, ◌++◌, Option, Some, None, length, reverse, filter_map, refl, sym, ap, ◌∙◌, subst, inl, inr, arith}
 use Rattle.std.specs.Prelude.{slice_get}
-use Rattle.std.specs.List.{AllByRecursion, list_any, cons_option, count_by, range_with_len}
+use Rattle.std.specs.List.{AllByRecursion, list_any, cons_option, count_by}
 use Rattle.std.specs.Option.{option_map, option_map_or, option_and_then}
-use Rattle.std.proofs.lemmas.Bool.{true≢false, eqb-true, eq-eqb, or_left, or_right}
+use Rattle.std.proofs.lemmas.Bool.{true≢false, eqb-true, eq-eqb, or_left}
 use Rattle.std.proofs.lemmas.List.{reverse-append, reverse-reverse, nil_from_length}
 use Rattle.std.proofs.lemmas.List.Elements.{recursion_from_All}
 use Rattle.std.proofs.lemmas.List.FromFn.{get_or-map-range_with_len, length-map-range_with_len}
@@ -22,10 +22,10 @@ use Rattle.kc_statement.specs.Keywords.{keyword_of, is_config, is_config_word, i
 use Rattle.kc_statement.specs.Names.{symbol_among, defined_name}
 use Rattle.kc_outline.specs.Enclosing.{made_by, owner_at}
 use Rattle.kc_outline.specs.Members.{AreMembersListed}
-use Rattle.kc_outline.specs.Outline.{IsNamedIn, IsChoiceMadeBy, IsMade, AreMade}
+use Rattle.kc_outline.specs.Outline.{IsNamedIn, IsChoiceMadeBy, IsMade}
 use Rattle.kc_outline.specs.Reader.{IsOutlineAfter}
 use Rattle.kc_outline.specs.TreeOf.{Reading, IsReading, AreReadingsBefore, defined_in, defines, definition_number, choice_at_definition, member_of, symbol_at, symbols_in, map_placed, choice_at, choice_heads, choices_in, tree_of}
-use Rattle.kc_outline.specs.TreeValue.{TreeValue, SymbolValue, ChoiceValue, choice_of}
+use Rattle.kc_outline.specs.TreeValue.{TreeValue, SymbolValue, ChoiceValue}
 use Rattle.kc_outline.proofs.AddingParts.{reading, no_choice}
 use Rattle.kc_outline.proofs.Counts.{length-map_placed}
 use Rattle.kc_outline.proofs.FormLaws.{defined-form}

@@ -1,7 +1,7 @@
 //! From logical lines to what they define, or the first fault.
 
 ghost use Rattle.std.specs.Prelude.{◌≡◌, ◌≤◌, ◌+◌, ◌^◌, ◌==◌, ◌∷◌, List, All, count_by, length, nat_lt, IfOk, IfErr, OnOk};
-ghost use Rattle.kc_outline.specs.Entries.{IsEntryOf, first_symbols, symbol_ids};
+ghost use Rattle.kc_outline.specs.Entries.{AreMenusClosed, IsEntryOf, first_symbols, symbol_ids};
 ghost use Rattle.kc_outline.specs.Members.{AreMembersListed};
 ghost use Rattle.kc_outline.specs.NameList.{AreNames};
 ghost use Rattle.kc_text.specs.LineValue.{LineValue};
@@ -131,6 +131,7 @@ pub fn read_outline(alloc: Global, lines: &[Line<'_>]) -> Result<Outline, LineFa
     ensures entries { IfOk result (λ o. All (IsEntryOf o) o.entries) }
     ensures members { IfOk result AreMembersListed }
     ensures firsts { IfOk result (λ o. first_symbols o.entries ≡ symbol_ids o) }
+    ensures menus { IfOk result AreMenusClosed }
     ensures names { IfOk result (λ o. AreNames o.names) }
     ensures fault { IfErr result (IsReadFault lines.now) }
 {

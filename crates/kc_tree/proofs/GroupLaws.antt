@@ -2,7 +2,7 @@
 use Rattle.std.proofs.Common.{◌≡◌, ℕ, zero, suc, ◌+◌, ◌<◌, ◌≤◌, ◌==◌, ◌||◌, not, Bool, true, false, if◌then◌else◌, List, [], ◌∷◌, Option, Some, None, option_map, option_and_then, is_some, slice_get, length, refl, sym, ap, ◌∙◌, inl, inr, arith}
 use Rattle.std.specs.List.{AllByRecursion, find, list_any, range_with_len}
 use Rattle.std.specs.Option.{option_map_or, option_or}
-use Rattle.std.proofs.lemmas.Bool.{true≢false, eqb-true, eqb-false, eq-eqb, cases_lt, or_parts, or_left, or_right}
+use Rattle.std.proofs.lemmas.Bool.{true≢false, eqb-true, eq-eqb, cases_lt, or_parts, or_left, or_right}
 use Rattle.std.proofs.lemmas.Option.{none-some, same_Some, slice_get_within}
 use Rattle.kc_statement.specs.declared.id.SymId.{SymId}
 use Rattle.kc_statement.specs.declared.symbol_type.SymbolType.{SymbolType}
@@ -15,7 +15,7 @@ use Rattle.kc_outline.specs.TreeOf.{same_type}
 use Rattle.kc_outline.specs.TreeValue.{TreeValue, SymbolValue, ChoiceValue, choice_of, kind_of}
 use Rattle.kc_tree.specs.declared.fault.SymbolProblem.{SymbolProblem}
 use Rattle.kc_tree.specs.declared.fault.ChoiceProblem.{ChoiceProblem}
-use Rattle.kc_tree.specs.ChoiceFaults.{same_choice, is_member, is_of_other_type, lacks_prompt, is_defined_again, symbol_has, member_problem, choice_problem, problem_at, choice_fault}
+use Rattle.kc_tree.specs.ChoiceFaults.{same_choice, is_member, is_of_other_type, lacks_prompt, is_defined_again, symbol_has, member_problem, choice_problem, problem_at}
 use Rattle.kc_tree.specs.OutlineFaults.{of_symbol, of_choice, outline_fault}
 
 -- ---- no choice has a problem

@@ -14,7 +14,7 @@ use Rattle.kc_tree.specs.Nodes.{node_in, number_of, node_at}
 use Rattle.kc_tree.specs.Order.{IsOrder, IsLoop}
 use Rattle.kc_tree.specs.declared.tree.Tree.TheInside.{Inside}
 use Rattle.kc_tree.specs.Inside.{IsWellMade}
-use Rattle.kc_outline.specs.Entries.{IsEntryOf, first_symbols, symbol_ids}
+use Rattle.kc_outline.specs.Entries.{AreMenusClosed, IsEntryOf, first_symbols, symbol_ids}
 use Rattle.kc_outline.specs.Members.{AreMembersListed}
 use Rattle.kc_outline.specs.NameList.{AreNames}
 use Rattle.kc_text.specs.LineValue.{LineValue}
@@ -114,6 +114,7 @@ pub record IsSoundOutline (t : TreeValue) : Type 0 where
   pub names : AreNames t.names
   pub entries : All (IsEntryOf t) t.entries
   pub firsts : first_symbols t.entries ≡ symbol_ids t
+  pub menus : AreMenusClosed t
   pub members : AreMembersListed t
   pub faultless : outline_fault t ≡ None
 
@@ -128,6 +129,7 @@ accepted t order sound in_order = record {
   ordered = (order, in_order);
   entries = sound.entries;
   firsts = sound.firsts;
+  menus = sound.menus;
 }
 
 -- the fields of a tree, from the graph of its nodes and the users in it

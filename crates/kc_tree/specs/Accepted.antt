@@ -2,7 +2,7 @@
 use Rattle.std.specs.Prelude.{◌≡◌, ◌≤◌, ◌^◌, List, length, All, Contains, slice_index_or, [], ◌↔◌}
 use Rattle.kc_tree.specs.declared.node.Node.{Node}
 use Rattle.kc_outline.specs.TreeValue.{TreeValue}
-use Rattle.kc_outline.specs.Entries.{IsEntryOf, first_symbols, symbol_ids}
+use Rattle.kc_outline.specs.Entries.{AreMenusClosed, IsEntryOf, first_symbols, symbol_ids}
 use Rattle.kc_outline.specs.Grouped.{IsGrouped}
 use Rattle.kc_outline.specs.NameList.{AreNames}
 use Rattle.kc_tree.specs.Nodes.{IsNodeOf, node_count, number_of}
@@ -12,7 +12,7 @@ use Rattle.kc_statement.specs.declared.limits.TheConstants.{MOST_SYMBOLS}
 
 -- symbols and choices, no more than their nodes have numbers for, each symbol with a name, no name twice; choices and
 -- their members belong together; the uses of a node are nodes; the nodes have an order; each entry of a symbol names
--- one, and the symbols are first defined in the order of their numbers
+-- one, the symbols are first defined in the order of their numbers, and each menu that ends began before
 pub record IsAccepted (t : TreeValue) : Type 0 where
   pub few : length t.symbols ≤ MOST_SYMBOLS
   pub few_choices : length t.choices ≤ 2 ^ 30
@@ -23,6 +23,7 @@ pub record IsAccepted (t : TreeValue) : Type 0 where
   pub ordered : (order : List Node) × IsOrder t order
   pub entries : All (IsEntryOf t) t.entries
   pub firsts : first_symbols t.entries ≡ symbol_ids t
+  pub menus : AreMenusClosed t
 
 -- row k of a table has exactly what the relation gives for the node of number k
 pub record IsTableOf (t : TreeValue) (R : Node → Node → Type 0) (rows : List (List Node)) : Type 0 where

@@ -9,7 +9,7 @@ ghost use Rattle.kc_tree.specs.Nodes.{node_in, node_name};
 ghost use Rattle.kc_tree.specs.NodeGraph.{IsGraphOf};
 ghost use Rattle.kc_tree.specs.Accepted.{IsAccepted};
 ghost use Rattle.kc_tree.specs.Order.{IsOrder};
-ghost use Rattle.kc_outline.specs.Entries.{IsEntryOf, first_symbols, symbol_ids};
+ghost use Rattle.kc_outline.specs.Entries.{AreMenusClosed, IsEntryOf, first_symbols, symbol_ids};
 ghost use Rattle.kc_outline.specs.Members.{AreMembersListed};
 ghost use Rattle.kc_outline.specs.NameList.{AreNames};
 ghost use Rattle.kc_tree.specs.OutlineFaults.{outline_fault};
@@ -171,6 +171,7 @@ pub(crate) fn link(alloc: Global, lines: &[Line<'_>], outline: Outline) -> Resul
     requires members { AreMembersListed outline }
     requires entries { All (IsEntryOf outline) outline.entries }
     requires firsts { first_symbols outline.entries ≡ symbol_ids outline }
+    requires menus { AreMenusClosed outline }
     ensures tree { IfOk result (λ tree. tree ≡ outline) }
     ensures accepted { IfOk result IsAccepted }
     ensures faultless { OnOk result (outline_fault outline ≡ None) }

@@ -13,6 +13,7 @@ use Rattle.kc_outline.proofs.Counts.{has_room, count_reverse, choices_of_outline
 use Rattle.kc_outline.proofs.OutlineFacts.{first_outline_of, outline_at, context_at, first_fault, symbols_of_outline, names_of_outline, entries_of_outline}
 use Rattle.kc_outline.proofs.FirstLaws.{firsts_of_outline}
 use Rattle.kc_outline.proofs.MemberLaws.{members_of_outline}
+use Rattle.kc_outline.proofs.MenuLaws.{menus_of_outline}
 use Rattle.kc_outline.proofs.NameLaws.{names_of_lines}
 use Rattle.kc_outline.proofs.all_lines.read_outline.Goals as goal
 
@@ -104,3 +105,6 @@ returns-clause-firsts c =
 
 pub returns-clause-names : goal.returns-clause-names
 returns-clause-names c = names_of_lines _ (reverse c.args.lines.now) (names_of_outline _ _ _ _ c.loop-index.invariant.outline)
+
+pub returns-clause-menus : goal.returns-clause-menus
+returns-clause-menus c = menus_of_outline _ _ _ _ c.loop-index.invariant.outline

@@ -24,6 +24,7 @@ invariant_of-result c =
       names = c.requires.names;
       entries = c.requires.entries;
       firsts = c.requires.firsts;
+      menus = c.requires.menus;
       members = c.requires.members;
       faultless = c.in_ok-check_outline.ensures.faultless;
     } in
@@ -44,6 +45,7 @@ returns-clause-accepted c =
       names = c.requires.names;
       entries = c.requires.entries;
       firsts = c.requires.firsts;
+      menus = c.requires.menus;
       members = c.requires.members;
       faultless = c.in_ok-check_outline.ensures.faultless;
     } in
