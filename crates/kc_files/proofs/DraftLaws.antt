@@ -1,9 +1,9 @@
 -- A draft has the text of its pieces.
-use Rattle.std.proofs.Common.{◌≡◌, ℕ, Bool, false, List, [], ◌∷◌, ◌++◌, None, refl, sym, ap, ◌∙◌, append_assoc}
+use Rattle.std.proofs.Common.{◌≡◌, ℕ, Bool, false, List, [], ◌∷◌, ◌++◌, filter_map, refl, sym, ap, ◌∙◌, append_assoc}
 use Rattle.std.proofs.lemmas.List.{append-nil}
 use Rattle.kc_outline.specs.TreeValue.{TreeValue}
 use Rattle.kc_value.specs.Assignment.{Assignment}
-use Rattle.kc_files.specs.ConfigText.{Piece, line_of_symbol, title_of, end_of, piece_bytes, gap, joined, pieces_after, config_text_of}
+use Rattle.kc_files.specs.ConfigText.{Piece, line_of_symbol, title_of, end_of, piece_bytes, gap, joined, piece_of, config_text_of}
 use Rattle.kc_files.specs.DraftValue.{DraftValue, draft_of, is_end, gap_before, with_piece, with_pieces}
 
 -- the bytes that pieces add
@@ -50,10 +50,10 @@ joined_all (end_of bs ∷ ps) = joined_rest (end_of bs) ps
 
 -- a draft that began as a header and has all pieces is the text of the `.config`; s is the tree that is known to be t
 pub text_of_draft : (t s : TreeValue) (prefix header : List ℕ) (a : Assignment) (begun ended : DraftValue) → s ≡ t → begun ≡ draft_of header
-    → ended ≡ with_pieces begun (pieces_after s prefix a None s.entries)
+    → ended ≡ with_pieces begun (filter_map (piece_of s prefix a) s.entries)
     → ended.bytes ≡ config_text_of t prefix header a
 text_of_draft t s prefix header a begun ended same begins ends =
-    let pieces = pieces_after s prefix a None s.entries in
+    let pieces = filter_map (piece_of s prefix a) s.entries in
     ap (λ (d : DraftValue). d.bytes) ends
     ∙ ap (λ d. (with_pieces d pieces).bytes) begins
     ∙ bytes_rest (draft_of header) pieces

@@ -1,3 +1,4 @@
 pub mod ConfigExample
 pub mod DraftLaws
 pub mod EscapeLaws
+pub mod MenuPieces

@@ -1,7 +1,6 @@
 -- The text of a `.config`: `write_config` of Kconfiglib and `conf_write` of the kernel's
 -- scripts/kconfig/confdata.c.
-use Rattle.std.specs.Prelude.{ℕ, ◌==◌, Bool, true, false, not, ◌&&◌, List, [], ◌∷◌, ◌++◌, Option, Some, None, option_map, slice_get, codes, if◌then◌else◌}
-use Rattle.std.specs.List.{cons_option}
+use Rattle.std.specs.Prelude.{ℕ, ◌==◌, Bool, true, false, not, ◌&&◌, List, [], ◌∷◌, ◌++◌, Option, Some, None, option_map, filter_map, slice_get, codes, if◌then◌else◌}
 use Rattle.std.specs.Option.{option_map_or}
 use Rattle.kc_statement.specs.declared.tri.Tri.{Tri}
 use Rattle.kc_statement.specs.declared.tri.Tri.TheVariants.{No, Module, Yes}
@@ -98,31 +97,49 @@ piece_bytes (line_of_symbol bs) = bs
 piece_bytes (title_of bs) = bs
 piece_bytes (end_of bs) = bs
 
--- a menu without an entry inside has its end directly behind it
-abbrev pub opens_menu : BlockId → Option Entry → Bool
-opens_menu b (Some (Menu m)) = m.0 == b.0
-opens_menu b _ = false
+-- ---- the entries inside a menu
+abbrev pub begins_menu : BlockId → Entry → Bool
+begins_menu b (Menu m) = m.0 == b.0
+begins_menu b _ = false
 
+abbrev pub ends_menu : BlockId → Entry → Bool
+ends_menu b (EndMenu m) = m.0 == b.0
+ends_menu b _ = false
+
+-- the entries behind the beginning of a menu
+abbrev pub behind_begin : BlockId → List Entry → List Entry
+behind_begin b [] = []
+behind_begin b (e ∷ es) = if begins_menu b e then es else behind_begin b es
+
+-- the entries before the end of a menu
+abbrev pub before_end : BlockId → List Entry → List Entry
+before_end b [] = []
+before_end b (e ∷ es) = if ends_menu b e then [] else e ∷ before_end b es
+
+-- those between its two ends
+abbrev pub inside_menu : List Entry → BlockId → List Entry
+inside_menu es b = before_end b (behind_begin b es)
+
+abbrev pub is_empty : List Entry → Bool
+is_empty [] = true
+is_empty (e ∷ es) = false
+
+-- ---- what entries give
 abbrev pub piece_if : Bool → Piece → Option Piece
 piece_if shown p = if shown then Some p else None
 
--- what an entry gives, after the entry before it: a symbol that is written its line at its first definition, a menu or
--- a comment whose condition is not n its title, and such a menu with an entry inside its end line
-abbrev pub piece_of : TreeValue → List ℕ → Assignment → Option Entry → Entry → Option Piece
-piece_of t prefix a before (Symbol s) =
+-- a symbol that is written gives its line at its first definition, a menu or a comment whose condition is not n its
+-- title, and such a menu with an entry inside its end line
+abbrev pub piece_of : TreeValue → List ℕ → Assignment → Entry → Option Piece
+piece_of t prefix a (Symbol s) =
     option_map (λ v. line_of_symbol (symbol_line prefix (name_of t s) (type_of t s) v)) (written_value a s)
-piece_of t prefix a before (Again s) = None
-piece_of t prefix a before (Menu b) = piece_if (not (is_no (menu_condition t a b))) (title_of (title_block (menu_title t b)))
-piece_of t prefix a before (EndMenu b) =
-    piece_if (not (is_no (menu_condition t a b)) && not (opens_menu b before)) (end_of (end_line (menu_title t b)))
-piece_of t prefix a before (Choice c) = None
-piece_of t prefix a before (Comment c) =
+piece_of t prefix a (Again s) = None
+piece_of t prefix a (Menu b) = piece_if (not (is_no (menu_condition t a b))) (title_of (title_block (menu_title t b)))
+piece_of t prefix a (EndMenu b) =
+    piece_if (not (is_no (menu_condition t a b)) && not (is_empty (inside_menu t.entries b))) (end_of (end_line (menu_title t b)))
+piece_of t prefix a (Choice c) = None
+piece_of t prefix a (Comment c) =
     piece_if (not (is_no (comment_condition t a c))) (title_of (title_block (comment_title t c)))
-
--- the pieces of entries in their order, after the entry before them
-abbrev pub pieces_after : TreeValue → List ℕ → Assignment → Option Entry → List Entry → List Piece
-pieces_after t prefix a before [] = []
-pieces_after t prefix a before (e ∷ es) = cons_option (piece_of t prefix a before e) (pieces_after t prefix a (Some e) es)
 
 -- ---- the text
 -- an empty line stands between an end line and a symbol line that are neighbours
@@ -137,4 +154,4 @@ joined (p ∷ q ∷ ps) = piece_bytes p ++ gap p q ++ joined (q ∷ ps)
 
 -- the header as it was passed in, then the pieces of the entries
 abbrev pub config_text_of : TreeValue → List ℕ → List ℕ → Assignment → List ℕ
-config_text_of t prefix header a = header ++ joined (pieces_after t prefix a None t.entries)
+config_text_of t prefix header a = header ++ joined (filter_map (piece_of t prefix a) t.entries)

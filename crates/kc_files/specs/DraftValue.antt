@@ -1,11 +1,17 @@
 -- A `.config` while it is written, a piece at a time: this project's own.
-use Rattle.std.specs.Prelude.{◌≡◌, ℕ, Bool, true, false, List, [], ◌∷◌, ◌++◌, Option, Some, None, codes, if◌then◌else◌}
+use Rattle.std.specs.Prelude.{◌≡◌, ℕ, Bool, true, false, not, ◌&&◌, List, [], ◌∷◌, ◌++◌, Option, Some, None, codes, if◌then◌else◌}
+use Rattle.std.specs.List.{cons_option}
+use Rattle.kc_statement.specs.Tristate.{is_no}
+use Rattle.kc_outline.specs.declared.id.BlockId.{BlockId}
+use Rattle.kc_outline.specs.declared.entry.Entry.{Entry}
+use Rattle.kc_outline.specs.declared.entry.Entry.TheVariants.{Symbol, Again, Menu, EndMenu, Choice, Comment}
 use Rattle.kc_tree.specs.declared.node.Node.{Node}
 use Rattle.kc_tree.specs.Nodes.{IsNodeOf}
 use Rattle.kc_outline.specs.TreeValue.{TreeValue}
 use Rattle.kc_value.specs.declared.value.Value.{Value}
 use Rattle.kc_value.specs.Assignment.{Assignment, assignment_of}
-use Rattle.kc_files.specs.ConfigText.{Piece, line_of_symbol, title_of, end_of, piece_bytes}
+use Rattle.kc_value.specs.Conditions.{menu_condition}
+use Rattle.kc_files.specs.ConfigText.{Piece, line_of_symbol, title_of, end_of, end_line, menu_title, piece_bytes, piece_if, piece_of, begins_menu}
 
 -- the bytes so far, and whether the last piece is an end line
 pub record DraftValue : Type 0 where
@@ -38,6 +44,26 @@ with_option d (Some p) = with_piece d p
 abbrev pub with_pieces : DraftValue → List Piece → DraftValue
 with_pieces d [] = d
 with_pieces d (p ∷ ps) = with_pieces (with_piece d p) ps
+
+-- ---- a pass over the entries, which looks at the one before
+-- the entry before opens the menu: directly before the menu's end it leaves nothing inside
+abbrev pub opens_menu : BlockId → Option Entry → Bool
+opens_menu b None = false
+opens_menu b (Some e) = begins_menu b e
+
+abbrev pub piece_after : TreeValue → List ℕ → Assignment → Option Entry → Entry → Option Piece
+piece_after t prefix a before (Symbol s) = piece_of t prefix a (Symbol s)
+piece_after t prefix a before (Again s) = None
+piece_after t prefix a before (Menu b) = piece_of t prefix a (Menu b)
+piece_after t prefix a before (EndMenu b) =
+    piece_if (not (is_no (menu_condition t a b)) && not (opens_menu b before)) (end_of (end_line (menu_title t b)))
+piece_after t prefix a before (Choice c) = None
+piece_after t prefix a before (Comment c) = piece_of t prefix a (Comment c)
+
+-- the pieces of entries in their order, after the entry before them
+abbrev pub pieces_after : TreeValue → List ℕ → Assignment → Option Entry → List Entry → List Piece
+pieces_after t prefix a before [] = []
+pieces_after t prefix a before (e ∷ es) = cons_option (piece_after t prefix a before e) (pieces_after t prefix a (Some e) es)
 
 -- the values by number are those of the assignment, on the nodes of the tree
 abbrev pub Agrees : TreeValue → List (Option Value) → Assignment → Type 0

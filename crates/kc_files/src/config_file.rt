@@ -1,4 +1,4 @@
-ghost use Rattle.std.specs.Prelude.{◌≡◌, ◌&&◌, not, None, option_map, IfOk, OnOk};
+ghost use Rattle.std.specs.Prelude.{◌≡◌, ◌&&◌, not, filter_map, option_map, IfOk, OnOk};
 ghost use Rattle.std.specs.String.{string_bytes};
 ghost use Rattle.kc_outline.specs.Entries.{IsEntryOf};
 ghost use Rattle.kc_tree.specs.Nodes.{all_nodes};
@@ -7,8 +7,8 @@ ghost use Rattle.kc_statement.specs.Tristate.{is_no};
 ghost use Rattle.kc_value.specs.Assignment.{Assignment, assignment_of};
 ghost use Rattle.kc_value.specs.Conditions.{menu_condition, comment_condition};
 ghost use Rattle.kc_value.specs.Solution.{solution, IsOnlySolution};
-ghost use Rattle.kc_files.specs.ConfigText.{type_of, symbol_line, written_value, title_block, end_line, menu_title, comment_title, line_of_symbol, title_of, end_of, opens_menu, piece_if, piece_of, pieces_after, config_text_of};
-ghost use Rattle.kc_files.specs.DraftValue.{with_option, with_pieces, Agrees};
+ghost use Rattle.kc_files.specs.ConfigText.{type_of, symbol_line, written_value, title_block, end_line, menu_title, comment_title, line_of_symbol, title_of, end_of, piece_if, piece_of, config_text_of};
+ghost use Rattle.kc_files.specs.DraftValue.{with_option, with_pieces, opens_menu, piece_after, Agrees};
 
 use crate::draft::Draft;
 use crate::prefix::Prefix;
@@ -126,7 +126,7 @@ fn push_entry(
 ) -> Result<(), AllocError>
     requires { IsEntryOf tree.now entry }
     ensures { OnOk result ((a : Assignment) → Agrees tree.now values.now a
-        → draft.new ≡ with_option draft.old (piece_of tree.now prefix.now a before entry)) }
+        → draft.new ≡ with_option draft.old (piece_after tree.now prefix.now a before entry)) }
 {
     match entry {
         Entry::Symbol(symbol) => push_symbol(draft, tree, prefix, values, symbol),
@@ -145,7 +145,7 @@ fn push_entries(
     values: &[Option<Value>],
 ) -> Result<(), AllocError>
     ensures { OnOk result ((a : Assignment) → Agrees tree.now values.now a
-        → draft.new ≡ with_pieces draft.old (pieces_after tree.now prefix.now a None tree.now.entries)) }
+        → draft.new ≡ with_pieces draft.old (filter_map (piece_of tree.now prefix.now a) tree.now.entries)) }
 {
     let mut before = None;
     for entry in tree.entries() {
