@@ -213,6 +213,7 @@ no_word st none past = by (option_map_or is_config_word (word_of st) false) (sym
   where
     counted : Option SymId → List (Option BlockId × SymId)
     counted o = filter_map (λ x. x) (option_map (λ (d : SymId). (None, d)) o ∷ [])
+
     by : (t : Bool) → ◌≡◌ {A = ℕ} (cond t 1 0) 0 → t ≡ false
     by true e = absurd (omega (arith, e))
     by false e = refl
@@ -268,11 +269,11 @@ module _ (names : List (List ℕ)) (few : length names ≤ MOST_SYMBOLS) where
           ap (λ st. reading st q.block q.choice q.owner) config ∙ ap (λ o. reading (statement.Config (Some s)) q.block q.choice o) own.1 in
           option_and_then_some (symbol_among names) (defined_name l) s (defined-form names l q.statement reads.sound.form ∙ e)
           (λ w named among.
-            let same : names_before (l ∷ earlier) ≡ with_name ns w = ap (λ o. option_map_or (with_name ns) o ns) named in
-            let found : position (bytes_eq w) names ≡ Some s.0 = number_among (position (bytes_eq w) names) s among in
-            subst (λ xs. AreFirsts (length xs) (q ∷ qs)) (sym same)
-            (subst (λ r. AreFirsts (length (with_name ns w)) (r ∷ qs)) (sym reads_as)
-            (named_step s w own.0 found (list_any (bytes_eq w) ns) (nat_le MOST_SYMBOLS (length ns)) refl refl rest (is ∙ ap (λ xs. xs ++ rest) same))))
+          let same : names_before (l ∷ earlier) ≡ with_name ns w = ap (λ o. option_map_or (with_name ns) o ns) named in
+          let found : position (bytes_eq w) names ≡ Some s.0 = number_among (position (bytes_eq w) names) s among in
+          subst (λ xs. AreFirsts (length xs) (q ∷ qs)) (sym same)
+          (subst (λ r. AreFirsts (length (with_name ns w)) (r ∷ qs)) (sym reads_as)
+          (named_step s w own.0 found (list_any (bytes_eq w) ns) (nat_le MOST_SYMBOLS (length ns)) refl refl rest (is ∙ ap (λ xs. xs ++ rest) same))))
 
   firsts_before : (following : ℕ) (earlier : List LineValue) (qs : List Reading) → AreReadingsBefore names following earlier qs → (rest : List (List ℕ)) → names ≡ names_before earlier ++ rest → AreFirsts (length (names_before earlier)) qs
   firsts_before following [] [] h rest is = record { firsts = refl; undefined = λ s late. refl; defined = λ s early. absurd (omega (arith, early)) }

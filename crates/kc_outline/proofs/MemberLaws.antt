@@ -55,8 +55,8 @@ module _ (names : List (List ℕ)) where
       let defined : option_and_then (symbol_among names) (defined_name l) ≡ Some s = defined-form names l r.statement reads.sound.form ∙ ap defined_in e in (
         count_by is_config earlier,
         reads.owner
-        ∙ ap (λ k. if option_map_or is_attribute_word k false then owner_at names earlier else made_by names k l earlier) word
-        ∙ ap (option_map (λ d. Definition d (count_by is_config earlier))) defined,
+            ∙ ap (λ k. if option_map_or is_attribute_word k false then owner_at names earlier else made_by names k l earlier) word
+            ∙ ap (option_map (λ d. Definition d (count_by is_config earlier))) defined,
       )
   owns earlier is_last l r reads _ e = tt
 

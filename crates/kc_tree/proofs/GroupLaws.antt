@@ -83,9 +83,9 @@ unlisted_test test s (m ∷ ms) listed none = by (m.0 == s.0) refl (λ there. un
 each_listed : (P : SymId → Type 0) (ms : List SymId) → ((s : SymId) → list_any (λ m. m.0 == s.0) ms ≡ true → P s) → AllByRecursion P ms
 each_listed P [] f = tt
 each_listed P (m ∷ ms) f = (
-    f m (or_left (m.0 == m.0) (list_any (λ (x : SymId). x.0 == m.0) ms) (eq-eqb m.0 m.0 refl)),
-    each_listed P ms (λ s e. f s (or_right (m.0 == s.0) (list_any (λ (x : SymId). x.0 == s.0) ms) e)),
-  )
+  f m (or_left (m.0 == m.0) (list_any (λ (x : SymId). x.0 == m.0) ms) (eq-eqb m.0 m.0 refl)),
+  each_listed P ms (λ s e. f s (or_right (m.0 == s.0) (list_any (λ (x : SymId). x.0 == s.0) ms) e)),
+)
 
 same_in : (c : ChoiceId) (o : Option ChoiceId) → not (same_choice c o) ≡ false → o ≡ Some c
 same_in c None e = absurd (true≢false e)
