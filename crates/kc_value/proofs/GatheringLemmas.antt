@@ -106,3 +106,9 @@ pub used_are_nodes : (t s : TreeValue) (n : Node) (used nodes items : List Node)
 used_are_nodes t s n used nodes items tree accepted inside exact copied lent m c =
     let uses : Uses s n m = (exact m).0 (subst (λ xs. Contains xs m) (lent ∙ copied) c) in
     used_is_node t s n m tree accepted inside (subst (λ x. Uses x n m) tree uses)
+
+-- a node asked twice reaches no more than asked once
+pub twice_in_one : (t : TreeValue) (m n : Node) → Reached t (m ∷ [] ++ m ∷ []) n → Reached t (m ∷ []) n
+twice_in_one t m n (p, asked, leads) =
+    let one : Contains (m ∷ []) m = (0, omega arith, refl) in
+    (p, ⊎_elim (λ first. first) (λ same. subst (λ x. Contains (m ∷ []) x) same one) (Contains-push_cases (m ∷ []) m p asked), leads)

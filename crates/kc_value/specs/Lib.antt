@@ -1,6 +1,7 @@
 pub mod Assignable
 pub mod Assignment
 pub mod BoundsRange
+pub mod ChangedValue
 pub mod ChoiceRule
 pub mod Conditions
 pub mod Counting
@@ -9,6 +10,7 @@ pub mod ExprValue
 pub mod Fresh
 pub mod Marks
 pub mod Numerals
+pub mod Replay
 pub mod Rule
 pub mod Solution
 pub mod TextRule

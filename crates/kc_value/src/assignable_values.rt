@@ -23,7 +23,7 @@ use kc_tree::{Node, SymId, Symbol, SymbolType, Tree, Tri, UserVal};
 use std::alloc::{AllocError, Global};
 
 /// Whether two values are the same.
-fn is_same(left: Tri, right: Tri) -> bool
+pub(crate) fn is_same(left: Tri, right: Tri) -> bool
     ensures { result ≡ same_tri left right }
 {
     match (left, right) {

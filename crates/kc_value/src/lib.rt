@@ -3,6 +3,7 @@
 
 mod assignable_values;
 mod bounds;
+mod changed;
 mod choice_value;
 mod comparison;
 mod conditions;
@@ -22,6 +23,7 @@ mod value;
 mod without;
 
 pub use assignable_values::assignable;
+pub use changed::changed_value;
 pub use conditions::{comment_condition, menu_condition};
 pub use evaluation::eval;
 pub use expr_value::tri;
