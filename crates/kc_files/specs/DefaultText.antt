@@ -13,7 +13,8 @@ use Rattle.kc_tree.specs.declared.node.Node.TheVariants.{Val, Sel}
 use Rattle.kc_value.specs.ChoiceRule.{is_symbol, selected_in}
 use Rattle.kc_value.specs.UserValues.{UserValues}
 use Rattle.kc_value.specs.Solution.{solution}
-use Rattle.kc_value.specs.ChangedValue.{changed_value, shown_in}
+use Rattle.kc_value.specs.ChangedValue.{changed_value}
+use Rattle.kc_value.specs.Replay.{shown_in}
 use Rattle.kc_files.specs.ConfigText.{type_of, tri_line, symbol_line}
 
 -- of a symbol that is no member: its line, where it has another value than without the user's own

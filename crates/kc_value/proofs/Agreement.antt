@@ -69,14 +69,14 @@ module _ (a b : Assignment) where
   Agree-if false ns h e = absurd (true≢false (sym e))
 
   -- ---- lists of anything that reads nodes
-  map_agrees : {X Y : Type 0} (f g : X → Y) (nodes : X → List Node) → ((x : X) → Agree (nodes x) → f x ≡ g x)
+  pub map_agrees : {X Y : Type 0} (f g : X → Y) (nodes : X → List Node) → ((x : X) → Agree (nodes x) → f x ≡ g x)
       → (xs : List X) → Agree (flat_map nodes xs) → map f xs ≡ map g xs
   map_agrees f g nodes same [] h = refl
   map_agrees f g nodes same (x ∷ xs) h =
       ap (λ y. y ∷ map f xs) (same x (Agree-left (nodes x) (flat_map nodes xs) h))
       ∙ ap (λ ys. g x ∷ ys) (map_agrees f g nodes same xs (Agree-right (nodes x) (flat_map nodes xs) h))
 
-  filter_map_agrees : {X Y : Type 0} (f g : X → Option Y) (nodes : X → List Node) → ((x : X) → Agree (nodes x) → f x ≡ g x)
+  pub filter_map_agrees : {X Y : Type 0} (f g : X → Option Y) (nodes : X → List Node) → ((x : X) → Agree (nodes x) → f x ≡ g x)
       → (xs : List X) → Agree (flat_map nodes xs) → filter_map f xs ≡ filter_map g xs
   filter_map_agrees f g nodes same [] h = refl
   filter_map_agrees f g nodes same (x ∷ xs) h =
@@ -214,7 +214,7 @@ module _ (a b : Assignment) where
         ∙ ap (λ v. least (own_condition t b p.condition) (least v (blocks_visible t a around))) depends
         ∙ ap (λ v. least (own_condition t b p.condition) (least (dependency t b d) v)) visible
 
-    prompt_agrees : (d : DefinitionValue) → Agree (prompt_nodes t d) → prompt_value t a d ≡ prompt_value t b d
+    pub prompt_agrees : (d : DefinitionValue) → Agree (prompt_nodes t d) → prompt_value t a d ≡ prompt_value t b d
     prompt_agrees d h = found_prompt_agrees d d.prompt h
 
     -- ---- defaults
@@ -278,7 +278,7 @@ module _ (a b : Assignment) where
     has_modules_if true h = ap (λ v. not (is_no v)) (modules_agree h)
     has_modules_if false h = refl
 
-    has_modules_agrees : (x : SymbolValue) → Agree (type_nodes t x) → has_modules t a x ≡ has_modules t b x
+    pub has_modules_agrees : (x : SymbolValue) → Agree (type_nodes t x) → has_modules t a x ≡ has_modules t b x
     has_modules_agrees x h = has_modules_if (same_type (kind_of x) Tristate) h
 
     -- ---- texts
@@ -385,7 +385,7 @@ module _ (a b : Assignment) where
     visible_if_agrees active None h = refl
     visible_if_agrees active (Some m) h = ap (λ v. if active && v then Some m else None) (visible_agrees m h)
 
-    default_member_agrees : (d : ChoiceDefault) → Agree (choice_default_nodes t d) → default_member t a d ≡ default_member t b d
+    pub default_member_agrees : (d : ChoiceDefault) → Agree (choice_default_nodes t d) → default_member t a d ≡ default_member t b d
     default_member_agrees d h =
         let member = option_map_or (visibility_node t) d.symbol [] in
         ap (λ v. visible_if t (not (is_no v)) a d.symbol) (own_condition_agrees d.condition (Agree-right member (own_condition_nodes t d.condition) h))
@@ -466,17 +466,17 @@ module _ (a b : Assignment) where
     vis_agrees None h = refl
     vis_agrees (Some x) h = ap Level (visibility_agrees x h)
 
-    val_agrees : (s : SymId) (u : Option UserVal) (o : Option SymbolValue) → Agree (option_map_or (symbol_value_nodes t s) o [])
+    pub val_agrees : (s : SymId) (u : Option UserVal) (o : Option SymbolValue) → Agree (option_map_or (symbol_value_nodes t s) o [])
         → option_map_or (λ x. symbol_rule t a s x (as_tri (a (Vis s))) u) o (Level No) ≡ option_map_or (λ x. symbol_rule t b s x (as_tri (b (Vis s))) u) o (Level No)
     val_agrees s u None h = refl
     val_agrees s u (Some x) h = symbol_agrees s x u h
 
-    of_mode_agrees : (chosen : Option SymId) (o : Option ChoiceValue) → Agree (option_map_or (choice_prompt_nodes t) o [])
+    pub of_mode_agrees : (chosen : Option SymId) (o : Option ChoiceValue) → Agree (option_map_or (choice_prompt_nodes t) o [])
         → option_map_or (λ x. Level (mode t a x chosen)) o (Level No) ≡ option_map_or (λ x. Level (mode t b x chosen)) o (Level No)
     of_mode_agrees chosen None h = refl
     of_mode_agrees chosen (Some x) h = ap Level (mode_agrees x chosen h)
 
-    of_selection_agrees : (c : ChoiceId) (chosen : Option SymId) (o : Option ChoiceValue) → slice_get t.choices c.0 ≡ o → Agree (option_map_or (choice_value_nodes t c) o [])
+    pub of_selection_agrees : (c : ChoiceId) (chosen : Option SymId) (o : Option ChoiceValue) → slice_get t.choices c.0 ≡ o → Agree (option_map_or (choice_value_nodes t c) o [])
         → option_map_or (λ x. Member (selection t a c x chosen)) o (Level No) ≡ option_map_or (λ x. Member (selection t b c x chosen)) o (Level No)
     of_selection_agrees c chosen None found h = refl
     of_selection_agrees c chosen (Some x) found h = ap Member (selection_agrees c x chosen found h)

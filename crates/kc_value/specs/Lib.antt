@@ -10,6 +10,7 @@ pub mod ExprValue
 pub mod Fresh
 pub mod Marks
 pub mod Numerals
+pub mod Replay
 pub mod Rule
 pub mod Solution
 pub mod TextRule

@@ -1,10 +1,10 @@
-//! The value of a node where the user's own makes a difference to it.
+//! The values and selections that are others than without the user's own.
 
-ghost use Rattle.std.specs.Prelude.{◌≡◌, IfOk};
+ghost use Rattle.std.specs.Prelude.{◌≡◌, ◌↔◌, true, IfOk};
+ghost use Rattle.kc_tree.specs.Accepted.{IsAccepted};
 ghost use Rattle.kc_tree.specs.Nodes.{IsNodeOf};
-ghost use Rattle.kc_value.specs.Assignable.{same_tri};
 ghost use Rattle.kc_value.specs.Assignment.{assignment_of};
-ghost use Rattle.kc_value.specs.ChangedValue.{same_user_value, same_mark, same_member, same_value, changed_value};
+ghost use Rattle.kc_value.specs.ChangedValue.{same_user_value, same_member, same_value, changed_value, ChangesAreJustEnough};
 ghost use Rattle.kc_value.specs.Solution.{AreSolved};
 ghost use Rattle.kc_value.specs.UserValues.{UserValues};
 ghost use Rattle.kc_value.specs.Without.{value_without, IsOwned};
@@ -15,7 +15,7 @@ use crate::without::{selection_alone, selects_none, value_alone};
 use kc_tree::{Node, SymId, Tree, Tri, UserVal};
 use std::alloc::{AllocError, Global};
 
-/// Whether two user values are the same, texts as they are spelt.
+/// Whether two user values are the same; texts are so as they are spelt.
 fn is_same_user_value(left: &UserVal, right: &UserVal) -> bool
     ensures { result ≡ same_user_value left.now right.now }
 {
@@ -26,32 +26,27 @@ fn is_same_user_value(left: &UserVal, right: &UserVal) -> bool
     }
 }
 
-/// Whether two marks are the same.
-fn is_same_mark(left: bool, right: bool) -> bool
-    ensures { result ≡ same_mark left right }
-{
-    if left { right } else { !right }
-}
-
-/// Whether two members, or none, are the same.
+/// Whether the same member, or none, is selected.
 fn is_same_member(left: Option<SymId>, right: Option<SymId>) -> bool
     ensures { result ≡ same_member left right }
 {
     match (left, right) {
         (None, None) => true,
-        (Some(left), Some(right)) => left.0 == right.0,
+        (Some(left), Some(right)) => left == right,
         (None, Some(_)) | (Some(_), None) => false,
     }
 }
 
-/// Whether two values are the same.
+/// Whether two values are the same, and have a line in the `.config` alike.
+#[tactic(auto, using(crate::proofs::SameLaws::same_is))]
 fn is_same_value(left: &Value, right: &Value) -> bool
-    ensures { result ≡ same_value left.now right.now }
+    ensures test { result ≡ same_value left.now right.now }
+    ensures exact { (result ≡ true) ↔ (left.now ≡ right.now) }
 {
     match (left, right) {
         (Value::Tri(left), Value::Tri(right)) => is_same(*left, *right),
-        (Value::Shown(left, marked), Value::Shown(right, remarked)) => {
-            is_same_user_value(left, right) && is_same_mark(*marked, *remarked)
+        (Value::Shown(left, left_mark), Value::Shown(right, right_mark)) => {
+            is_same_user_value(left, right) && *left_mark == *right_mark
         }
         (Value::Member(left), Value::Member(right)) => is_same_member(*left, *right),
         _ => false,
@@ -65,7 +60,8 @@ fn value_at(
     values: &[Option<Value>],
     node: Node,
 ) -> Result<Value, AllocError>
-    ensures { IfOk result (λ v. v ≡ assignment_of tree.now values.now node) }
+    ensures value { IfOk result (λ v. v ≡ assignment_of tree.now values.now node) }
+    ensures accepted { IsAccepted tree.now }
 {
     match values.get(tree.number(node)) {
         Some(Some(value)) => copy_of(alloc, value),
@@ -95,11 +91,16 @@ fn value_without(
     }
 }
 
-/// The value of a symbol or the selection of a choice, where it is another than it would be without the user's own value
-/// or chosen member, all else as it is; none where that makes no difference. `values` has the value of each node, by
-/// number. Texts are compared as they are spelt.
+/// The value of a symbol or the selection of a choice, where it is another than it would be without the user's own
+/// value or chosen member, all else as it is; none where that makes no difference. `values` has the value of each node,
+/// by number. Texts are compared as they are spelt.
+///
+/// User values that hold just these, of all symbols and choices, give each visibility, value and selection as it is,
+/// and each mode but that of an optional choice, which is n where it selects none. None of them can be left out: user
+/// values that give the same values and selections have one for each symbol and each choice that has one here.
 ///
 /// The error comes where memory is refused.
+#[tactic(auto, using(crate::proofs::ChangedLaws::just_enough), unfolding(crate::specs::ChangedValue::changed_value))]
 pub fn changed_value(
     alloc: Global,
     tree: &Tree,
@@ -110,6 +111,7 @@ pub fn changed_value(
     requires owned { IsOwned node }
     ensures value { (u : UserValues) → AreSolved tree.now u values.now
         → IfOk result (λ v. v ≡ changed_value tree.now u node) }
+    ensures laws { (u : UserValues) → ChangesAreJustEnough tree.now u }
 {
     let value = value_at(alloc, tree, values, node)?;
     let without = value_without(alloc, tree, values, node)?;
