@@ -2,3 +2,14 @@ pub mod PrefixForm
 pub mod ConfigText
 pub mod DraftValue
 pub mod Quoting
+pub mod ConfigLines
+pub mod LineForm
+pub mod Unquoting
+pub mod ValueForm
+pub mod ReadingSteps
+pub mod TextSteps
+pub mod LineReading
+pub mod ConfigReading
+pub mod Loading
+pub mod LineSteps
+pub mod LoadingSteps
