@@ -19,18 +19,21 @@ escaped_none (b ∷ bs) h =
     ap (λ x. (if x then 92 ∷ b ∷ [] else b ∷ []) ++ escaped bs) (h 0 (omega arith))
     ∙ ap (λ r. b ∷ r) (escaped_none bs (λ k l. h (suc k) (omega (arith, l))))
 
-special_ascii : (b : ℕ) → is_special b ≡ true → b < 128
+pub special_ascii : (b : ℕ) → is_special b ≡ true → b < 128
 special_ascii b e = grind (arith, common_steps, e)
 
 byte_plain : (x : Bool) (b c : ℕ) → is_special b ≡ x → is_special c ≡ false → (b < 128 → c ≡ b) → is_special b ≡ false
 byte_plain false b c e plain same = e
 byte_plain true b c e plain same = ap is_special (sym (same (special_ascii b e))) ∙ plain
 
-pub escaped_plain : (c : ℕ) → is_special c ≡ false → escaped (encode_utf8 c) ≡ encode_utf8 c
-escaped_plain c plain =
-    escaped_none (encode_utf8 c) (λ k l.
+-- the bytes of a character that needs no backslash
+pub plain_bytes : (c : ℕ) → is_special c ≡ false → (k : ℕ) → k < length (encode_utf8 c) → is_special (get_or (encode_utf8 c) k 0) ≡ false
+plain_bytes c plain k l =
     let b = get_or (encode_utf8 c) k 0 in
-    byte_plain (is_special b) b c refl plain (λ ascii. inside_one c [] (encode_utf8 c) k (sym (append-nil (encode_utf8 c))) l ascii))
+    byte_plain (is_special b) b c refl plain (λ ascii. inside_one c [] (encode_utf8 c) k (sym (append-nil (encode_utf8 c))) l ascii)
+
+pub escaped_plain : (c : ℕ) → is_special c ≡ false → escaped (encode_utf8 c) ≡ encode_utf8 c
+escaped_plain c plain = escaped_none (encode_utf8 c) (plain_bytes c plain)
 
 pub escaped_special : (c : ℕ) → is_special c ≡ true → escaped (encode_utf8 c) ≡ 92 ∷ encode_utf8 c
 escaped_special c special =

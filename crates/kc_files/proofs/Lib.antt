@@ -1,4 +1,16 @@
 pub mod ConfigExample
+pub mod CountingLaws
 pub mod DraftLaws
 pub mod EscapeLaws
 pub mod MenuPieces
+pub mod FormSteps
+pub mod LineCuts
+pub mod LineFormLaws
+pub mod LoadingLaws
+pub mod MarkLaws
+pub mod PassLaws
+pub mod ReadingLaws
+pub mod UnquotedSteps
+pub mod Utf8
+pub mod ValueLaws
+pub mod WrittenLines

@@ -5,3 +5,14 @@ pub mod Quoting
 pub mod HeaderText
 pub mod NewText
 pub mod DefaultText
+pub mod ConfigLines
+pub mod LineForm
+pub mod Unquoting
+pub mod ValueForm
+pub mod ReadingSteps
+pub mod TextSteps
+pub mod LineReading
+pub mod ConfigReading
+pub mod Loading
+pub mod LineSteps
+pub mod LoadingSteps

@@ -1,20 +1,35 @@
-//! The texts that are made of a tree and its values: the `.config`.
+//! The texts that are made of a tree and its values, and those that give a tree its user values: the `.config`, the C
+//! header, the default file and the list of new symbols.
 #![tactic(auto)]
 
+mod assign;
 mod config_file;
+mod config_lines;
+mod config_reading;
+mod counting;
 mod default_file;
 mod draft;
 mod header_file;
+mod line_form;
+mod line_reading;
+mod loading;
 mod new_list;
 mod prefix;
 mod quoting;
 mod symbol_line;
 mod symbols;
 mod titles;
+mod unquoting;
+mod value_form;
+mod warning;
 
+pub use assign::Assign;
 pub use config_file::config_text;
+pub use config_reading::{ReadFault, read_config};
 pub use default_file::defconfig_text;
 pub use header_file::header_text;
+pub use loading::{Load, apply};
 pub use new_list::new_text;
 pub use prefix::{Prefix, PrefixFault};
 pub use quoting::{push_quoted, push_text_in};
+pub use warning::{Warning, WarningKind};

@@ -1,0 +1,162 @@
+//! A `.config` in: what its lines give a tree.
+
+ghost use Rattle.std.specs.Prelude.{◌≡◌, ◌≤◌, ◌<◌, ◌↔◌, ℕ, List, [], All, Err, IfOk, OnOk, length};
+ghost use Rattle.kc_files.specs.ConfigReading.{IsConfigReading};
+ghost use Rattle.kc_files.specs.LineReading.{IsAssignFor};
+ghost use Rattle.kc_files.specs.LineSteps.{empty_pass, with_warning, with_repeat, with_assign, with_reading, readings_in, IsInside, IsPass};
+
+use crate::assign::Assign;
+use crate::config_lines::first_line;
+use crate::counting::{counting, no_marks};
+use crate::line_reading::{Reading, read_line};
+use crate::prefix::Prefix;
+use crate::warning::{Warning, WarningKind};
+use kc_tree::{SymId, Tree};
+use std::alloc::{AllocError, Global};
+use std::marker::Model;
+
+/// The most bytes that a `.config` has.
+const MOST_BYTES: usize = 16_777_216;
+
+/// Why a `.config` was not read.
+#[derive(Clone, Copy, Debug, PartialEq, Eq)]
+pub enum ReadFault {
+    /// It has more than 16,777,216 bytes.
+    Limit,
+    /// Memory was refused.
+    NoMemory,
+}
+
+impl From<AllocError> for ReadFault {
+    ghost use Rattle.std.specs.Prelude.{◌≡◌};
+    ghost use Rattle.kc_files.specs.declared.config_reading.ReadFault.TheVariants.{NoMemory};
+
+    ghost from_gives = { λ _ fault. fault ≡ NoMemory };
+
+    fn from(_refused: AllocError) -> ReadFault {
+        ReadFault::NoMemory
+    }
+}
+
+/// What a pass over the lines keeps. Contracts see the record of it.
+#[derive(Drop)]
+struct Pass {
+    assigns: Vec<Assign>,
+    warnings: Vec<Warning>,
+    /// Whether a symbol has a usable line so far, by its number.
+    named: Vec<bool>,
+}
+
+impl Model for Pass {
+    ghost use Rattle.kc_files.specs.LineSteps.{PassValue};
+
+    ghost Value = { PassValue };
+
+    ghost view = { λ p. record { assigns = p.assigns.items; warnings = p.warnings.items; named = p.named.items } };
+}
+
+impl Pass {
+    /// A pass before the first line, over a tree of so many symbols.
+    fn new(alloc: Global, symbols: usize) -> Result<Pass, AllocError>
+        ensures { IfOk result (λ pass. pass ≡ empty_pass symbols) }
+    {
+        Ok(Pass {
+            assigns: Vec::new(alloc),
+            warnings: Vec::new(alloc),
+            named: no_marks(alloc, symbols)?,
+        })
+    }
+
+    fn warn(&mut self, line: usize, kind: WarningKind) -> Result<(), AllocError>
+        ensures { OnOk result (self.new ≡ with_warning self.old line kind) }
+    {
+        self.warnings.push(Warning { line, kind })?;
+        Ok(())
+    }
+
+    /// Warns of a symbol that has a usable line before.
+    fn warn_of_repeat(&mut self, line: usize, symbol: SymId) -> Result<(), AllocError>
+        requires inside { symbol.0 < length self.old.named }
+        ensures { OnOk result (self.new ≡ with_repeat self.old line symbol) }
+    {
+        if self.named[symbol.0 as usize] {
+            self.warn(line, WarningKind::Repeated)?;
+        }
+        Ok(())
+    }
+
+    fn keep(&mut self, assign: Assign) -> Result<(), AllocError>
+        requires inside { assign.symbol.0 < length self.old.named }
+        ensures { OnOk result (self.new ≡ with_assign self.old assign) }
+    {
+        self.named[assign.symbol.0 as usize] = true;
+        self.assigns.push(assign)?;
+        Ok(())
+    }
+
+    /// Takes what a line gives.
+    fn take(&mut self, line: usize, reading: Reading) -> Result<(), AllocError>
+        requires { IsInside (length self.old.named) reading }
+        ensures { OnOk result (self.new ≡ with_reading self.old line reading) }
+    {
+        match reading {
+            Reading::Usable(assign) => {
+                self.warn_of_repeat(line, assign.symbol)?;
+                self.keep(assign)
+            }
+            Reading::Warned(kind) => self.warn(line, kind),
+            Reading::Nothing => Ok(()),
+        }
+    }
+}
+
+/// Goes over the lines of a text.
+fn pass_over(alloc: Global, tree: &Tree, prefix: &str, bytes: &[u8]) -> Result<Pass, AllocError>
+    requires size { length bytes.now ≤ 16777216 }
+    ensures { IfOk result (λ pass. (number : ℕ) × IsPass tree.now (readings_in tree.now prefix.now bytes.now) number [] pass) }
+{
+    let mut pass = Pass::new(alloc, tree.symbols().len())?;
+    let mut rest = bytes;
+    let mut number = 0;
+    while !rest.is_empty() {
+        let (line, behind) = first_line(rest);
+        number += 1;
+        let reading = read_line(alloc, tree, prefix, line)?;
+        pass.take(number, reading)?;
+        rest = behind;
+    }
+    Ok(pass)
+}
+
+/// Reads a `.config`: the assignments that count, in the order of their lines, and the warnings, in the order of theirs
+/// (docs/LANGUAGE.md). A line that gives a symbol of the tree a value of its type is usable, and of a symbol's usable lines
+/// the last counts; members of choices are symbols like others here.
+///
+/// # Errors
+///
+/// - `ReadFault::Limit` where the text has more than 16,777,216 bytes, before anything else.
+/// - `ReadFault::NoMemory` where memory was refused.
+pub fn read_config(
+    alloc: Global,
+    tree: &Tree,
+    prefix: &Prefix,
+    bytes: &[u8],
+) -> Result<(Vec<Assign>, Vec<Warning>), ReadFault>
+    ensures reading { IfOk result (λ r. IsConfigReading tree.now prefix.now bytes.now r.0.items r.1.items) }
+    ensures fitting { IfOk result (λ r. All (IsAssignFor tree.now) r.0.items) }
+    ensures only { IfOk result (λ r. (assigns : List Assign) (warnings : List Warning)
+        → IsConfigReading tree.now prefix.now bytes.now assigns warnings
+        → (assigns ≡ r.0.items) × (warnings ≡ r.1.items)) }
+    ensures limit { (result ≡ Err ReadFault.Limit) ↔ (16777216 < length bytes.now) }
+{
+    if bytes.len() > MOST_BYTES {
+        return Err(ReadFault::Limit);
+    }
+    let Pass {
+        assigns,
+        warnings,
+        named: _,
+    } = pass_over(alloc, tree, prefix.as_str(), bytes)?;
+    let counting = counting(alloc, tree.symbols().len(), assigns)?;
+    Ok((counting, warnings))
+}
