@@ -30,11 +30,11 @@ last_behind [] e fs = refl
 last_behind (d ∷ []) e fs = refl
 last_behind (d ∷ f ∷ es) e fs = last_behind (f ∷ es) e fs
 
-first_or : Entry → List Entry → Entry
+abbrev first_or : Entry → List Entry → Entry
 first_or d [] = d
 first_or d (e ∷ es) = e
 
-rest_of : List Entry → List Entry
+abbrev rest_of : List Entry → List Entry
 rest_of [] = []
 rest_of (e ∷ es) = es
 
@@ -55,16 +55,16 @@ any_here p (w ∷ xs) x ys h = go (p w) (any_here p xs x ys h)
     go false k = k
 
 -- where one element alone passes the test, what stands before it is the same
-fronts_same : (p : Entry → Bool) (as : List Entry) (x : Entry) (bs cs : List Entry) (y : Entry) (ds : List Entry)
-    → p x ≡ true → list_any p cs ≡ false → list_any p ds ≡ false → as ++ x ∷ bs ≡ cs ++ y ∷ ds → as ≡ cs
+fronts_same : (p : Entry → Bool) (ws : List Entry) (x : Entry) (bs cs : List Entry) (y : Entry) (ds : List Entry)
+    → p x ≡ true → list_any p cs ≡ false → list_any p ds ≡ false → ws ++ x ∷ bs ≡ cs ++ y ∷ ds → ws ≡ cs
 fronts_same p [] x bs [] y ds passes front back same = refl
 fronts_same p [] x bs (c ∷ cs) y ds passes front back same =
     absurd (true≢false (sym passes ∙ ap (λ l. p (first_or x l)) same ∙ or_left_false (p c) (list_any p cs) front))
-fronts_same p (a ∷ as) x bs [] y ds passes front back same =
-    absurd (true≢false (sym (any_here p as x bs passes) ∙ ap (λ l. list_any p (rest_of l)) same ∙ back))
-fronts_same p (a ∷ as) x bs (c ∷ cs) y ds passes front back same =
-    ap (λ e. e ∷ as) (ap (first_or a) same)
-    ∙ ap (λ l. c ∷ l) (fronts_same p as x bs cs y ds passes (or_right_false (p c) (list_any p cs) front) back (ap rest_of same))
+fronts_same p (w ∷ ws) x bs [] y ds passes front back same =
+    absurd (true≢false (sym (any_here p ws x bs passes) ∙ ap (λ l. list_any p (rest_of l)) same ∙ back))
+fronts_same p (w ∷ ws) x bs (c ∷ cs) y ds passes front back same =
+    ap (λ e. e ∷ ws) (ap (first_or w) same)
+    ∙ ap (λ l. c ∷ l) (fronts_same p ws x bs cs y ds passes (or_right_false (p c) (list_any p cs) front) back (ap rest_of same))
 
 -- ---- what is no end of a menu begins it neither
 begins_of : (b : BlockId) (e : Entry) → is_of_menu b e ≡ false → begins_menu b e ≡ false

@@ -129,7 +129,7 @@ fn pass_over(alloc: Global, tree: &Tree, prefix: &str, bytes: &[u8]) -> Result<P
 }
 
 /// Reads a `.config`: the assignments that count, in the order of their lines, and the warnings, in the order of theirs
-/// (docs/LANGUAGE.md). A line that gives a symbol of the tree a value of its type is usable, and of a symbol's usable lines
+/// (docs/FILES.md). A line that gives a symbol of the tree a value of its type is usable, and of a symbol's usable lines
 /// the last counts; members of choices are symbols like others here.
 ///
 /// # Errors

@@ -1,13 +1,13 @@
 //! What a line of a `.config` gives a tree.
 
 ghost use Rattle.std.specs.Prelude.{◌≡◌, ◌<◌, ℕ, length, IfOk};
-ghost use Rattle.kc_files.specs.ConfigText.{type_of};
 ghost use Rattle.kc_files.specs.LineReading.{bad_value};
 ghost use Rattle.kc_files.specs.LineSteps.{said, assigned_reading, unset_reading, reading_of, IsInside};
 
 use crate::assign::Assign;
 use crate::config_lines::trimmed;
 use crate::line_form::{LineForm, line_form};
+use crate::symbols::type_of;
 use crate::value_form::{no_given, value_given};
 use crate::warning::WarningKind;
 use kc_tree::{SymId, SymbolType, Tree, UserVal};

@@ -1,13 +1,14 @@
 //! The assignments of a `.config` become user values.
 
 ghost use Rattle.std.specs.Prelude.{◌≡◌, All};
-ghost use Rattle.kc_outline.specs.TreeValue.{choice_of};
+ghost use Rattle.kc_outline.specs.TreeValue.{TreeValue};
 ghost use Rattle.kc_value.specs.UserValues.{IsUserFor, with_chosen};
 ghost use Rattle.kc_files.specs.LineReading.{IsAssignFor};
 ghost use Rattle.kc_files.specs.Loading.{is_yes, user_after};
 ghost use Rattle.kc_files.specs.LoadingSteps.{with_loaded, left_by};
 
 use crate::assign::Assign;
+use crate::symbols::choice_of;
 use kc_tree::{ChoiceId, SymId, Tree, Tri, UserVal};
 use kc_value::User;
 
@@ -26,18 +27,12 @@ fn is_yes(value: &UserVal) -> bool
     matches!(value, UserVal::Tri(Tri::Yes))
 }
 
-/// The choice that a symbol is a member of.
-fn choice_of(tree: &Tree, symbol: SymId) -> Option<ChoiceId>
-    ensures { result ≡ choice_of tree.now symbol }
-{
-    tree.symbols().get(symbol.0 as usize)?.choice()
-}
-
 /// Chooses a member of a choice, or none; nothing changes for a choice that the tree doesn't have.
 #[tactic(auto, using(crate::proofs::LoadingLaws::chosen_outside))]
 fn choose(tree: &Tree, user: &mut User, choice: ChoiceId, member: Option<SymId>)
     requires user { IsUserFor tree.now user.old }
-    ensures { user.new ≡ with_chosen user.old choice member }
+    ensures values { user.new ≡ with_chosen user.old choice member }
+    ensures user { IsUserFor tree.now user.new }
 {
     if (choice.0 as usize) < tree.choices().len() {
         user.choose(choice, member);
@@ -46,10 +41,12 @@ fn choose(tree: &Tree, user: &mut User, choice: ChoiceId, member: Option<SymId>)
 
 /// Applies one assignment: a member of a choice that is y is chosen, one that is n changes nothing, and any other symbol
 /// has the value.
+#[tactic(auto, using(crate::proofs::LoadingLaws::assign_fits))]
 fn apply_one(tree: &Tree, user: &mut User, assign: Assign)
     requires user { IsUserFor tree.now user.old }
     requires assign { IsAssignFor tree.now assign }
-    ensures { user.new ≡ with_loaded tree.now user.old assign }
+    ensures values { user.new ≡ with_loaded tree.now user.old assign }
+    ensures user { IsUserFor tree.now user.new }
 {
     match choice_of(tree, assign.symbol) {
         Some(choice) => {
@@ -63,7 +60,8 @@ fn apply_one(tree: &Tree, user: &mut User, assign: Assign)
 
 /// Removes what the load does not keep.
 fn begin(user: &mut User, load: Load)
-    ensures { user.new ≡ left_by load user.old }
+    ensures values { user.new ≡ left_by load user.old }
+    ensures user { (t : TreeValue) → IsUserFor t user.old → IsUserFor t user.new }
 {
     match load {
         Load::Replace => user.reset(),
@@ -77,7 +75,8 @@ fn begin(user: &mut User, load: Load)
 pub fn apply(tree: &Tree, user: &mut User, assigns: Vec<Assign>, load: Load)
     requires user { IsUserFor tree.now user.old }
     requires assigns { All (IsAssignFor tree.now) assigns.items }
-    ensures { user.new ≡ user_after tree.now user.old load assigns.items }
+    ensures values { user.new ≡ user_after tree.now user.old load assigns.items }
+    ensures user { IsUserFor tree.now user.new }
 {
     begin(user, load);
     for assign in assigns {

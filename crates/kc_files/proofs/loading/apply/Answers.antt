@@ -1,11 +1,10 @@
-use Rattle.std.proofs.Common.{◌≡◌, ◌∙◌, length, subst, sym, ap, arith}
+use Rattle.std.proofs.Common.{◌≡◌, ◌∙◌, length, sym, ap, arith}
 use Rattle.std.specs.Vec.Iter.{into_iter_items}
 use Rattle.std.proofs.lemmas.List.{nil_from_length}
 use Rattle.std.proofs.lemmas.List.Elements.{All-rest}
-use Rattle.kc_value.specs.UserValues.{IsUserFor}
 use Rattle.kc_files.specs.LineReading.{IsAssignFor}
 use Rattle.kc_files.specs.LoadingSteps.{loaded}
-use Rattle.kc_files.proofs.LoadingLaws.{sized_loaded, loaded_is}
+use Rattle.kc_files.proofs.LoadingLaws.{loaded_is}
 use Rattle.kc_files.proofs.loading.apply.Goals as goal
 
 pub loop-assign-preserved : goal.loop-assign-preserved
@@ -13,16 +12,15 @@ loop-assign-preserved c =
     let t = c.args.tree.now in
     let left = into_iter_items c.loop-assign.assign-iterator in
     let behind = into_iter_items c.next.new.self in
-    let a = c.in-Some.assign in
     let items = c.in-Some.ensures.steps.0 in
     record {
-      user = subst (IsUserFor t) (sym c.apply_one.ensures) (sized_loaded t c.loop-assign.user a c.loop-assign.invariant.user);
+      user = c.apply_one.ensures.user;
       assigns = All-rest (IsAssignFor t) a behind left items c.loop-assign.invariant.assigns;
-      same = ap (λ u. loaded t u behind) c.apply_one.ensures ∙ sym (ap (loaded t c.loop-assign.user) items) ∙ c.loop-assign.invariant.same;
+      same = ap (λ u. loaded t u behind) c.apply_one.ensures.values ∙ sym (ap (loaded t c.loop-assign.user) items) ∙ c.loop-assign.invariant.same;
     }
 
-pub returns : goal.returns
-returns c =
+pub returns-clause-values : goal.returns-clause-values
+returns-clause-values c =
     let t = c.args.tree.now in
     let left = into_iter_items c.loop-assign.assign-iterator in
     let none : length left ≡ 0 = omega (arith, c.loop-assign.assign-iterator.rest.ok.0, c.in-None.ensures.steps.0) in
