@@ -7,6 +7,7 @@ pub mod LineLists
 pub mod Lines
 pub mod Outcomes
 pub mod RunSteps
+pub mod Spelling
 pub mod Answered
 pub mod Taking
 pub mod Texts

@@ -3,6 +3,7 @@ ghost use Rattle.std.specs.Prelude.{◌≡◌, IfOk, IfErr, Ok, Err};
 ghost use Rattle.kc_text.specs.Expansion.{texts_in};
 ghost use Rattle.kc_text.specs.Reading.{logical_lines_of};
 ghost use Rattle.kc_tree.specs.Parsed.{IsTreeOf, IsFaultOf};
+ghost use Rattle.kc_value.specs.Solution.{solution, IsOnlySolution};
 ghost use Rattle.kc_session.specs.Opened.{IsOpened, IsOpenFault, IsTreeFaultOf};
 
 use crate::session::Session;
@@ -53,8 +54,8 @@ fn read_tree(alloc: Global, lines: &[Line<'_>]) -> Result<Tree, OpenFault>
     }
 }
 
-/// The session of the Kconfig that begins with the top file, without user values. It keeps a copy of the
-/// prefix.
+/// The session of the Kconfig that begins with the top file, without user values. Its values are those of the only
+/// solution. It keeps a copy of the prefix.
 ///
 /// # Errors
 ///
@@ -69,6 +70,7 @@ pub fn open(
     prefix: &Prefix,
 ) -> Result<Session, OpenFault>
     ensures opened { IfOk result (IsOpened sources.now vars.now top.now prefix.now) }
+    ensures solved { IfOk result (λ s. IsOnlySolution s.tree s.user (solution s.tree s.user)) }
     ensures fault { IfErr result (IsOpenFault sources.now vars.now top.now) }
 {
     let arena = Bump::new(alloc);

@@ -1,6 +1,7 @@
 //! A session: a tree, user values, and the commands that read and change them.
-ghost use Rattle.std.specs.Prelude.{◌≡◌, [], not, IfSome, IfOk, IfErr, OnErr};
+ghost use Rattle.std.specs.Prelude.{◌≡◌, [], not, None, IfSome, IfOk, IfErr, OnErr};
 ghost use Rattle.std.specs.String.{string_bytes};
+ghost use Rattle.kc_value.specs.Solution.{solution, IsOnlySolution};
 ghost use Rattle.kc_value.specs.UserValues.{chosen_in};
 ghost use Rattle.kc_value.specs.ChoiceRule.{is_symbol};
 
@@ -47,12 +48,13 @@ impl Session {
     ghost use Rattle.kc_tree.specs.declared.node.Node.TheVariants.{Vis};
     ghost use Rattle.kc_tree.specs.Nodes.{IsNodeOf};
     ghost use Rattle.kc_tree.specs.SymbolFaults.{is_tri_type};
-    ghost use Rattle.kc_outline.specs.TreeValue.{symbol_named};
+    ghost use Rattle.kc_outline.specs.TreeValue.{symbol_named, choice_of};
     ghost use Rattle.kc_value.specs.UserValues.{with_chosen};
     ghost use Rattle.kc_files.specs.ConfigText.{type_of};
     ghost use Rattle.kc_session.specs.Effect.{IsApplied, IsOutcome, IsReplyTo, keeps_text, set_member, set_value, set_symbol, unset_outcome, unset_symbol, unchosen, reset_outcome, show_outcome, list_outcome, choices_outcome, config_outcome};
 
-    /// A session of a tree, without user values, with the prefix of the names in files.
+    /// A session of a tree, without user values, with the prefix of the names in files. Its values are those of the only
+    /// solution.
     ///
     /// # Errors
     ///
@@ -63,6 +65,7 @@ impl Session {
         prefix: Prefix,
     ) -> Result<Session, (Tree, Prefix, AllocError)>
         ensures ok { IfOk result (λ s. s ≡ new_session tree prefix) }
+        ensures solved { IfOk result (λ s. IsOnlySolution s.tree s.user (solution s.tree s.user)) }
         ensures err { IfErr result (λ e. (e.0 ≡ tree) × (e.1 ≡ prefix)) }
     {
         match User::empty(alloc, &tree) {
@@ -149,9 +152,10 @@ impl Session {
     }
 
     /// Gives a symbol that is no member a value.
-    #[tactic(auto, using(crate::proofs::Outcomes::value_refused, crate::proofs::Outcomes::value_kept, crate::proofs::Outcomes::value_starved))]
+    #[tactic(auto, using(crate::proofs::Outcomes::value_refused, crate::proofs::Outcomes::value_kept, crate::proofs::Outcomes::value_starved, crate::proofs::Spelling::spelled_fits))]
     fn set_value(&mut self, symbol: SymId, value: &str) -> Reply
-        requires { IsNodeOf self.old.tree (Vis symbol) }
+        requires inside { IsNodeOf self.old.tree (Vis symbol) }
+        requires alone { choice_of self.old.tree symbol ≡ None }
         ensures { IsOutcome self.old (not (is_tri_type (type_of self.old.tree symbol)))
             (set_value self.old symbol value.now) result self.new }
     {

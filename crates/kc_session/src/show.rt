@@ -6,7 +6,6 @@ ghost use Rattle.kc_tree.specs.declared.node.Node.TheVariants.{Vis, Val};
 ghost use Rattle.kc_tree.specs.Nodes.{IsNodeOf};
 ghost use Rattle.kc_outline.specs.TreeValue.{name_of};
 ghost use Rattle.kc_value.specs.Solution.{solution};
-ghost use Rattle.kc_value.specs.UserValues.{IsUserFor};
 ghost use Rattle.kc_files.specs.ConfigText.{type_of};
 ghost use Rattle.kc_session.specs.ShowLine.{show_line_of, list_text_of, line_text, shown_text, type_text, tri_text, values_text, user_part, given_text};
 
@@ -23,8 +22,7 @@ pub(crate) fn show_line<R: Resolver>(
     resolver: &mut R,
     symbol: SymId,
 ) -> Result<String, AllocError>
-    requires inside { IsNodeOf (R.tree_of resolver.old) (Vis symbol) }
-    requires sized { IsUserFor (R.tree_of resolver.old) (R.user_of resolver.old) }
+    requires { IsNodeOf (R.tree_of resolver.old) (Vis symbol) }
     ensures text { IfOk result
         (λ text. string_bytes text ≡ show_line_of (R.tree_of resolver.old) (R.user_of resolver.old) symbol) }
     ensures tree { R.tree_of resolver.new ≡ R.tree_of resolver.old }
@@ -167,7 +165,6 @@ fn symbol_count(tree: &Tree) -> u32
 /// The lines of `list`: one about each symbol, by number.
 #[tactic(auto, unfolding(crate::specs::ShowLine::list_text_of))]
 pub(crate) fn list_text<R: Resolver>(alloc: Global, resolver: &mut R) -> Result<String, AllocError>
-    requires sized { IsUserFor (R.tree_of resolver.old) (R.user_of resolver.old) }
     ensures text { IfOk result
         (λ text. string_bytes text ≡ list_text_of (R.tree_of resolver.old) (R.user_of resolver.old)) }
     ensures tree { R.tree_of resolver.new ≡ R.tree_of resolver.old }

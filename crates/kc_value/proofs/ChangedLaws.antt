@@ -319,7 +319,7 @@ just_enough t u accepted = let grouped = accepted.grouped in record {
   enough = λ w held. changes_suffice t u w accepted grouped held;
   modes = λ w held. modes_stay t u w accepted grouped held;
   needed = λ w same s node none.
-  unchanged t u (Val s) (value_needed t u w accepted grouped (owned_tell t u w accepted grouped same) s node none);
+      unchanged t u (Val s) (value_needed t u w accepted grouped (owned_tell t u w accepted grouped same) s node none);
   needed_members = λ w same c node none.
-  unchanged t u (Sel c) (member_needed t u w accepted grouped (owned_tell t u w accepted grouped same) c node none);
+      unchanged t u (Sel c) (member_needed t u w accepted grouped (owned_tell t u w accepted grouped same) c node none);
 }

@@ -1,5 +1,5 @@
 -- User values that fit their symbols still do once one is set or removed.
-use Rattle.std.proofs.Common.{◌≡◌, ◌<◌, ℕ, Bool, true, false, true≢false, not, ◌&&◌, List, Option, Some, None, is_some, length, replicate, get_or, set, slice_get, get_or-set_same, get_or-set_other, sym, ap, ◌∙◌, refl, subst, ⊎_elim, arith}
+use Rattle.std.proofs.Common.{◌≡◌, ◌<◌, ℕ, true, false, true≢false, not, ◌&&◌, Option, Some, None, is_some, length, replicate, get_or, set, slice_get, get_or-set_same, get_or-set_other, sym, ap, ◌∙◌, refl, subst, ⊎_elim, arith}
 use Rattle.std.specs.Option.{option_map_or}
 use Rattle.std.proofs.lemmas.Bool.{cases_eq, cases_lt}
 use Rattle.std.proofs.lemmas.List.{length-set, length-replicate, get_or-replicate, get_or_past}
@@ -9,7 +9,7 @@ use Rattle.kc_outline.specs.declared.id.ChoiceId.{ChoiceId}
 use Rattle.kc_outline.specs.TreeValue.{TreeValue, SymbolValue, kind_of}
 use Rattle.kc_tree.specs.Fits.{fits, fits_type}
 use Rattle.kc_tree.specs.declared.user_value.UserVal.{UserVal}
-use Rattle.kc_value.specs.UserValues.{UserValues, IsUserFor, user_value, with_value, with_chosen, no_values}
+use Rattle.kc_value.specs.UserValues.{UserValues, IsUserFor, with_value, with_chosen, no_values}
 
 -- ---- lists of places
 pub none_in : {X : Type 0} (n i : ℕ) → get_or {A = Option X} (replicate n None) i None ≡ None
