@@ -15,7 +15,7 @@ loop-assign-preserved c =
     let items = c.in-Some.ensures.steps.0 in
     record {
       user = c.apply_one.ensures.user;
-      assigns = All-rest (IsAssignFor t) a behind left items c.loop-assign.invariant.assigns;
+      assigns = All-rest (IsAssignFor t) c.in-Some.assign behind left items c.loop-assign.invariant.assigns;
       same = ap (λ u. loaded t u behind) c.apply_one.ensures.values ∙ sym (ap (loaded t c.loop-assign.user) items) ∙ c.loop-assign.invariant.same;
     }
 
