@@ -30,7 +30,13 @@ fn push_value(
         → OnOk result (string_bytes out.new ≡ string_bytes out.old ++ value_line tree.now u prefix.now symbol) }
 {
     if let Some(Value::Shown(value, _)) = changed_value(alloc, tree, values, Node::Val(symbol))? {
-        push_symbol_line(out, prefix, tree.name(symbol), type_of(tree, symbol), &value)?;
+        push_symbol_line(
+            out,
+            prefix,
+            tree.name(symbol),
+            type_of(tree, symbol),
+            &value,
+        )?;
     }
     Ok(())
 }

@@ -78,12 +78,7 @@ fn push_macro_start(out: &mut String, prefix: &Prefix, name: &str) -> Result<(),
 }
 
 /// Appends the macro of a name, with what follows the name.
-fn push_macro(
-    out: &mut String,
-    prefix: &Prefix,
-    name: &str,
-    body: &str,
-) -> Result<(), AllocError>
+fn push_macro(out: &mut String, prefix: &Prefix, name: &str, body: &str) -> Result<(), AllocError>
     ensures { OnOk result (string_bytes out.new ≡ string_bytes out.old ++ macro_line prefix.now name.now body.now) }
 {
     push_macro_start(out, prefix, name)?;

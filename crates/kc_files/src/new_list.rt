@@ -13,7 +13,9 @@ ghost use Rattle.kc_files.specs.NewText.{has_another_value, is_new_symbol, visib
 
 use crate::prefix::Prefix;
 use crate::symbol_line::push_text_line;
-use crate::symbols::{choice_of, is_symbol, is_tri_type, selected_member, shown_text, type_of, visibility};
+use crate::symbols::{
+    choice_of, is_symbol, is_tri_type, selected_member, shown_text, type_of, visibility,
+};
 use kc_tree::{ChoiceId, Entry, SymId, Tree};
 use kc_value::{Resolver, User, Value, all_values, assignable_among};
 use std::alloc::{AllocError, Global};
