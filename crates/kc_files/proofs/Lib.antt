@@ -1,5 +1,6 @@
 pub mod ConfigExample
 pub mod CountingLaws
+pub mod DefaultChanges
 pub mod DraftLaws
 pub mod EscapeLaws
 pub mod MenuPieces

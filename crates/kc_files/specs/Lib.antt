@@ -5,6 +5,8 @@ pub mod Quoting
 pub mod HeaderText
 pub mod NewText
 pub mod DefaultText
+pub mod DefaultLoading
+pub mod WrittenAssigns
 pub mod ConfigLines
 pub mod LineForm
 pub mod Unquoting

@@ -1,35 +1,136 @@
 //! The text of the default file.
 
-ghost use Rattle.std.specs.Prelude.{◌≡◌, ◌++◌, IfOk, OnOk};
+ghost use Rattle.std.specs.Prelude.{◌≡◌, ◌++◌, IfOk, OnOk, option_and_then};
 ghost use Rattle.std.specs.String.{string_bytes};
 ghost use Rattle.kc_outline.specs.Entries.{IsEntryOf};
-ghost use Rattle.kc_tree.specs.declared.node.Node.TheVariants.{Vis};
+ghost use Rattle.kc_tree.specs.declared.node.Node.TheVariants.{Vis, Val, Sel};
 ghost use Rattle.kc_tree.specs.Nodes.{IsNodeOf, all_nodes};
+ghost use Rattle.kc_value.specs.ChangedValue.{changed_value, ChangesAreJustEnough};
+ghost use Rattle.kc_value.specs.Replay.{shown_in};
 ghost use Rattle.kc_value.specs.Solution.{solution, AreSolved, IsOnlySolution};
-ghost use Rattle.kc_value.specs.UserValues.{UserValues};
-ghost use Rattle.kc_files.specs.DefaultText.{value_line, is_changed_member, member_line, default_line, default_entry, default_text_of};
+ghost use Rattle.kc_files.specs.DefaultLoading.{HasNoFeeds, KeepsChanges};
+ghost use Rattle.kc_files.specs.DefaultText.{is_changed_member, default_value, default_line, default_entry, default_text_of};
 
 use crate::prefix::Prefix;
-use crate::symbol_line::{push_symbol_line, push_tri_line};
+use crate::symbol_line::push_symbol_line;
 use crate::symbols::{choice_of, is_symbol, selected_member, type_of};
-use kc_tree::{ChoiceId, Entry, Node, SymId, Tree, Tri};
-use kc_value::{Resolver, Value, all_values, changed_value};
+use kc_tree::{ChoiceId, Entry, Node, SymId, Tree, Tri, UserVal};
+use kc_value::{Resolver, User, Value, all_values, changed_value};
 use std::alloc::{AllocError, Global};
 
-/// Appends the line of a symbol that is no member of a choice, where it has another value than without the user's own.
-fn push_value(
+/// The value of a symbol, where it is another than without the user's own: it is the same where the user gave none.
+#[tactic(auto, using(crate::proofs::DefaultChanges::own_value))]
+fn changed_symbol(
+    alloc: Global,
+    tree: &Tree,
+    user: &User,
+    values: &[Option<Value>],
+    symbol: SymId,
+) -> Result<Option<Value>, AllocError>
+    requires node { IsNodeOf tree.now (Val symbol) }
+    requires changes { ChangesAreJustEnough tree.now user.now }
+    ensures { AreSolved tree.now user.now values.now
+        → IfOk result (λ v. v ≡ changed_value tree.now user.now (Val symbol)) }
+{
+    if user.get(symbol).is_none() {
+        return Ok(None);
+    }
+    changed_value(alloc, tree, values, Node::Val(symbol))
+}
+
+/// The selection of a choice, where it is another than without a chosen member: it is the same where the user chose none.
+#[tactic(auto, using(crate::proofs::DefaultChanges::own_member))]
+fn changed_selection(
+    alloc: Global,
+    tree: &Tree,
+    user: &User,
+    values: &[Option<Value>],
+    choice: ChoiceId,
+) -> Result<Option<Value>, AllocError>
+    requires node { IsNodeOf tree.now (Sel choice) }
+    requires changes { ChangesAreJustEnough tree.now user.now }
+    ensures { AreSolved tree.now user.now values.now
+        → IfOk result (λ v. v ≡ changed_value tree.now user.now (Sel choice)) }
+{
+    if user.chosen(choice).is_none() {
+        return Ok(None);
+    }
+    changed_value(alloc, tree, values, Node::Sel(choice))
+}
+
+/// Whether a member is the selected one of a choice whose selection is another than without a chosen member.
+fn is_changed_member(
+    alloc: Global,
+    tree: &Tree,
+    user: &User,
+    values: &[Option<Value>],
+    choice: ChoiceId,
+    member: SymId,
+) -> Result<bool, AllocError>
+    requires { ChangesAreJustEnough tree.now user.now }
+    ensures { AreSolved tree.now user.now values.now
+        → IfOk result (λ b. b ≡ is_changed_member tree.now user.now choice member) }
+{
+    if tree.choices().get(choice.0 as usize).is_none() {
+        return Ok(false);
+    }
+    if !is_symbol(selected_member(tree, values, choice), member) {
+        return Ok(false);
+    }
+    let changed = changed_selection(alloc, tree, user, values, choice)?;
+    Ok(changed.is_some())
+}
+
+/// The value that a symbol has in the default file.
+fn default_value(
+    alloc: Global,
+    tree: &Tree,
+    user: &User,
+    values: &[Option<Value>],
+    symbol: SymId,
+) -> Result<Option<UserVal>, AllocError>
+    requires node { IsNodeOf tree.now (Vis symbol) }
+    requires changes { ChangesAreJustEnough tree.now user.now }
+    ensures { AreSolved tree.now user.now values.now
+        → IfOk result (λ v. v ≡ default_value tree.now user.now symbol) }
+{
+    let Some(choice) = choice_of(tree, symbol) else {
+        let changed = changed_symbol(alloc, tree, user, values, symbol)?;
+        return Ok(shown_value(changed));
+    };
+    if is_changed_member(alloc, tree, user, values, choice, symbol)? {
+        Ok(Some(UserVal::Tri(Tri::Yes)))
+    } else {
+        Ok(None)
+    }
+}
+
+/// What a symbol shows, of its value.
+fn shown_value(value: Option<Value>) -> Option<UserVal>
+    ensures { result ≡ option_and_then shown_in value }
+{
+    match value {
+        Some(Value::Shown(value, _)) => Some(value),
+        Some(Value::Tri(_) | Value::Member(_)) | None => None,
+    }
+}
+
+/// Appends the line of a symbol that has one.
+fn push_symbol(
     alloc: Global,
     out: &mut String,
     tree: &Tree,
+    user: &User,
     prefix: &Prefix,
     values: &[Option<Value>],
     symbol: SymId,
 ) -> Result<(), AllocError>
-    requires { IsNodeOf tree.now (Vis symbol) }
-    ensures { (u : UserValues) → AreSolved tree.now u values.now
-        → OnOk result (string_bytes out.new ≡ string_bytes out.old ++ value_line tree.now u prefix.now symbol) }
+    requires node { IsNodeOf tree.now (Vis symbol) }
+    requires changes { ChangesAreJustEnough tree.now user.now }
+    ensures { AreSolved tree.now user.now values.now
+        → OnOk result (string_bytes out.new ≡ string_bytes out.old ++ default_line tree.now user.now prefix.now symbol) }
 {
-    if let Some(Value::Shown(value, _)) = changed_value(alloc, tree, values, Node::Val(symbol))? {
+    if let Some(value) = default_value(alloc, tree, user, values, symbol)? {
         push_symbol_line(
             out,
             prefix,
@@ -41,80 +142,23 @@ fn push_value(
     Ok(())
 }
 
-/// Whether a member is the selected one of a choice whose selection is another than without a chosen member.
-fn is_changed_member(
-    alloc: Global,
-    tree: &Tree,
-    values: &[Option<Value>],
-    choice: ChoiceId,
-    member: SymId,
-) -> Result<bool, AllocError>
-    ensures { (u : UserValues) → AreSolved tree.now u values.now
-        → IfOk result (λ b. b ≡ is_changed_member tree.now u choice member) }
-{
-    if tree.choices().get(choice.0 as usize).is_none() {
-        return Ok(false);
-    }
-    if !is_symbol(selected_member(tree, values, choice), member) {
-        return Ok(false);
-    }
-    let changed = changed_value(alloc, tree, values, Node::Sel(choice))?;
-    Ok(changed.is_some())
-}
-
-/// Appends the line of a member of a choice that has one.
-fn push_member(
-    alloc: Global,
-    out: &mut String,
-    tree: &Tree,
-    prefix: &Prefix,
-    values: &[Option<Value>],
-    choice: ChoiceId,
-    member: SymId,
-) -> Result<(), AllocError>
-    ensures { (u : UserValues) → AreSolved tree.now u values.now
-        → OnOk result (string_bytes out.new ≡ string_bytes out.old ++ member_line tree.now u prefix.now choice member) }
-{
-    if is_changed_member(alloc, tree, values, choice, member)? {
-        push_tri_line(out, prefix, tree.name(member), Tri::Yes)?;
-    }
-    Ok(())
-}
-
-/// Appends the line of a symbol that has one.
-fn push_symbol(
-    alloc: Global,
-    out: &mut String,
-    tree: &Tree,
-    prefix: &Prefix,
-    values: &[Option<Value>],
-    symbol: SymId,
-) -> Result<(), AllocError>
-    requires { IsNodeOf tree.now (Vis symbol) }
-    ensures { (u : UserValues) → AreSolved tree.now u values.now
-        → OnOk result (string_bytes out.new ≡ string_bytes out.old ++ default_line tree.now u prefix.now symbol) }
-{
-    match choice_of(tree, symbol) {
-        Some(choice) => push_member(alloc, out, tree, prefix, values, choice, symbol),
-        None => push_value(alloc, out, tree, prefix, values, symbol),
-    }
-}
-
 /// Appends what an entry gives.
 fn push_entry(
     alloc: Global,
     out: &mut String,
     tree: &Tree,
+    user: &User,
     prefix: &Prefix,
     values: &[Option<Value>],
     entry: Entry,
 ) -> Result<(), AllocError>
-    requires { IsEntryOf tree.now entry }
-    ensures { (u : UserValues) → AreSolved tree.now u values.now
-        → OnOk result (string_bytes out.new ≡ string_bytes out.old ++ default_entry tree.now u prefix.now entry) }
+    requires entry { IsEntryOf tree.now entry }
+    requires changes { ChangesAreJustEnough tree.now user.now }
+    ensures { AreSolved tree.now user.now values.now
+        → OnOk result (string_bytes out.new ≡ string_bytes out.old ++ default_entry tree.now user.now prefix.now entry) }
 {
     match entry {
-        Entry::Symbol(symbol) => push_symbol(alloc, out, tree, prefix, values, symbol),
+        Entry::Symbol(symbol) => push_symbol(alloc, out, tree, user, prefix, values, symbol),
         Entry::Again(_)
         | Entry::Choice(_)
         | Entry::Menu(_)
@@ -128,14 +172,16 @@ fn push_entries(
     alloc: Global,
     out: &mut String,
     tree: &Tree,
+    user: &User,
     prefix: &Prefix,
     values: &[Option<Value>],
 ) -> Result<(), AllocError>
-    ensures { (u : UserValues) → AreSolved tree.now u values.now
-        → OnOk result (string_bytes out.new ≡ string_bytes out.old ++ default_text_of tree.now u prefix.now) }
+    requires { ChangesAreJustEnough tree.now user.now }
+    ensures { AreSolved tree.now user.now values.now
+        → OnOk result (string_bytes out.new ≡ string_bytes out.old ++ default_text_of tree.now user.now prefix.now) }
 {
     for entry in tree.entries() {
-        push_entry(alloc, out, tree, prefix, values, *entry)?;
+        push_entry(alloc, out, tree, user, prefix, values, *entry)?;
     }
     Ok(())
 }
@@ -145,6 +191,10 @@ fn push_entries(
 /// definitions, the `.config` line of each symbol that has another value than it would have without the user's own, all
 /// else as it is; and of the selected member of each choice whose selection is another than without a chosen member.
 /// Texts are compared as they are spelt. The resolver keeps its tree and its user values. Only memory can be refused.
+///
+/// Where no text of the user has a line feed, the text is read back without a warning. Loaded in the place of all user
+/// values, it gives each visibility, value and selection as it is, and each mode but that of an optional choice, which
+/// is n where the choice selects none; and with any one of its lines left out, some value or selection is another.
 pub fn defconfig_text<R: Resolver>(
     alloc: Global,
     resolver: &mut R,
@@ -154,12 +204,21 @@ pub fn defconfig_text<R: Resolver>(
         ≡ default_text_of (R.tree_of resolver.old) (R.user_of resolver.old) prefix.now) }
     ensures solved { IsOnlySolution (R.tree_of resolver.old) (R.user_of resolver.old)
         (solution (R.tree_of resolver.old) (R.user_of resolver.old)) }
+    ensures keeps { HasNoFeeds (R.user_of resolver.old) → IfOk result (λ text.
+        KeepsChanges (R.tree_of resolver.old) (R.user_of resolver.old) prefix.now (string_bytes text)) }
     ensures tree { R.tree_of resolver.new ≡ R.tree_of resolver.old }
     ensures user { R.user_of resolver.new ≡ R.user_of resolver.old }
     ensures grew { R.grew resolver.old resolver.new (all_nodes (R.tree_of resolver.old)) }
 {
     let values = all_values(alloc, resolver)?;
     let mut text = String::new(alloc);
-    push_entries(alloc, &mut text, resolver.tree(), prefix, values.as_slice())?;
+    push_entries(
+        alloc,
+        &mut text,
+        resolver.tree(),
+        resolver.user(),
+        prefix,
+        values.as_slice(),
+    )?;
     Ok(text)
 }
