@@ -10,6 +10,7 @@ use Rattle.kc_tree.specs.declared.node.Node.{Node}
 use Rattle.kc_tree.specs.declared.node.Node.TheVariants.{Vis, Val, Mode, Sel}
 use Rattle.kc_statement.specs.declared.tri.Tri.TheVariants.{No}
 use Rattle.kc_tree.specs.declared.user_value.UserVal.{UserVal}
+use Rattle.kc_tree.specs.declared.user_value.UserVal.TheVariants.{Text}
 use Rattle.kc_tree.specs.Accepted.{IsAccepted}
 use Rattle.kc_tree.specs.Fits.{fits}
 use Rattle.kc_tree.specs.Nodes.{IsNodeOf}
@@ -33,7 +34,7 @@ use Rattle.kc_value.proofs.Agreement.{Agree, of_selection_agrees}
 use Rattle.kc_value.proofs.ModeLaws.{IsNoMode, members_hold, defaults_hold, mode_past_modes, value_past_modes}
 use Rattle.kc_value.proofs.ReadNodes.{append_holds, agree_where}
 use Rattle.kc_value.proofs.EnoughLaws.{moved, moved_solves, selects_nothing}
-use Rattle.kc_value.proofs.FittingLaws.{rule_fits}
+use Rattle.kc_value.proofs.FittingLaws.{rule_fits, rule_text}
 use Rattle.kc_value.proofs.ReplayLaws.{value_replayed, selection_replayed}
 use Rattle.kc_value.proofs.SameLaws.{same_is}
 use Rattle.kc_value.proofs.SlotLemmas.{none_set}
@@ -295,27 +296,35 @@ owned_tell t u w accepted grouped same (Val s) node h = same (Val s) node tt
 owned_tell t u w accepted grouped same (Mode c) node h = absurd (true≢false h)
 owned_tell t u w accepted grouped same (Sel c) node h = same (Sel c) node tt
 
--- a changed value of a symbol is one that it takes
-changed_fits : (t : TreeValue) (u : UserValues) → IsAccepted t → IsUserFor t u → (s : SymId) → IsNodeOf t (Val s) → (v : UserVal)
-    → option_and_then shown_in (changed_value t u (Val s)) ≡ Some v → fits t s v ≡ true
-unfolding rule value_without
-changed_fits t u accepted user s node v is =
-    let a = solution t u in
-    let now = (one_solution t u accepted).solves (Val s) node in
-    let alone : value_without t u (Val s) ≡ option_map_or (λ x. symbol_rule t a s x (as_tri (a (Vis s))) None) (slice_get t.symbols s.0) (Level No) =
-    ap (λ w. option_map_or (λ x. symbol_rule t a s x (as_tri (a (Vis s))) w) (slice_get t.symbols s.0) (Level No)) (none_set u.values s.0)
-    in
-    ⊎_elim
-    (λ other.
-    rule_fits t u a s user (slice_get t.symbols s.0) refl v (sym (ap shown_in now) ∙ sym (ap (option_and_then shown_in) other.1) ∙ is)
-    (λ same. other.0 (now ∙ same ∙ sym alone)))
-    (λ none. absurd (true≢false (sym (ap is_some (sym (ap (option_and_then shown_in) none.1) ∙ is)))))
-    (changed_or_not t u (Val s))
+-- what a changed value meets, where its rule's value and that without a user value are others
+module _ (t : TreeValue) (u : UserValues) (accepted : IsAccepted t) (s : SymId) (node : IsNodeOf t (Val s)) where
+  abbrev by_rule : Option UserVal → Value
+  by_rule v = option_map_or (λ x. symbol_rule t (solution t u) s x (as_tri (solution t u (Vis s))) v) (slice_get t.symbols s.0) (Level No)
+
+  changed_by_rule : (P : UserVal → Type 0) (v : UserVal) → (shown_in (by_rule (user_value u s)) ≡ Some v → by_rule (user_value u s) ≢ by_rule None → P v)
+      → option_and_then shown_in (changed_value t u (Val s)) ≡ Some v → P v
+  unfolding rule value_without
+  changed_by_rule P v of_rule is =
+      let now : solution t u (Val s) ≡ by_rule (user_value u s) = (one_solution t u accepted).solves (Val s) node in
+      let alone : value_without t u (Val s) ≡ by_rule None = ap by_rule (none_set u.values s.0) in
+      ⊎_elim
+      (λ other. of_rule (sym (ap shown_in now) ∙ sym (ap (option_and_then shown_in) other.1) ∙ is) (λ same. other.0 (now ∙ same ∙ sym alone)))
+      (λ none. absurd (true≢false (sym (ap is_some (sym (ap (option_and_then shown_in) none.1) ∙ is)))))
+      (changed_or_not t u (Val s))
+
+  -- a changed value of a symbol is one that it takes
+  changed_fits : IsUserFor t u → (v : UserVal) → option_and_then shown_in (changed_value t u (Val s)) ≡ Some v → fits t s v ≡ true
+  changed_fits user v is = changed_by_rule (λ w. fits t s w ≡ true) v (rule_fits t u (solution t u) s user (slice_get t.symbols s.0) refl v) is
+
+  -- a changed text is the user's own
+  changed_text : (text : List ℕ) → option_and_then shown_in (changed_value t u (Val s)) ≡ Some (Text text) → user_value u s ≡ Some (Text text)
+  changed_text text is = changed_by_rule (λ w. user_value u s ≡ Some w) (Text text) (rule_text t u (solution t u) s (slice_get t.symbols s.0) text) is
 
 -- what was changed is just enough
 pub just_enough : (t : TreeValue) (u : UserValues) → IsAccepted t → ChangesAreJustEnough t u
 just_enough t u accepted = let grouped = accepted.grouped in record {
-  fitting = λ user s node v is. changed_fits t u accepted user s node v is;
+  fitting = λ user s node v is. changed_fits t u accepted s node user v is;
+  texts = λ s node text is. changed_text t u accepted s node text is;
   enough = λ w held. changes_suffice t u w accepted grouped held;
   modes = λ w held. modes_stay t u w accepted grouped held;
   needed = λ w same s node none.

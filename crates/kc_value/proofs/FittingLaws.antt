@@ -91,3 +91,34 @@ pub rule_fits : (t : TreeValue) (u : UserValues) (a : Assignment) (s : SymId) �
     → fits t s v ≡ true
 rule_fits t u a s user None found v is differs = absurd (differs refl)
 rule_fits t u a s user (Some x) found v is differs = shown_fits t u a s user x found x.choice refl v is differs
+
+-- ---- a changed text is the user's own
+abbrev is_text : UserVal → Bool
+is_text (TriVal v) = false
+is_text (Text w) = true
+
+module _ (t : TreeValue) (u : UserValues) (a : Assignment) (s : SymId) (x : SymbolValue) (w : List ℕ) where
+  abbrev seen : Tri
+  seen = as_tri (a (Vis s))
+
+  free_text : (b : Bool) → shown_in (if b then tri_rule t a x seen (user_value u s) else text_rule t a x seen (user_value u s)) ≡ Some (Text w)
+      → (if b then tri_rule t a x seen (user_value u s) else text_rule t a x seen (user_value u s)) ≢ (if b then tri_rule t a x seen None else text_rule t a x seen None)
+      → user_value u s ≡ Some (Text w)
+  free_text true is differs = absurd (true≢false (sym (ap is_text (same_Some _ _ is))))
+  free_text false is differs = ⊎_elim (λ same. absurd (differs same)) (λ shown. sym shown ∙ is) (text_shown t a x seen (user_value u s))
+
+  shown_text : (o : Option ChoiceId)
+      → shown_in (option_map_or (λ c. member_rule t a c s seen) o (if is_tri_type (kind_of x) then tri_rule t a x seen (user_value u s) else text_rule t a x seen (user_value u s))) ≡ Some (Text w)
+      → option_map_or (λ c. member_rule t a c s seen) o (if is_tri_type (kind_of x) then tri_rule t a x seen (user_value u s) else text_rule t a x seen (user_value u s))
+      ≢ option_map_or (λ c. member_rule t a c s seen) o (if is_tri_type (kind_of x) then tri_rule t a x seen None else text_rule t a x seen None)
+      → user_value u s ≡ Some (Text w)
+  shown_text None is differs = free_text (is_tri_type (kind_of x)) is differs
+  shown_text (Some c) is differs = absurd (differs refl)
+
+-- a text by its rule, other than without a user value, is that user value
+pub rule_text : (t : TreeValue) (u : UserValues) (a : Assignment) (s : SymId) (o : Option SymbolValue) (w : List ℕ)
+    → shown_in (option_map_or (λ x. symbol_rule t a s x (as_tri (a (Vis s))) (user_value u s)) o (Level No)) ≡ Some (Text w)
+    → option_map_or (λ x. symbol_rule t a s x (as_tri (a (Vis s))) (user_value u s)) o (Level No) ≢ option_map_or (λ x. symbol_rule t a s x (as_tri (a (Vis s))) None) o (Level No)
+    → user_value u s ≡ Some (Text w)
+rule_text t u a s None w is differs = absurd (differs refl)
+rule_text t u a s (Some x) w is differs = shown_text t u a s x w x.choice is differs

@@ -1,5 +1,5 @@
 -- The values that are others than without the user's own, and what they are enough for: this project's own.
-use Rattle.std.specs.Prelude.{◌≡◌, Bool, true, false, not, ◌&&◌, ◌==◌, Option, Some, None, option_and_then, if◌then◌else◌}
+use Rattle.std.specs.Prelude.{◌≡◌, ℕ, List, Bool, true, false, not, ◌&&◌, ◌==◌, Option, Some, None, option_and_then, if◌then◌else◌}
 use Rattle.std.specs.Str.{bytes_eq}
 use Rattle.kc_statement.specs.declared.id.SymId.{SymId}
 use Rattle.kc_outline.specs.declared.id.ChoiceId.{ChoiceId}
@@ -81,6 +81,9 @@ pub record ChangesAreJustEnough (t : TreeValue) (u : UserValues) : Type 0 where
   -- a changed value is one that its symbol takes
   pub fitting : IsUserFor t u → (s : SymId) → IsNodeOf t (Val s) → (v : UserVal)
       → option_and_then shown_in (changed_value t u (Val s)) ≡ Some v → fits t s v ≡ true
+  -- a changed text is the user's own
+  pub texts : (s : SymId) → IsNodeOf t (Val s) → (text : List ℕ)
+      → option_and_then shown_in (changed_value t u (Val s)) ≡ Some (Text text) → user_value u s ≡ Some (Text text)
   -- user values that hold the changes give each visibility, value and selection as it is
   pub enough : (w : UserValues) → HoldsChanges t u w → (n : Node) → IsNodeOf t n → is_mode n ≡ false
       → solution t w n ≡ solution t u n

@@ -5,6 +5,7 @@ ghost use Rattle.kc_tree.specs.declared.node.Node.{Node};
 ghost use Rattle.kc_tree.specs.Nodes.{IsNodeOf, all_nodes};
 ghost use Rattle.kc_tree.specs.Uses.{Uses};
 ghost use Rattle.kc_value.specs.Assignment.{assignment_of};
+ghost use Rattle.kc_value.specs.ChangedValue.{ChangesAreJustEnough};
 ghost use Rattle.kc_value.specs.Solution.{solution, AreSolved, IsOnlySolution};
 
 use crate::resolver::Resolver;
@@ -26,7 +27,7 @@ fn value_at<R: Resolver>(alloc: Global, resolver: &mut R, node: Node) -> Result<
 }
 
 /// A copy of the value of each node in the only solution, by number: all nodes of the tree are asked. That there is one,
-/// and no other, holds whatever the call returns.
+/// and no other, holds whatever the call returns, and so does what is said of the values that the user changed.
 ///
 /// The error comes where memory is refused.
 pub fn all_values<R: Resolver>(
@@ -36,6 +37,7 @@ pub fn all_values<R: Resolver>(
     ensures values { IfOk result (λ v. AreSolved (R.tree_of resolver.old) (R.user_of resolver.old) v.items) }
     ensures solved { IsOnlySolution (R.tree_of resolver.old) (R.user_of resolver.old)
         (solution (R.tree_of resolver.old) (R.user_of resolver.old)) }
+    ensures changes { ChangesAreJustEnough (R.tree_of resolver.old) (R.user_of resolver.old) }
     ensures tree { R.tree_of resolver.new ≡ R.tree_of resolver.old }
     ensures user { R.user_of resolver.new ≡ R.user_of resolver.old }
     ensures grew { R.grew resolver.old resolver.new (all_nodes (R.tree_of resolver.old)) }

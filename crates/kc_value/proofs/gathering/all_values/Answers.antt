@@ -3,6 +3,7 @@ use Rattle.kc_tree.specs.Accepted.{IsAccepted}
 use Rattle.kc_tree.specs.Nodes.{IsNodeOf, all_nodes, node_at}
 use Rattle.kc_tree.proofs.NodeNumbers.{at_below}
 use Rattle.kc_value.proofs.GatheringLemmas.{once_more_in_all, one_more_counted, next_of_all, none_of_all, all_values_right}
+use Rattle.kc_value.proofs.ChangedLaws.{just_enough}
 use Rattle.kc_value.proofs.SolutionLaws.{one_solution}
 use Rattle.kc_value.proofs.gathering.all_values.Goals as goal
 
@@ -83,3 +84,23 @@ pub returns-clause-solved : goal.returns-clause-solved
 returns-clause-solved g c =
     let r = g.R.Resolver in
     one_solution (r.tree_of c.args.resolver.now) (r.user_of c.args.resolver.now) (subst IsAccepted c.tree.ensures c.node_count.ensures.accepted)
+
+pub returns-in_err-values-clause-changes : goal.returns-in_err-values-clause-changes
+returns-in_err-values-clause-changes g c =
+    let r = g.R.Resolver in
+    just_enough (r.tree_of c.args.resolver.now) (r.user_of c.args.resolver.now) (subst IsAccepted c.tree.ensures c.node_count.ensures.accepted)
+
+pub returns-in_err-value-clause-changes : goal.returns-in_err-value-clause-changes
+returns-in_err-value-clause-changes g c =
+    let r = g.R.Resolver in
+    just_enough (r.tree_of c.args.resolver.now) (r.user_of c.args.resolver.now) (subst IsAccepted c.tree.ensures c.node_count.ensures.accepted)
+
+pub returns-in_err-push-clause-changes : goal.returns-in_err-push-clause-changes
+returns-in_err-push-clause-changes g c =
+    let r = g.R.Resolver in
+    just_enough (r.tree_of c.args.resolver.now) (r.user_of c.args.resolver.now) (subst IsAccepted c.tree.ensures c.node_count.ensures.accepted)
+
+pub returns-clause-changes : goal.returns-clause-changes
+returns-clause-changes g c =
+    let r = g.R.Resolver in
+    just_enough (r.tree_of c.args.resolver.now) (r.user_of c.args.resolver.now) (subst IsAccepted c.tree.ensures c.node_count.ensures.accepted)
