@@ -106,12 +106,12 @@ defaults_in t c (d ∷ ds) none =
     let parts = or_parts (not (is_member t c d.symbol)) (list_any (λ (x : ChoiceDefault). not (is_member t c x.symbol)) ds) none in
     (named_in t c d.symbol parts.0, defaults_in t c ds parts.1)
 
-no_tristate : (k : SymbolType) → not (same_type k kind.Bool) ≡ false → same_type k kind.Tristate ≡ false
-no_tristate kind.Bool e = refl
-no_tristate kind.Tristate e = absurd (true≢false e)
-no_tristate kind.String e = refl
-no_tristate kind.Int e = refl
-no_tristate kind.Hex e = refl
+is_bool : (k : SymbolType) → not (same_type k kind.Bool) ≡ false → k ≡ kind.Bool
+is_bool kind.Bool e = refl
+is_bool kind.Tristate e = absurd (true≢false e)
+is_bool kind.String e = absurd (true≢false e)
+is_bool kind.Int e = absurd (true≢false e)
+is_bool kind.Hex e = absurd (true≢false e)
 
 one_definition : (n : ℕ) → not (n == 1) ≡ false → n ≡ 1
 one_definition n e = by (n == 1) refl
@@ -128,7 +128,7 @@ grouped t faultless lists = record {
   kinds = λ s c x chosen is.
       let own = lists.listed s c (ap (option_and_then (λ (v : SymbolValue). v.choice)) is ∙ chosen) in
       let fit = unlisted_test (symbol_has t is_of_other_type) s own.0.members own.2 (tests c own.0 own.1).0 in
-      no_tristate (kind_of x) (sym (ap (λ o. option_map_or (is_of_other_type t) o false) is) ∙ fit);
+      is_bool (kind_of x) (sym (ap (λ o. option_map_or (is_of_other_type t) o false) is) ∙ fit);
   listed = λ s c y chosen is.
       let own = lists.listed s c chosen in
       let same : own.0 ≡ y = same_Some own.0 y (sym own.1 ∙ is) in

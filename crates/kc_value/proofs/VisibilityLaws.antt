@@ -24,6 +24,8 @@ use Rattle.kc_value.specs.Rule.{rule, in_type, in_bool, has_modules, visibility,
 use Rattle.kc_value.specs.Solution.{IsSolution}
 use Rattle.kc_value.proofs.Agreement.{has_modules_agrees, prompt_agrees, map_agrees}
 use Rattle.kc_value.proofs.ReadNodes.{agree_where, type_holds, prompts_holds}
+use Rattle.kc_outline.specs.TreeOf.{same_type}
+use Rattle.kc_statement.specs.declared.symbol_type.SymbolType.TheVariants as kind
 
 -- a value, and no other node
 abbrev IsValue : Node → Type 0
@@ -87,7 +89,7 @@ module _ (t : TreeValue) (u w : UserValues) (a b : Assignment) (grouped : IsGrou
   member_same : (s : SymId) (x : SymbolValue) (c : ChoiceId) → slice_get t.symbols s.0 ≡ Some x → x.choice ≡ Some c → visibility t a x ≡ visibility t b x
   member_same s x c found of =
       let g : Assignment → Tri = λ d. least (greatest_of (map (prompt_value t d) (definitions_of t x))) (mode_around t d x.choice) in
-      let plain : (d : Assignment) → visibility t d x ≡ in_bool (g d) = λ d. ap (λ k. in_type (k && not (is_no (modules_value t d))) (g d)) (grouped.kinds s c x of found) in
+      let plain : (d : Assignment) → visibility t d x ≡ in_bool (g d) = λ d. ap (λ k. in_type (k && not (is_no (modules_value t d))) (g d)) (ap (λ k. same_type k kind.Tristate) (grouped.kinds s c x of found)) in
       let marks : not (is_no (visibility t a x)) ≡ not (is_no (visibility t b x)) =
       ap (λ v. not (is_no v)) (sym (level u a s x here found))
       ∙ sym (mark u a s x c here found of)
