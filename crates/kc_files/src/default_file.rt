@@ -4,6 +4,7 @@ ghost use Rattle.std.specs.Prelude.{◌≡◌, ◌++◌, IfOk, OnOk, option_and_
 ghost use Rattle.std.specs.String.{string_bytes};
 ghost use Rattle.kc_outline.specs.Entries.{IsEntryOf};
 ghost use Rattle.kc_tree.specs.declared.node.Node.TheVariants.{Vis, Val, Sel};
+ghost use Rattle.kc_tree.specs.Accepted.{IsAccepted};
 ghost use Rattle.kc_tree.specs.Nodes.{IsNodeOf, all_nodes};
 ghost use Rattle.kc_value.specs.ChangedValue.{changed_value, ChangesAreJustEnough};
 ghost use Rattle.kc_value.specs.Replay.{shown_in};
@@ -121,7 +122,7 @@ fn push_symbol(
     out: &mut String,
     tree: &Tree,
     user: &User,
-    prefix: &Prefix,
+    prefix: &str,
     values: &[Option<Value>],
     symbol: SymId,
 ) -> Result<(), AllocError>
@@ -148,7 +149,7 @@ fn push_entry(
     out: &mut String,
     tree: &Tree,
     user: &User,
-    prefix: &Prefix,
+    prefix: &str,
     values: &[Option<Value>],
     entry: Entry,
 ) -> Result<(), AllocError>
@@ -173,11 +174,12 @@ fn push_entries(
     out: &mut String,
     tree: &Tree,
     user: &User,
-    prefix: &Prefix,
+    prefix: &str,
     values: &[Option<Value>],
 ) -> Result<(), AllocError>
     requires { ChangesAreJustEnough tree.now user.now }
-    ensures { AreSolved tree.now user.now values.now
+    ensures accepted { IsAccepted tree.now }
+    ensures text { AreSolved tree.now user.now values.now
         → OnOk result (string_bytes out.new ≡ string_bytes out.old ++ default_text_of tree.now user.now prefix.now) }
 {
     for entry in tree.entries() {
@@ -217,7 +219,7 @@ pub fn defconfig_text<R: Resolver>(
         &mut text,
         resolver.tree(),
         resolver.user(),
-        prefix,
+        prefix.as_str(),
         values.as_slice(),
     )?;
     Ok(text)

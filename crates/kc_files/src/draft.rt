@@ -71,7 +71,7 @@ impl Draft {
             ≡ with_piece self.old (line_of_symbol (symbol_line prefix.now name.now kind value.now))) }
     {
         self.push_gap()?;
-        push_symbol_line(&mut self.text, prefix, name, kind, value)
+        push_symbol_line(&mut self.text, prefix.as_str(), name, kind, value)
     }
 
     /// Appends the title of a menu or a comment, between lines of `#` and after an empty line.

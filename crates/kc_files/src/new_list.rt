@@ -142,7 +142,13 @@ fn push_symbol(
 {
     if is_new(alloc, tree, user, values, symbol)? {
         let value = shown_text(tree, values, symbol);
-        push_text_line(out, prefix, tree.name(symbol), type_of(tree, symbol), value)?;
+        push_text_line(
+            out,
+            prefix.as_str(),
+            tree.name(symbol),
+            type_of(tree, symbol),
+            value,
+        )?;
     }
     Ok(())
 }

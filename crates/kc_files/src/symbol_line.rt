@@ -4,7 +4,6 @@ ghost use Rattle.std.specs.Prelude.{◌≡◌, ◌++◌, OnOk};
 ghost use Rattle.std.specs.String.{string_bytes};
 ghost use Rattle.kc_files.specs.ConfigText.{line_start, line_end, tri_line, text_line, symbol_line};
 
-use crate::prefix::Prefix;
 use crate::quoting::push_text_in;
 use kc_tree::{SymbolType, Tri, UserVal};
 use std::alloc::AllocError;
@@ -33,14 +32,14 @@ fn line_end(value: Tri) -> &'static str
 /// Appends the line of a bool or tristate symbol.
 pub(crate) fn push_tri_line(
     out: &mut String,
-    prefix: &Prefix,
+    prefix: &str,
     name: &str,
     value: Tri,
 ) -> Result<(), AllocError>
     ensures { OnOk result (string_bytes out.new ≡ string_bytes out.old ++ tri_line prefix.now name.now value) }
 {
     out.push_str(line_start(value))?;
-    out.push_str(prefix.as_str())?;
+    out.push_str(prefix)?;
     out.push_str(name)?;
     out.push_str(line_end(value))
 }
@@ -48,7 +47,7 @@ pub(crate) fn push_tri_line(
 /// Appends the line of a symbol of another type: a string stands in quotes.
 pub(crate) fn push_text_line(
     out: &mut String,
-    prefix: &Prefix,
+    prefix: &str,
     name: &str,
     kind: SymbolType,
     value: &str,
@@ -56,7 +55,7 @@ pub(crate) fn push_text_line(
     ensures { OnOk result (string_bytes out.new
         ≡ string_bytes out.old ++ text_line prefix.now name.now kind value.now) }
 {
-    out.push_str(prefix.as_str())?;
+    out.push_str(prefix)?;
     out.push_str(name)?;
     out.push_str("=")?;
     push_text_in(out, kind, value)?;
@@ -66,7 +65,7 @@ pub(crate) fn push_text_line(
 /// Appends the line of a symbol of a type.
 pub(crate) fn push_symbol_line(
     out: &mut String,
-    prefix: &Prefix,
+    prefix: &str,
     name: &str,
     kind: SymbolType,
     value: &UserVal,
