@@ -26,7 +26,7 @@ word_lacks c other (b ∷ bs) h (suc i) l = word_lacks c other bs (and_parts (is
 abbrev pub IsNamed : List ℕ → Type 0
 IsNamed prefix = list_all is_name_byte prefix ≡ true
 
-word_bytes : (w : List ℕ) → is_word w ≡ true → IsNamed w
+pub word_bytes : (w : List ℕ) → is_word w ≡ true → IsNamed w
 word_bytes w h = (and_parts (not (length w == 0)) (list_all is_name_byte w) h).1
 
 pub no_hash : (b : ℕ) → is_name_byte b ≡ true → (b == 35) ≡ false
