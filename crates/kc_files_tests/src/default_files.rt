@@ -1,6 +1,8 @@
 //! The default file: it gives the same values when it is loaded, and has no line too many.
+ghost use Rattle.kc_value.specs.UserValues.{IsUserFor};
+
 use crate::trees::{load, prefix, show_owned, show_visibilities, shown};
-use kc_files::defconfig_text;
+use kc_files::{config_text, defconfig_text};
 use kc_tables::{rows, three_fields};
 use kc_tree::Tree;
 use kc_value::{Fresh, User};
@@ -8,7 +10,9 @@ use std::alloc::Global;
 use std::test::Fail;
 
 /// The default file for user values.
-fn default_file(alloc: Global, tree: &Tree, user: &User) -> Result<String, Fail> {
+fn default_file(alloc: Global, tree: &Tree, user: &User) -> Result<String, Fail>
+    requires { IsUserFor tree.now user.now }
+{
     let mut resolver = Fresh::new(alloc, tree, user);
     Ok(defconfig_text(alloc, &mut resolver, &prefix(alloc)?)?)
 }
@@ -32,16 +36,15 @@ fn owned_after(alloc: Global, tree: &Tree, text: &str) -> Result<String, Fail> {
     show_owned(alloc, tree, &user)
 }
 
-/// How many lines of a default file can be left out without another value or selection.
-fn spare_lines(alloc: Global, tree: &Tree, text: &str, owned: &str) -> Result<usize, Fail> {
-    let mut spare = 0;
+/// Whether a default file has a line that can be left out without another value or selection.
+fn has_spare_line(alloc: Global, tree: &Tree, text: &str, owned: &str) -> Result<bool, Fail> {
     for number in 0..text.lines().count() {
         let shorter = without_line(alloc, text, number)?;
         if owned_after(alloc, tree, shorter.as_str())?.as_str() == owned {
-            spare += 1;
+            return Ok(true);
         }
     }
-    Ok(spare)
+    Ok(false)
 }
 
 /// The visibilities after a text is loaded alone.
@@ -58,10 +61,10 @@ fn show_default(alloc: Global, tree: &Tree, config: &[u8]) -> Result<String, Fai
     let mut text = default_file(alloc, tree, &user)?;
     let owned = show_owned(alloc, tree, &user)?;
     let visibilities = show_visibilities(alloc, tree, &user)?;
-    let spare = spare_lines(alloc, tree, text.as_str(), owned.as_str())?;
+    let has_spare_line = has_spare_line(alloc, tree, text.as_str(), owned.as_str())?;
     let is_same = owned_after(alloc, tree, text.as_str())?.as_str() == owned.as_str()
         && visibilities_after(alloc, tree, text.as_str())?.as_str() == visibilities.as_str();
-    if spare > 0 || !is_same {
+    if has_spare_line || !is_same {
         text.push_str("with a line too many, or with other values when loaded")?;
     }
     Ok(text)
@@ -92,7 +95,49 @@ fn a_default_file_is_enough_and_has_no_line_too_many(rt: HostRuntime) -> Result<
     for row in rows(alloc, DEFAULT_FILES)? {
         let (kconfig, config, want) = three_fields(alloc, row)?;
         let config = config.as_str().as_bytes();
-        let found = shown(alloc, kconfig.as_str(), |alloc, tree| show_default(alloc, tree, config))?;
+        let found = shown(
+            alloc,
+            kconfig.as_str(),
+            |alloc, tree| show_default(alloc, tree, config),
+        )?;
+        assert_eq!(rt; found.as_str(), want.as_str(), "at {row}");
+    }
+    Ok(())
+}
+
+/// The `.config` after a text is loaded alone.
+fn show_shorter(alloc: Global, tree: &Tree, text: &[u8]) -> Result<String, Fail> {
+    let mut user = User::empty(alloc, tree)?;
+    load(alloc, tree, &mut user, text)?;
+    let mut resolver = Fresh::new(alloc, tree, &user);
+    Ok(config_text(alloc, &mut resolver, &prefix(alloc)?, "")?)
+}
+
+/// Kconfigs and default files with a line left out, with the `.config` after them.
+const SHORTER_FILES: &str = r#"
+// T shows y without its line.
+config MODULES\ndef_bool y\nmodules\nconfig S\ntristate "s"\nselect T\nconfig T\ntristate "t" if m\ndefault y\n | CONFIG_S=m\n | CONFIG_MODULES=y\nCONFIG_S=m\nCONFIG_T=y\n
+// B is selected where the line of D is left out, or that of C.
+config D\nbool "d"\nchoice\nprompt "ch"\ndefault B\nconfig A\nbool "a"\nconfig B\nbool "b"\nconfig C\nbool "c" if D\nendchoice\n | CONFIG_C=y\n | # CONFIG_D is not set\n# CONFIG_A is not set\nCONFIG_B=y\n
+config D\nbool "d"\nchoice\nprompt "ch"\ndefault B\nconfig A\nbool "a"\nconfig B\nbool "b"\nconfig C\nbool "c" if D\nendchoice\n | CONFIG_D=y\n | CONFIG_D=y\n# CONFIG_A is not set\nCONFIG_B=y\n# CONFIG_C is not set\n
+// An optional choice has the mode n without the line of its member, so no member is visible.
+choice\nprompt "c"\noptional\nconfig P\nbool "p"\nconfig Q\nbool "q"\nendchoice\n | CONFIG_P=y\n | CONFIG_P=y\n# CONFIG_Q is not set\n
+choice\nprompt "c"\noptional\nconfig P\nbool "p"\nconfig Q\nbool "q"\nendchoice\n |  | 
+config N\nint "n"\ndefault 9\nrange 1 5\n |  | CONFIG_N=5\n
+config A\nbool "a"\ndefault y\nconfig B\nbool "b"\ndepends on A\n |  | CONFIG_A=y\n# CONFIG_B is not set\n
+"#;
+
+#[test]
+fn a_line_left_out_gives_another_config(rt: HostRuntime) -> Result<(), Fail> {
+    let alloc = rt.alloc();
+    for row in rows(alloc, SHORTER_FILES)? {
+        let (kconfig, text, want) = three_fields(alloc, row)?;
+        let text = text.as_str().as_bytes();
+        let found = shown(
+            alloc,
+            kconfig.as_str(),
+            |alloc, tree| show_shorter(alloc, tree, text),
+        )?;
         assert_eq!(rt; found.as_str(), want.as_str(), "at {row}");
     }
     Ok(())

@@ -1,4 +1,6 @@
 //! What is read of a `.config`, and what a load changes.
+ghost use Rattle.kc_value.specs.UserValues.{IsUserFor};
+
 use crate::trees::{prefix, shown};
 use kc_files::{Load, Prefix, ReadFault, Warning, apply, read_config};
 use kc_tables::{repeated, rows, three_fields};
@@ -50,7 +52,10 @@ fn show_load(
     prefix: &Prefix,
     config: &[u8],
     load: Load,
-) -> Result<String, Fail> {
+) -> Result<String, Fail>
+    requires { IsUserFor tree.now user.old }
+    ensures { IsUserFor tree.now user.new }
+{
     let (assigns, warnings) = read_config(alloc, tree, prefix, config)?;
     apply(tree, user, assigns, load);
     let mut out = String::new(alloc);
@@ -76,6 +81,7 @@ config A\nbool "a"\n | #CONFIG_A is not set\n# CONFIG_A-B is not set\n#\n\n \t\r
 config A\nbool "a"\n | CONFIG_A=yes\nCONFIG_A=\nCONFIG_A="y"\nCONFIG_A=Y\n |  1:2 2:2 3:2 4:2
 config A\nbool "a"\n | CONFIG_A=y\nCONFIG_A=y\nCONFIG_A=m\nCONFIG_A=n |  2:5 3:2 4:5 A=n
 config T\ntristate "t"\n | CONFIG_T=m\n |  T=m
+config N\nint "n"\n | CONFIG_N=\n |  1:2
 config N\nint "n"\n | CONFIG_N=\nCONFIG_N=007\nCONFIG_N=-0\nCONFIG_N=1x\n# CONFIG_N is not set\nCONFIG_N=9223372036854775808\n |  1:2 3:5 4:2 5:2 6:2 N=-0
 config H\nhex "h"\n | CONFIG_H=ff\nCONFIG_H=0X1F\nCONFIG_H=0x\n |  2:5 3:2 H=0X1F
 config S\nstring "s"\n | CONFIG_S="a\\"b\\\\c" tail\n |  S=a"b\\c
@@ -88,6 +94,7 @@ choice\nprompt "c"\nconfig A\nbool "a"\nconfig B\nbool "b"\nendchoice\n | CONFIG
 choice\nprompt "c"\nconfig A\nbool "a"\nconfig B\nbool "b"\nendchoice\n | CONFIG_B=y\n# CONFIG_A is not set\n |  0=B
 choice\nprompt "c"\nconfig A\nbool "a"\nconfig B\nbool "b"\nendchoice\n | CONFIG_B=y\nCONFIG_B=n\n |  2:5
 choice\nprompt "c"\nconfig A\nbool "a"\nconfig B\nbool "b"\nendchoice\n | CONFIG_B=m\n |  1:2
+config D\nbool "d"\nchoice\nprompt "ch"\ndefault B\nconfig A\nbool "a"\nconfig B\nbool "b"\nconfig C\nbool "c" if D\nendchoice\n | CONFIG_A=y\nCONFIG_B=y\n# CONFIG_B is not set\n |  3:5 0=A
 "#;
 
 #[test]
@@ -96,7 +103,11 @@ fn a_config_gives_user_values_and_warnings(rt: HostRuntime) -> Result<(), Fail> 
     for row in rows(alloc, CONFIGS)? {
         let (kconfig, config, want) = three_fields(alloc, row)?;
         let config = config.as_str().as_bytes();
-        let found = shown(alloc, kconfig.as_str(), |alloc, tree| show_loaded(alloc, tree, config))?;
+        let found = shown(
+            alloc,
+            kconfig.as_str(),
+            |alloc, tree| show_loaded(alloc, tree, config),
+        )?;
         assert_eq!(rt; found.as_str(), want.as_str(), "at {row}");
     }
     Ok(())
@@ -106,13 +117,23 @@ fn a_config_gives_user_values_and_warnings(rt: HostRuntime) -> Result<(), Fail> 
 #[test]
 fn a_line_that_is_not_utf8_is_no_line(rt: HostRuntime) -> Result<(), Fail> {
     for (config, want) in [
-        (b"CONFIG_S=\"ab\n# CONFIG_S is not set\n\xff".as_slice(), " 1:3 2:2 3:4"),
-        (b"CONFIG_S=\"\xff\"\n# \xff\nCONFIG_S=\"a\"\n".as_slice(), " 1:4 2:4 S=a"),
+        (
+            b"CONFIG_S=\"ab\n# CONFIG_S is not set\n\xff".as_slice(),
+            " 1:3 2:2 3:4",
+        ),
+        (
+            b"CONFIG_S=\"\xff\"\n# \xff\nCONFIG_S=\"a\"\n".as_slice(),
+            " 1:4 2:4 S=a",
+        ),
         (b"\xef\xbb\xbfCONFIG_S=\"a\"\n".as_slice(), " 1:4"),
         ("CONFIG_S=\"é\\é\"\n".as_bytes(), " S=éé"),
     ] {
         let kconfig = "config S\nstring \"s\"\n";
-        let found = shown(rt.alloc(), kconfig, |alloc, tree| show_loaded(alloc, tree, config))?;
+        let found = shown(
+            rt.alloc(),
+            kconfig,
+            |alloc, tree| show_loaded(alloc, tree, config),
+        )?;
         assert_eq!(rt; found.as_str(), want, "at {config:?}");
     }
     Ok(())
@@ -136,7 +157,11 @@ fn a_config_has_at_most_16_mebibytes(rt: HostRuntime) -> Result<(), Fail> {
     for (count, want) in [(16_777_216, "read"), (16_777_217, "limit")] {
         let feeds = repeated(rt.alloc(), "\n", count)?;
         let config = feeds.as_str().as_bytes();
-        let found = shown(rt.alloc(), "", |alloc, tree| show_limit(alloc, tree, config))?;
+        let found = shown(
+            rt.alloc(),
+            "",
+            |alloc, tree| show_limit(alloc, tree, config),
+        )?;
         assert_eq!(rt; found.as_str(), want, "at {count}");
     }
     Ok(())
@@ -154,7 +179,8 @@ fn show_both(alloc: Global, tree: &Tree, first: &[u8], second: &[u8]) -> Result<
 
 #[test]
 fn a_merge_keeps_what_a_replace_drops(rt: HostRuntime) -> Result<(), Fail> {
-    let kconfig = "config A\nbool \"a\"\nconfig S\nstring \"s\"\nchoice\nprompt \"c\"\nconfig P\nbool \"p\"\nconfig Q\nbool \"q\"\nendchoice\n";
+    let kconfig =
+        "config A\nbool \"a\"\nconfig S\nstring \"s\"\nchoice\nprompt \"c\"\nconfig P\nbool \"p\"\nconfig Q\nbool \"q\"\nendchoice\n";
     let first = b"CONFIG_A=y\nCONFIG_S=\"s\"\nCONFIG_P=y\n";
     for (second, want) in [
         (b"".as_slice(), " A=y S=s 0=P, "),
@@ -162,7 +188,11 @@ fn a_merge_keeps_what_a_replace_drops(rt: HostRuntime) -> Result<(), Fail> {
         (b"CONFIG_Q=y\n".as_slice(), " A=y S=s 0=Q,  0=Q"),
         (b"# CONFIG_P is not set\n".as_slice(), " A=y S=s 0=P, "),
     ] {
-        let found = shown(rt.alloc(), kconfig, |alloc, tree| show_both(alloc, tree, first, second))?;
+        let found = shown(
+            rt.alloc(),
+            kconfig,
+            |alloc, tree| show_both(alloc, tree, first, second),
+        )?;
         assert_eq!(rt; found.as_str(), want, "at {second:?}");
     }
     Ok(())
@@ -179,11 +209,23 @@ fn show_prefixed(alloc: Global, tree: &Tree, prefix: &str, config: &[u8]) -> Res
 fn a_config_is_read_with_the_prefix_of_its_names(rt: HostRuntime) -> Result<(), Fail> {
     for (prefix, config, want) in [
         ("", b"CONFIG_A=y\n".as_slice(), " 1:1"),
-        ("", b"# A is not set\n# It is not set\n".as_slice(), " 2:1 A=n"),
-        ("FW_", b"CONFIG_A=y\n# CONFIG_A is not set\nFW_A=y\n".as_slice(), " 1:4 A=y"),
+        (
+            "",
+            b"# A is not set\n# It is not set\n".as_slice(),
+            " 2:1 A=n",
+        ),
+        (
+            "FW_",
+            b"CONFIG_A=y\n# CONFIG_A is not set\nFW_A=y\n".as_slice(),
+            " 1:4 A=y",
+        ),
     ] {
         let kconfig = "config A\nbool \"a\"\n";
-        let found = shown(rt.alloc(), kconfig, |alloc, tree| show_prefixed(alloc, tree, prefix, config))?;
+        let found = shown(
+            rt.alloc(),
+            kconfig,
+            |alloc, tree| show_prefixed(alloc, tree, prefix, config),
+        )?;
         assert_eq!(rt; found.as_str(), want, "at {prefix:?}");
     }
     Ok(())

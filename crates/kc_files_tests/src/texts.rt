@@ -38,7 +38,11 @@ fn a_header_has_macros(rt: HostRuntime) -> Result<(), Fail> {
     for row in rows(alloc, HEADERS)? {
         let (kconfig, config, want) = three_fields(alloc, row)?;
         let config = config.as_str().as_bytes();
-        let found = shown(alloc, kconfig.as_str(), |alloc, tree| show_header(alloc, tree, config))?;
+        let found = shown(
+            alloc,
+            kconfig.as_str(),
+            |alloc, tree| show_header(alloc, tree, config),
+        )?;
         assert_eq!(rt; found.as_str(), want.as_str(), "at {row}");
     }
     Ok(())
@@ -76,7 +80,11 @@ fn a_new_list_has_what_can_be_decided_on(rt: HostRuntime) -> Result<(), Fail> {
     for row in rows(alloc, NEW_LISTS)? {
         let (kconfig, config, want) = three_fields(alloc, row)?;
         let config = config.as_str().as_bytes();
-        let found = shown(alloc, kconfig.as_str(), |alloc, tree| show_new(alloc, tree, config))?;
+        let found = shown(
+            alloc,
+            kconfig.as_str(),
+            |alloc, tree| show_new(alloc, tree, config),
+        )?;
         assert_eq!(rt; found.as_str(), want.as_str(), "at {row}");
     }
     Ok(())
@@ -95,9 +103,16 @@ fn show_moved(alloc: Global, tree: &Tree, new_prefix: &str) -> Result<String, Fa
 
 #[test]
 fn a_config_is_moved_to_another_prefix(rt: HostRuntime) -> Result<(), Fail> {
-    for (new_prefix, want) in [("", "A=y\n#define A 1\n"), ("FW_", "FW_A=y\n#define FW_A 1\n")] {
+    for (new_prefix, want) in [
+        ("", "A=y\n#define A 1\n"),
+        ("FW_", "FW_A=y\n#define FW_A 1\n"),
+    ] {
         let kconfig = "config A\nbool \"a\"\n";
-        let found = shown(rt.alloc(), kconfig, |alloc, tree| show_moved(alloc, tree, new_prefix))?;
+        let found = shown(
+            rt.alloc(),
+            kconfig,
+            |alloc, tree| show_moved(alloc, tree, new_prefix),
+        )?;
         assert_eq!(rt; found.as_str(), want, "at {new_prefix:?}");
     }
     Ok(())
