@@ -9,6 +9,7 @@ pub mod LineFormLaws
 pub mod LoadingLaws
 pub mod MarkLaws
 pub mod PassLaws
+pub mod ReadingExamples
 pub mod ReadingLaws
 pub mod UnquotedSteps
 pub mod Utf8
