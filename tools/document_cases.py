@@ -3,12 +3,12 @@
 
     tools/document_cases.py [--write]
 
-It is run by hand, after a change of docs/VALUES.md, docs/LANGUAGE.md or docs/FAULTS.md. Each code block of these is an
-example, and so is each row of the tables that are named below. What an example lacks to be a case stands in the tables
-of this script: the lines around a fragment, the files that it sources, and what is wanted where the document says it in
-words. An example that can't be a case stands there with the reason. The status is 1 where an example has no entry, an
-entry has no example, or the cases are not those of the documents, each named by the document and the line. With
---write it writes the cases.
+It is run by hand, after a change of docs/VALUES.md, docs/CHOICES.md, docs/LANGUAGE.md or docs/FAULTS.md. Each code
+block of these is an example, and so is each row of the tables that are named below. What an example lacks to be a case
+stands in the tables of this script: the lines around a fragment, the files that it sources, and what is wanted where
+the document says it in words. An example that can't be a case stands there with the reason. The status is 1 where an
+example has no entry, an entry has no example, or the cases are not those of the documents, each named by the document
+and the line. With --write it writes the cases.
 """
 
 import argparse
@@ -440,14 +440,6 @@ COMPARISONS: dict[tuple[str, int], Entry] = {
     ("Comparisons", 3): Rows(comparison_cases(INTS_HEXES_AND_STRINGS)),
 }
 
-CHOICES: dict[tuple[str, int], Entry] = {
-    ("Choices", 2): Shown("a chosen member that becomes visible and hides again"),
-    ("Choices", 4): Shown(),
-    ("Choices", 6): Shown(),
-    ("Choices", 8): Shown(),
-    ("Optional choices", 2): Shown("a choice that is on once a member is chosen"),
-}
-
 VALUES: dict[tuple[str, int], Entry] = {
     ("In short", 1): Without("a formula"),
     ("Expressions", 1): RULES,
@@ -475,6 +467,14 @@ VALUES: dict[tuple[str, int], Entry] = {
     ("The text of the `.config`", 2): Written(),
     ("What uses what, and loops", 1): RULES,
     ("What uses what, and loops", 2): Without("Kconfigs in words"),
+}
+
+CHOICES: dict[tuple[str, int], Entry] = {
+    ("Mode and selection", 2): Shown("a chosen member that becomes visible and hides again"),
+    ("Mode and selection", 4): Shown(),
+    ("Mode and selection", 6): Shown(),
+    ("Mode and selection", 8): Shown(),
+    ("Optional choices", 2): Shown("a choice that is on once a member is chosen"),
 }
 
 LANGUAGE: dict[tuple[str, int], Entry] = {
@@ -625,7 +625,8 @@ FAULTS_OF_SYMBOLS: dict[tuple[str, int], Entry] = {
 
 # The documents, each with the files of its cases.
 DOCUMENTS = {
-    "VALUES": {"document-values": VALUES, "document-comparisons": COMPARISONS, "document-choices": CHOICES},
+    "VALUES": {"document-values": VALUES, "document-comparisons": COMPARISONS},
+    "CHOICES": {"document-choices": CHOICES},
     "LANGUAGE": {"document-language": LANGUAGE},
     "FAULTS": {"document-faults": FAULTS, "document-faults-symbols": FAULTS_OF_SYMBOLS},
 }

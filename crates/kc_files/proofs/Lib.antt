@@ -19,6 +19,7 @@ pub mod LoadingLaws
 pub mod MarkLaws
 pub mod MenuPieces
 pub mod PassLaws
+pub mod ReadingExamples
 pub mod ReadingLaws
 pub mod SelectedMember
 pub mod SymbolNames
