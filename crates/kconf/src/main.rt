@@ -1,14 +1,18 @@
-//! A program that reads a Kconfig and answers commands on it: `kconf session KCONFIG CONFIG [NAME=VALUE]...`.
+//! A program that resolves a Kconfig: `kconf TARGET KCONFIG CONFIG [NAME=VALUE]...`.
 #![tactic(auto)]
 
 mod arguments;
+mod explanations;
 mod folder;
+mod known;
 mod messages;
 mod opening;
 pub mod program;
 mod read_ahead;
+mod targets;
 mod variables;
 
+use explanations::Wording;
 use folder::SystemFolder;
 use messages::{Fault, Status, write_fault};
 use program::program;
@@ -27,7 +31,7 @@ fn status_without_words<E: Write>(error: &io::Error, errors: &mut E) -> Status {
     if error.kind() != ErrorKind::OutOfMemory {
         return Status::Usage;
     }
-    let _ = write_fault(errors, &Fault::NoMemory);
+    let _ = write_fault(errors, &Fault::NoMemory, Wording::Number);
     Status::Fault
 }
 
