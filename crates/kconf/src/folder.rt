@@ -34,8 +34,10 @@ pub trait Folder {
     /// All bytes of the file of a path.
     fn read_bytes(&self, alloc: Global, path: &str) -> Result<Vec<u8>, FolderFault>;
 
-    /// The same for a `.config`, of which no more than 16,777,217 bytes are read: more than one may have.
-    fn read_config(&self, alloc: Global, path: &str) -> Result<Vec<u8>, FolderFault>;
+    /// The same for a `.config`. Past 16,777,217 bytes, which are more than one may have, the rest may be left out.
+    fn read_config(&self, alloc: Global, path: &str) -> Result<Vec<u8>, FolderFault> {
+        self.read_bytes(alloc, path)
+    }
 
     /// The same for a file that may never be wanted: `CannotRead` also where it has more than 16,777,216 bytes, and
     /// where reading it might not end, or might take bytes from others, as from a pipe.

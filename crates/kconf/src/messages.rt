@@ -59,7 +59,10 @@ impl From<AllocError> for Fault {
 
 impl From<TextFault> for Fault {
     fn from(fault: TextFault) -> Self {
-        Fault::Text(fault)
+        match fault {
+            TextFault::NoMemory => Fault::NoMemory,
+            fault => Fault::Text(fault),
+        }
     }
 }
 

@@ -7,13 +7,12 @@ ghost use Rattle.std.specs.String.{string_bytes};
 use crate::folder::{Folder, FolderFault};
 use crate::messages::Fault;
 use crate::read_ahead::{Reach, Waiting};
+use bumpalo::Bump;
 use kc_files::{Prefix, Warning};
 use kc_session::{OpenFault, Session, open};
-use kc_text::{Sources, Text, TextFault, TextProblem, Vars};
+use kc_text::{Line, Sources, Text, TextFault, TextProblem, Vars, logical_lines};
 use std::alloc::Global;
-
-/// The most files of a Kconfig.
-const MAX_FILES: usize = 4_096;
+use std::collections::{HashMap, HashSet};
 
 /// The most paths that are read ahead at a time.
 const MAX_AHEAD: usize = 65_536;
@@ -83,34 +82,31 @@ pub fn open_kconfig<F: Folder>(
     kconfig: &Kconfig<'_, F>,
 ) -> Result<Opened, Fault> {
     let mut files = Files::new(alloc, kconfig)?;
-    match files.open(kconfig) {
-        Err(Fault::Full(_) | Fault::NoMemory) => {
-            files.start_again(Reach::Unindented)?;
-            open_with_less(&mut files, kconfig)
-        }
+    match files.open(kconfig, Reach::Everything) {
+        Err(Fault::Full(_) | Fault::NoMemory) => open_with_less(&mut files, kconfig),
         answer => answer,
     }
 }
 
-/// The same, where all that is named can't be read ahead.
+/// The same, where not all that is named can be read ahead.
 fn open_with_less<F: Folder>(
     files: &mut Files<'_, F>,
     kconfig: &Kconfig<'_, F>,
 ) -> Result<Opened, Fault> {
-    match files.open(kconfig) {
-        Err(Fault::Full(_) | Fault::NoMemory) => {
-            files.start_again(Reach::Nothing)?;
-            files.open(kconfig)
-        }
+    match files.open(kconfig, Reach::Unindented) {
+        Err(Fault::Full(_) | Fault::NoMemory) => files.open(kconfig, Reach::Nothing),
         answer => answer,
     }
 }
 
-/// A file that was wanted.
+/// What a `source` line wants.
 #[derive(Drop)]
-struct WantedFile {
-    path: String,
-    text: String,
+struct Want {
+    /// The path that it names.
+    path: Text,
+    /// The file in which it stands, and its number there.
+    file: Text,
+    line: usize,
 }
 
 /// The files that were read so far.
@@ -121,10 +117,12 @@ struct Files<'a, F> {
     reach: Reach,
     sources: Sources,
     waiting: Waiting,
-    /// Whether `sources` has a file that was read ahead.
-    has_ahead: bool,
-    /// The files that were wanted, for another start.
-    wanted: Vec<WantedFile>,
+    /// How many files `sources` has.
+    count: usize,
+    /// How many of them were read ahead.
+    ahead: usize,
+    /// The texts of files that were wanted, by their paths, for another start.
+    kept: HashMap<String, String>,
 }
 
 impl<'a, F: Folder> Files<'a, F> {
@@ -136,35 +134,32 @@ impl<'a, F: Folder> Files<'a, F> {
             reach: Reach::Everything,
             sources: Sources::new(alloc),
             waiting: Waiting::new(alloc, kconfig.variables)?,
-            has_ahead: false,
-            wanted: Vec::new(alloc),
+            count: 0,
+            ahead: 0,
+            kept: HashMap::new(alloc),
         })
     }
 
-    /// Starts again with the files that were wanted, and reads less ahead of them.
-    fn start_again(&mut self, reach: Reach) -> Result<(), Fault> {
+    /// Starts with no files, and reads as far ahead as a reach says.
+    fn start(&mut self, reach: Reach) {
         self.reach = reach;
         self.sources = Sources::new(self.alloc);
-        self.has_ahead = false;
-        self.waiting.start_again();
-        for file in &self.wanted {
-            self.waiting.pass(file.path.as_str())?;
-            self.waiting.add_named(file.text.as_str(), reach)?;
-            self.sources.add(file.path.as_str(), file.text.as_str())?;
-        }
-        self.read_ahead()
+        self.waiting.start();
+        self.count = 0;
+        self.ahead = 0;
     }
 
-    /// The session, by reading files until none is wanted.
-    fn open(&mut self, kconfig: &Kconfig<'_, F>) -> Result<Opened, Fault> {
+    /// The session, by reading files until none is wanted. There is no end but an answer: each turn adds a file that was
+    /// not there, and `Sources` refuses those that are too many.
+    fn open(&mut self, kconfig: &Kconfig<'_, F>, reach: Reach) -> Result<Opened, Fault> {
+        self.start(reach);
         let mut answer = self.open_sources(kconfig);
-        // Each turn adds a file that was not there, and the last one that can be is refused.
-        for _ in 0..=MAX_FILES {
+        for _ in 0..u64::MAX {
             let Err(fault) = answer else {
                 break;
             };
-            let wanted = wanted_path(self.alloc, fault, kconfig.config)?;
-            self.read_wanted(wanted.as_str())?;
+            let want = want_of(self.alloc, fault, kconfig.config)?;
+            self.read_wanted(kconfig, &want)?;
             answer = self.open_sources(kconfig);
         }
         match answer {
@@ -185,32 +180,62 @@ impl<'a, F: Folder> Files<'a, F> {
         )
     }
 
-    /// Reads the file of a path that is wanted, and then what may be read ahead.
-    fn read_wanted(&mut self, path: &str) -> Result<(), Fault> {
+    /// Reads the file that is wanted, and then what may be read ahead.
+    fn read_wanted(&mut self, kconfig: &Kconfig<'_, F>, want: &Want) -> Result<(), Fault> {
+        let path = want.path.as_str();
         self.waiting.pass(path)?;
-        let read = self.folder.read_bytes(self.alloc, path);
-        let text = text_of(self.alloc, path, read)?;
-        if self.reach != Reach::Nothing {
-            self.keep(path, text.as_str())?;
-        }
+        let text = self.wanted_text(path)?;
         match self.add(path, text) {
             Ok(()) => self.read_ahead(),
             Err(TextFault::NoMemory) => Err(Fault::NoMemory),
-            Err(fault) if self.has_ahead => Err(Fault::Full(fault)),
-            Err(fault) => Err(Fault::Text(fault)),
+            Err(fault) => Err(self.fault_without_room(kconfig, want, fault)),
         }
     }
 
-    /// Keeps the text of a path for another start.
-    fn keep(&mut self, path: &str, text: &str) -> Result<(), Fault> {
-        let file = WantedFile {
-            path: String::from_str(self.alloc, path)?,
-            text: String::from_str(self.alloc, text)?,
-        };
-        match self.wanted.push(file) {
-            Ok(()) => Ok(()),
-            Err(_) => Err(Fault::NoMemory),
+    /// The fault where there is no room for a file that is wanted: `Full`, unless the same files had been there if each
+    /// had been read as it was wanted.
+    fn fault_without_room(
+        &mut self,
+        kconfig: &Kconfig<'_, F>,
+        want: &Want,
+        fault: TextFault,
+    ) -> Fault {
+        if self.ahead == 0 {
+            return Fault::Text(fault);
         }
+        match self.are_all_followed(kconfig, want) {
+            Ok(true) => Fault::Text(fault),
+            Ok(false) => Fault::Full(fault),
+            Err(fault) => fault,
+        }
+    }
+
+    /// Whether all files are followed before a `source` line, by the lines before it: so the files would be the same had
+    /// each been read as it was wanted. Only of a line of the top file this is known. The top file is cut there, so the
+    /// files serve for nothing else after that.
+    fn are_all_followed(&mut self, kconfig: &Kconfig<'_, F>, want: &Want) -> Result<bool, Fault> {
+        let top = kconfig.top;
+        let Some(text) = self.kept.get(top).filter(|_| want.file.as_str() == top) else {
+            return Ok(false);
+        };
+        self.sources.add(top, lines_before(text.as_str(), want.line))?;
+        let arena = Bump::new(self.alloc);
+        let lines = logical_lines(self.alloc, &arena, &self.sources, kconfig.vars, top)?;
+        Ok(count_files(self.alloc, lines.as_slice())? == self.count)
+    }
+
+    /// The text of a path that is wanted. It is kept where another start may want it.
+    fn wanted_text(&mut self, path: &str) -> Result<String, Fault> {
+        if let Some(text) = self.kept.get(path) {
+            return Ok(String::from_str(self.alloc, text.as_str())?);
+        }
+        let read = self.folder.read_bytes(self.alloc, path);
+        let text = text_of(self.alloc, path, read)?;
+        if self.reach != Reach::Nothing {
+            let copy = String::from_str(self.alloc, text.as_str())?;
+            self.kept.insert(String::from_str(self.alloc, path)?, copy)?;
+        }
+        Ok(text)
     }
 
     /// Reads the files that wait. One that cannot be read, is not UTF-8 or has no room is skipped: it is read again, and
@@ -227,7 +252,7 @@ impl<'a, F: Folder> Files<'a, F> {
                 Err(_) => continue,
             };
             match self.add(path.as_str(), text) {
-                Ok(()) => self.has_ahead = true,
+                Ok(()) => self.ahead = self.ahead.wrapping_add(1),
                 Err(TextFault::NoMemory) => return Err(Fault::NoMemory),
                 Err(_) => {}
             }
@@ -238,16 +263,39 @@ impl<'a, F: Folder> Files<'a, F> {
     /// Adds the text of a path. What it names waits.
     fn add(&mut self, path: &str, text: String) -> Result<(), TextFault> {
         self.waiting.add_named(text.as_str(), self.reach)?;
-        self.sources.add_text(path, Text::new(text))
+        self.sources.add_text(path, Text::new(text))?;
+        self.count = self.count.wrapping_add(1);
+        Ok(())
     }
 }
 
-/// The path of the file that is wanted, or the fault, where it is another one.
-fn wanted_path(alloc: Global, fault: OpenFault, config: &ConfigFile) -> Result<Text, Fault> {
+/// The lines of a text before the line of a number.
+fn lines_before(text: &str, number: usize) -> &str {
+    let ends = text.bytes().enumerate().filter(|(_, byte)| *byte == b'\n');
+    let before = number.saturating_sub(2);
+    match ends.skip(before).next() {
+        Some((end, _)) if number > 1 => text.get(..=end).unwrap_or(text),
+        _ => "",
+    }
+}
+
+/// How many files have a line, as the last line of each file is its end.
+fn count_files(alloc: Global, lines: &[Line<'_>]) -> Result<usize, Fault> {
+    let mut paths = HashSet::new(alloc);
+    for line in lines {
+        if !paths.contains(line.path()) {
+            paths.insert(String::from_str(alloc, line.path())?)?;
+        }
+    }
+    Ok(paths.len())
+}
+
+/// What is wanted, or the fault, where it is another one.
+fn want_of(alloc: Global, fault: OpenFault, config: &ConfigFile) -> Result<Want, Fault> {
     match fault {
-        OpenFault::Text(TextFault::At(problem, path, line)) => match problem {
-            TextProblem::MissingSource(wanted) => Ok(wanted),
-            problem => Err(Fault::Text(TextFault::At(problem, path, line))),
+        OpenFault::Text(TextFault::At(problem, file, line)) => match problem {
+            TextProblem::MissingSource(path) => Ok(Want { path, file, line }),
+            problem => Err(Fault::Text(TextFault::At(problem, file, line))),
         },
         fault => Err(fault_of(alloc, fault, config)),
     }

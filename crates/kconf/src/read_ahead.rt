@@ -46,7 +46,7 @@ impl Waiting {
     }
 
     /// Forgets all paths.
-    pub(crate) fn start_again(&mut self) {
+    pub(crate) fn start(&mut self) {
         self.paths = Vec::new(self.alloc);
         self.seen = HashSet::new(self.alloc);
     }
