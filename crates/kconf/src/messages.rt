@@ -7,7 +7,7 @@ use kc_files::Warning;
 use kc_session::IoFault;
 use kc_text::{Text, TextFault};
 use kc_tree::TreeFault;
-use std::alloc::AllocError;
+use std::alloc::{AllocError, AllocFailed};
 use std::io::{self, Write};
 
 /// How the program ended.
@@ -53,6 +53,12 @@ pub enum Fault {
 
 impl From<AllocError> for Fault {
     fn from(_refused: AllocError) -> Self {
+        Fault::NoMemory
+    }
+}
+
+impl<T: Drop> From<AllocFailed<T>> for Fault {
+    fn from(_refused: AllocFailed<T>) -> Self {
         Fault::NoMemory
     }
 }
