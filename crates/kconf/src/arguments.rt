@@ -122,7 +122,8 @@ fn bad_value(command: &mut Command<'_>, message: &str) -> Error {
 }
 
 /// What stands below the help of the program.
-const NOTES: &str = "Each target writes to standard output, and changes no file. 'kconf TARGET --help' says
+const NOTES: &str =
+    "Each target writes to standard output, and changes no file. 'kconf TARGET --help' says
 what its words are.
 
 Example:

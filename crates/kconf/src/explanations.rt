@@ -32,10 +32,7 @@ static FAULTS: [(u8, &str); 20] = [
         "a select or an imply in, or of, a string, an int or a hex",
     ),
     (17, "a choice, or a member of one, at fault"),
-    (
-        18,
-        "MODULES that is no bool, or modules in another symbol",
-    ),
+    (18, "MODULES that is no bool, or modules in another symbol"),
     (
         19,
         "a dependency loop, in which each of these uses the next and the last the first",

@@ -77,10 +77,7 @@ type Opened = (Session, Vec<Warning>);
 /// are read ahead change nothing, whether they are wanted later or not. They only take part in the limits on all
 /// files together, and of memory. So where there is no room for a file that is wanted, or memory is refused, less is
 /// read ahead, and in the end nothing. A file that was wanted is not read twice: it may be a pipe.
-pub fn open_kconfig<F: Folder>(
-    alloc: Global,
-    kconfig: &Kconfig<'_, F>,
-) -> Result<Opened, Fault> {
+pub fn open_kconfig<F: Folder>(alloc: Global, kconfig: &Kconfig<'_, F>) -> Result<Opened, Fault> {
     let mut files = Files::new(alloc, kconfig)?;
     match files.open(kconfig, Reach::Everything) {
         Err(Fault::Full(_) | Fault::NoMemory) => open_with_less(&mut files, kconfig),
@@ -218,7 +215,8 @@ impl<'a, F: Folder> Files<'a, F> {
         let Some(text) = self.kept.get(top).filter(|_| want.file.as_str() == top) else {
             return Ok(false);
         };
-        self.sources.add(top, lines_before(text.as_str(), want.line))?;
+        self.sources
+            .add(top, lines_before(text.as_str(), want.line))?;
         let arena = Bump::new(self.alloc);
         let lines = logical_lines(self.alloc, &arena, &self.sources, kconfig.vars, top)?;
         Ok(count_files(self.alloc, lines.as_slice())? == self.count)

@@ -113,7 +113,10 @@ fn files_that_are_only_named_take_no_room(rt: HostRuntime) -> Result<(), Fail> {
     kconfig.push_str(sources.as_str())?;
     let (outcome, wanted) = run_many(rt.alloc(), kconfig.as_str(), "");
     assert_eq!(rt; outcome.errors.as_slice(), b"".as_slice());
-    assert_eq!(rt; outcome.output.as_slice(), b"# CONFIG_A is not set\n".as_slice());
+    assert_eq!(rt;
+        outcome.output.as_slice(),
+        b"# CONFIG_A is not set\n".as_slice()
+    );
     // The top file, and the first for which there was no room.
     assert_eq!(rt; wanted, 2);
     Ok(())

@@ -1,6 +1,8 @@
 //! Runs of the program as a person sees them: the words, the files, what is written where, and the status.
 mod configs;
-mod rows;
+mod faults;
+mod outputs;
+mod sessions;
 
 use crate::tests::{MemoryFolder, Outcome, run_in};
 use std::alloc::{AllocError, Global};
@@ -65,7 +67,7 @@ pub(crate) fn blocks_hold(rt: &impl Abort, alloc: Global, table: &str) -> Result
 
 #[test]
 fn the_blocks_hold(rt: HostRuntime) -> Result<(), Fail> {
-    blocks_hold(&rt, rt.alloc(), rows::TARGETS)?;
-    blocks_hold(&rt, rt.alloc(), rows::SESSIONS)?;
-    blocks_hold(&rt, rt.alloc(), rows::FAULTS)
+    blocks_hold(&rt, rt.alloc(), outputs::TARGETS)?;
+    blocks_hold(&rt, rt.alloc(), sessions::SESSIONS)?;
+    blocks_hold(&rt, rt.alloc(), faults::FAULTS)
 }

@@ -95,10 +95,19 @@ fn other_words_are_a_mistake_of_usage(rt: HostRuntime) -> Result<(), Fail> {
 #[test]
 fn help_is_output(rt: HostRuntime) -> Result<(), Fail> {
     let rows = [
-        ("--help", "kconf olddefconfig Kconfig .config > new.config\n"),
+        (
+            "--help",
+            "kconf olddefconfig Kconfig .config > new.config\n",
+        ),
         ("session --help", "kconf session Kconfig .config\n"),
-        ("session nowhere - --help", "kconf session Kconfig .config\n"),
-        ("genheader --help", "kconf genheader Kconfig .config > autoconf.h\n"),
+        (
+            "session nowhere - --help",
+            "kconf session Kconfig .config\n",
+        ),
+        (
+            "genheader --help",
+            "kconf genheader Kconfig .config > autoconf.h\n",
+        ),
     ];
     for (line, end) in rows {
         let outcome = run_line(rt.alloc(), line)?;

@@ -1,6 +1,6 @@
 //! What no block can hold: a `.config` that is too long, and one that is not text.
-use crate::tests::{FailingWriter, MemoryFolder, run_program};
 use crate::program::program;
+use crate::tests::{FailingWriter, MemoryFolder, run_program};
 use std::alloc::{AllocError, Global};
 use std::test::Fail;
 
@@ -59,11 +59,15 @@ fn other_faults_come_before_a_long_config(rt: HostRuntime) -> Result<(), Fail> {
 
 #[test]
 fn lines_that_are_no_text_are_warned_of(rt: HostRuntime) -> Result<(), Fail> {
-    let config = b"CONFIG_A=m\r\nCONFIG_U=y\r\nCONFIG_A=y\r\n\xff\n# CONFIG_A is not set\r\n".as_slice();
+    let config =
+        b"CONFIG_A=m\r\nCONFIG_U=y\r\nCONFIG_A=y\r\n\xff\n# CONFIG_A is not set\r\n".as_slice();
     let files = [("Kconfig", KCONFIG), (".config", config)];
     let words = ["kconf", "olddefconfig", "Kconfig", ".config"];
     let outcome = run_program(rt.alloc(), words.as_slice(), files.as_slice(), b"");
-    assert_eq!(rt; outcome.output.as_slice(), b"# CONFIG_A is not set\n".as_slice());
+    assert_eq!(rt;
+        outcome.output.as_slice(),
+        b"# CONFIG_A is not set\n".as_slice()
+    );
     assert_eq!(rt;
         outcome.errors.as_slice(),
         b"kconf: .config:1: warning 2\nkconf: .config:2: warning 1\nkconf: .config:4: warning 4\nkconf: .config:5: warning 5\n".as_slice()
