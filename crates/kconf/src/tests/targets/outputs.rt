@@ -1,7 +1,7 @@
 //! Blocks of each target on small trees.
 //!
-//! A block is a line `=== WORDS`, and then sections. A file that has no section is not there, and what has none is empty. The
-//! expected texts are worked out by hand from docs/VALUES.md and docs/FILES.md.
+//! A block is a line `=== WORDS`, and then sections. A file that has no section is not there, and what has none is empty.
+//! The expected texts are worked out by hand from docs/VALUES.md and docs/FILES.md.
 
 /// Each target on small trees.
 pub(crate) const TARGETS: &str = r#"
@@ -469,16 +469,16 @@ kconf: .config:2: warning 1
 The example of README.md.
 --- Kconfig
 config NET
-	bool "Network"
-	default y
+    bool "Network"
+    default y
 menu "Drivers"
 config WIFI
-	bool "Wireless"
-	depends on NET
+    bool "Wireless"
+    depends on NET
 config SPEED
-	int "Speed"
-	default 9
-	range 1 5
+    int "Speed"
+    default 9
+    range 1 5
 endmenu
 --- .config
 CONFIG_WIFI=y

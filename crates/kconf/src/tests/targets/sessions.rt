@@ -227,16 +227,16 @@ refused 5
 The example of README.md.
 --- Kconfig
 config NET
-	bool "Network"
-	default y
+    bool "Network"
+    default y
 menu "Drivers"
 config WIFI
-	bool "Wireless"
-	depends on NET
+    bool "Wireless"
+    depends on NET
 config SPEED
-	int "Speed"
-	default 9
-	range 1 5
+    int "Speed"
+    default 9
+    range 1 5
 endmenu
 --- .config
 CONFIG_WIFI=y
