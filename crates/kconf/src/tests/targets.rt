@@ -66,8 +66,16 @@ pub(crate) fn blocks_hold(rt: &impl Abort, alloc: Global, table: &str) -> Result
 }
 
 #[test]
-fn the_blocks_hold(rt: HostRuntime) -> Result<(), Fail> {
-    blocks_hold(&rt, rt.alloc(), outputs::TARGETS)?;
-    blocks_hold(&rt, rt.alloc(), sessions::SESSIONS)?;
+fn targets_write_their_texts(rt: HostRuntime) -> Result<(), Fail> {
+    blocks_hold(&rt, rt.alloc(), outputs::TARGETS)
+}
+
+#[test]
+fn sessions_reply(rt: HostRuntime) -> Result<(), Fail> {
+    blocks_hold(&rt, rt.alloc(), sessions::SESSIONS)
+}
+
+#[test]
+fn the_first_fault_is_reported(rt: HostRuntime) -> Result<(), Fail> {
     blocks_hold(&rt, rt.alloc(), faults::FAULTS)
 }
