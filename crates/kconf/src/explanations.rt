@@ -20,7 +20,7 @@ static FAULTS: [(u8, &str); 20] = [
     (9, "a file that sources itself, directly or through others"),
     (
         10,
-        "a dollar that begins no reference to a variable, or a function",
+        "a dollar that begins no reference to a variable, or a function: docs/TREES.md says what to do",
     ),
     (11, "a variable that its own expansion needs"),
     (12, "a symbol without a type"),
