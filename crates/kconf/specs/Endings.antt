@@ -2,8 +2,6 @@
 use Rattle.std.specs.Prelude.{ℕ}
 use Rattle.clap.specs.declared.error.kind.ErrorKind.{ErrorKind}
 use Rattle.clap.specs.declared.error.kind.ErrorKind.TheVariants.{DisplayHelp, DisplayVersion, OutOfMemory}
-use Rattle.std_io.specs.declared.io.kind.ErrorKind.{ErrorKind as IoErrorKind}
-use Rattle.std_io.specs.declared.io.kind.ErrorKind.TheVariants.{OutOfMemory as IoOutOfMemory}
 use Rattle.kconf.specs.declared.messages.Status.{Status}
 use Rattle.kconf.specs.declared.messages.Status.TheVariants.{Done, Fault, Usage}
 
@@ -20,8 +18,3 @@ ending_of DisplayHelp = Done
 ending_of DisplayVersion = Done
 ending_of OutOfMemory = Fault
 ending_of _ = Usage
-
--- where the words could not be read, by why: a word that is not UTF-8 is a mistake of usage
-abbrev pub ending_without_words : IoErrorKind → Status
-ending_without_words IoOutOfMemory = Fault
-ending_without_words _ = Usage

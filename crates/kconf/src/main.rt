@@ -2,8 +2,8 @@
 #![tactic(auto)]
 
 ghost use Rattle.std.specs.Prelude.{◌≡◌};
-ghost use Rattle.std_io.specs.IoError.{error_kind};
-ghost use Rattle.kconf.specs.Endings.{ending_without_words};
+ghost use Rattle.std.specs.IoError.{error_kind};
+ghost use Rattle.kconf.specs.UnreadWords.{ending_without_words};
 
 mod arguments;
 mod explanations;
