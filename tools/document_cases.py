@@ -574,6 +574,8 @@ LANGUAGE: dict[tuple[str, int], Entry] = {
 }
 
 FAULTS: dict[tuple[str, int], Entry] = {
+    ("In short", 1): Without("the words of the faults, which tools/check_explanations.py compares"),
+    ("Warnings", 1): Without("the words of the warnings, which tools/check_explanations.py compares"),
     ("Which fault is the first", 1): Rows(order_cases),
     ("K01: a limit is passed", 1): Repeated(
         "a variable that doubles one of 40,000 bytes",

@@ -1,2 +1,4 @@
 pub mod Endings
+pub mod Targets
+pub mod UnreadWords
 pub mod Variables

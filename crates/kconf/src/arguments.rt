@@ -1,29 +1,43 @@
-//! The command line: `kconf session KCONFIG CONFIG [NAME=VALUE]...`, with `--prefix P` and `--help`.
+//! The command line: `kconf TARGET KCONFIG CONFIG [NAME=VALUE]...`, with `--prefix P`, `--explain` and `--help`.
+//! `allnoconfig` and `allyesconfig` take no CONFIG.
 //!
 //! A word that begins with `-` is an option, but `-` alone is a value, and so is each word after `--`.
-//!
-//! Not taken yet: a CONFIG other than `-`, which stands for none.
 
+use crate::explanations::Wording;
+use crate::targets::{SUBCOMMANDS, Subcommand, Target, subcommand_named};
 use crate::variables::{VariableFault, variables_of};
-use clap::builder::ValueParser;
 use clap::error::ErrorKind;
-use clap::{Arg, ArgAction, Command, Error};
+use clap::{Arg, ArgAction, ArgMatches, Command, Error};
 use kc_files::{Prefix, PrefixFault};
 use std::alloc::{AllocError, Global};
 use std::convert::AsStr;
 
-/// What CONFIG may be.
-static NO_CONFIG: [&str; 1] = ["-"];
+/// The CONFIG that stands for none.
+const NO_CONFIG: &str = "-";
 
 /// What the words of a command line ask for.
 #[derive(Drop)]
 pub struct Arguments<'a> {
+    /// What is written.
+    pub target: Target,
     /// The path of the top file.
     pub kconfig: &'a str,
+    /// The path of the `.config` that is loaded, if there is one.
+    pub config: Option<&'a str>,
     /// What stands before the names of symbols in files.
     pub prefix: Prefix,
+    /// How faults and warnings are worded.
+    pub wording: Wording,
     /// The variables that the Kconfig sees, each as its name and its text, in the order of the words.
     pub variables: Vec<(&'a str, &'a str)>,
+}
+
+/// Why the words of a subcommand are no arguments.
+enum WordFault {
+    /// A value is not one of those that are taken, as these words say.
+    BadValue(&'static str),
+    /// Memory was refused.
+    NoMemory,
 }
 
 impl<'a> Arguments<'a> {
@@ -36,38 +50,16 @@ impl<'a> Arguments<'a> {
     pub fn parse<S: AsStr>(alloc: Global, words: &'a [S]) -> Result<Arguments<'a>, Error> {
         let mut command = kconf_command(alloc)?;
         let matches = command.try_get_matches_from_mut(words)?;
-        let session = matches.subcommand_matches("session");
-        let kconfig = session.and_then(|found| found.get_str("KCONFIG"));
-        let prefix = session.and_then(|found| found.get_str("prefix"));
-        let variables = session
-            .and_then(|found| found.get_strs("variables"))
-            .unwrap_or(&[]);
-        let (Some(kconfig), Some(prefix)) = (kconfig, prefix) else {
-            return Err(command.error(
-                ErrorKind::MissingRequiredArgument,
-                "an argument is missing",
-            )?);
-        };
-        let prefix = match Prefix::new(alloc, prefix) {
-            Ok(prefix) => prefix,
-            Err(PrefixFault::NoMemory) => return Err(Error::from(AllocError)),
-            Err(PrefixFault::Malformed) => return Err(bad_value(&mut command, MALFORMED_PREFIX)),
-        };
-        let variables = match variables_of(alloc, variables) {
-            Ok(variables) => variables,
-            Err(VariableFault::NoMemory) => return Err(Error::from(AllocError)),
-            Err(VariableFault::Malformed) => return Err(bad_value(
-                &mut command,
-                MALFORMED_VARIABLE,
-            )),
-        };
-        Ok(Arguments {
-            kconfig,
-            prefix,
-            variables,
-        })
+        match read_matches(alloc, &matches) {
+            Ok(arguments) => Ok(arguments),
+            Err(WordFault::BadValue(message)) => Err(bad_value(&mut command, message)),
+            Err(WordFault::NoMemory) => Err(Error::from(AllocError)),
+        }
     }
 }
+
+/// What is said of words that lack an argument.
+const MISSING_ARGUMENT: &str = "an argument is missing";
 
 /// What is said of a malformed prefix.
 const MALFORMED_PREFIX: &str =
@@ -75,7 +67,51 @@ const MALFORMED_PREFIX: &str =
 
 /// What is said of a word that is no variable.
 const MALFORMED_VARIABLE: &str =
-    "a word after CONFIG is not NAME=VALUE, with ASCII letters, digits, '_' and '-' in NAME, and '-' not first";
+    "a word behind the files is not NAME=VALUE, with ASCII letters, digits, '_' and '-' in NAME, and '-' not first";
+
+/// The arguments of the subcommand that was found in the words.
+fn read_matches<'a>(alloc: Global, matches: &ArgMatches<'a>) -> Result<Arguments<'a>, WordFault> {
+    let Some((name, found)) = matches.subcommand() else {
+        return Err(WordFault::BadValue(MISSING_ARGUMENT));
+    };
+    let (Some(row), Some(kconfig)) = (subcommand_named(name), found.get_str("KCONFIG")) else {
+        return Err(WordFault::BadValue(MISSING_ARGUMENT));
+    };
+    let prefix = read_prefix(alloc, found.get_str("prefix").unwrap_or("CONFIG_"))?;
+    let variables = read_variables(alloc, found.get_strs("variables").unwrap_or(&[]))?;
+    let wording = if found.get_flag("explain") {
+        Wording::Explained
+    } else {
+        Wording::Number
+    };
+    Ok(Arguments {
+        target: row.target,
+        kconfig,
+        config: found.get_str("CONFIG").filter(|path| *path != NO_CONFIG),
+        prefix,
+        wording,
+        variables,
+    })
+}
+
+fn read_prefix(alloc: Global, text: &str) -> Result<Prefix, WordFault> {
+    match Prefix::new(alloc, text) {
+        Ok(prefix) => Ok(prefix),
+        Err(PrefixFault::NoMemory) => Err(WordFault::NoMemory),
+        Err(PrefixFault::Malformed) => Err(WordFault::BadValue(MALFORMED_PREFIX)),
+    }
+}
+
+fn read_variables<'a>(
+    alloc: Global,
+    words: &[&'a str],
+) -> Result<Vec<(&'a str, &'a str)>, WordFault> {
+    match variables_of(alloc, words) {
+        Ok(variables) => Ok(variables),
+        Err(VariableFault::NoMemory) => Err(WordFault::NoMemory),
+        Err(VariableFault::Malformed) => Err(WordFault::BadValue(MALFORMED_VARIABLE)),
+    }
+}
 
 /// A mistake of usage: the value of a word is not one of those that are taken.
 fn bad_value(command: &mut Command<'_>, message: &str) -> Error {
@@ -85,40 +121,81 @@ fn bad_value(command: &mut Command<'_>, message: &str) -> Error {
     }
 }
 
+/// What stands below the help of the program.
+const NOTES: &str =
+    "Each target writes to standard output, and changes no file. 'kconf TARGET --help' says
+what its words are.
+
+Example:
+  kconf olddefconfig Kconfig .config > new.config";
+
+/// The command line, with a subcommand for each target.
 fn kconf_command<'a>(alloc: Global) -> Result<Command<'a>, AllocError> {
-    Command::new(alloc, "kconf")
-        .about("Answers commands on the symbols of a Kconfig")
-        .subcommand_required(true)
-        .subcommand(session_command(alloc)?)
+    let mut command = Command::new(alloc, "kconf")
+        .about("Resolves a Kconfig: gives each symbol its value, by a .config and defaults")
+        .after_help(NOTES)
+        .subcommand_value_name("TARGET")
+        .subcommand_help_heading("Targets")
+        .subcommand_required(true);
+    for row in SUBCOMMANDS.as_slice() {
+        command = command.subcommand(target_command(alloc, row)?)?;
+    }
+    Ok(command)
 }
 
-fn session_command<'a>(alloc: Global) -> Result<Command<'a>, AllocError> {
-    let kconfig = Arg::new(alloc, "KCONFIG")
+/// The subcommand of a row of the table.
+fn target_command<'a>(alloc: Global, row: &Subcommand) -> Result<Command<'a>, AllocError> {
+    let command = Command::new(alloc, row.name)
+        .about(row.about)
+        .after_help(row.notes)
+        .arg(kconfig_argument(alloc))?;
+    let command = if row.takes_config {
+        command.arg(config_argument(alloc))?
+    } else {
+        command
+    };
+    command
+        .arg(variables_argument(alloc))?
+        .arg(prefix_option(alloc))?
+        .arg(explain_option(alloc))
+}
+
+fn kconfig_argument<'a>(alloc: Global) -> Arg<'a> {
+    Arg::new(alloc, "KCONFIG")
         .required(true)
         .action(ArgAction::Set)
-        .help("The path of the Kconfig, as it is written");
-    let config = Arg::new(alloc, "CONFIG")
+        .help("The path of the top Kconfig file; 'source' paths are taken from the working folder")
+}
+
+fn config_argument<'a>(alloc: Global) -> Arg<'a> {
+    Arg::new(alloc, "CONFIG")
         .required(true)
         .action(ArgAction::Set)
-        .value_parser(ValueParser::from(NO_CONFIG.as_slice()))
-        .help("The .config to load: no file is loaded yet, only - (none) is taken");
-    let prefix = Arg::new(alloc, "prefix")
+        .help("The path of the .config whose values are loaded, or - for none")
+}
+
+fn variables_argument<'a>(alloc: Global) -> Arg<'a> {
+    Arg::new(alloc, "variables")
+        .value_name("NAME=VALUE")
+        .num_args(0..)
+        .action(ArgAction::Append)
+        .help("What $(NAME) stands for in the Kconfig; the environment is not read")
+}
+
+fn prefix_option<'a>(alloc: Global) -> Arg<'a> {
+    Arg::new(alloc, "prefix")
         .long("prefix")
         .value_name("P")
         .action(ArgAction::Set)
         .default_value("CONFIG_")
         .help(
             "What stands before the names of symbols in files: at most 64 ASCII letters, digits and _",
-        );
-    let variables = Arg::new(alloc, "variables")
-        .value_name("NAME=VALUE")
-        .num_args(0..)
-        .action(ArgAction::Append)
-        .help("The variables that the Kconfig sees; it sees none of the environment");
-    Command::new(alloc, "session")
-        .about("Reads a Kconfig, and answers the commands of standard input, each line one")
-        .arg(kconfig)?
-        .arg(config)?
-        .arg(variables)?
-        .arg(prefix)
+        )
+}
+
+fn explain_option<'a>(alloc: Global) -> Arg<'a> {
+    Arg::new(alloc, "explain")
+        .long("explain")
+        .action(ArgAction::SetTrue)
+        .help("Puts some words behind the number of each warning and fault")
 }

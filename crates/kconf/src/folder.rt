@@ -8,6 +8,9 @@ use std::rt::Files;
 /// The most bytes that are expected of a file: more are never accepted.
 const MOST_EXPECTED: u64 = 16_777_216;
 
+/// How many bytes of a `.config` are read: more than are accepted, so that one that is too long is found so.
+const MOST_CONFIG: u64 = MOST_EXPECTED + 1;
+
 /// Why a file gave no bytes.
 #[derive(Clone, Copy, Debug, PartialEq, Eq)]
 pub enum FolderFault {
@@ -30,6 +33,11 @@ impl From<io::Error> for FolderFault {
 pub trait Folder {
     /// All bytes of the file of a path.
     fn read_bytes(&self, alloc: Global, path: &str) -> Result<Vec<u8>, FolderFault>;
+
+    /// The same for a `.config`. Past 16,777,217 bytes, which are more than one may have, the rest may be left out.
+    fn read_config(&self, alloc: Global, path: &str) -> Result<Vec<u8>, FolderFault> {
+        self.read_bytes(alloc, path)
+    }
 
     /// The same for a file that may never be wanted: `CannotRead` also where it has more than 16,777,216 bytes, and
     /// where reading it might not end, or might take bytes from others, as from a pipe.
@@ -76,6 +84,13 @@ impl<R: Files> Folder for SystemFolder<'_, R> {
     fn read_bytes(&self, alloc: Global, path: &str) -> Result<Vec<u8>, FolderFault> {
         let metadata = fs::metadata(self.rt, path)?;
         self.read_expected(alloc, path, metadata.len())
+    }
+
+    fn read_config(&self, alloc: Global, path: &str) -> Result<Vec<u8>, FolderFault> {
+        let mut file = fs::open(self.rt, path)?.take(MOST_CONFIG);
+        let mut bytes = Vec::new(alloc);
+        file.read_to_end(&mut bytes)?;
+        Ok(bytes)
     }
 
     fn read_plain(&self, alloc: Global, path: &str) -> Result<Vec<u8>, FolderFault> {

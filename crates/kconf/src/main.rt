@@ -1,14 +1,22 @@
-//! A program that reads a Kconfig and answers commands on it: `kconf session KCONFIG CONFIG [NAME=VALUE]...`.
+//! A program that resolves a Kconfig: `kconf TARGET KCONFIG CONFIG [NAME=VALUE]...`.
 #![tactic(auto)]
 
+ghost use Rattle.std.specs.Prelude.{◌≡◌};
+ghost use Rattle.std.specs.IoError.{error_kind};
+ghost use Rattle.kconf.specs.UnreadWords.{ending_without_words};
+
 mod arguments;
+mod explanations;
 mod folder;
+mod known;
 mod messages;
 mod opening;
 pub mod program;
 mod read_ahead;
+mod targets;
 mod variables;
 
+use explanations::Wording;
 use folder::SystemFolder;
 use messages::{Fault, Status, write_fault};
 use program::program;
@@ -22,13 +30,24 @@ fn read_words<R: Env + AllocGlobal>(rt: &R) -> io::Result<Vec<String>> {
     Ok(env::args(rt)?.collect(rt.alloc())?)
 }
 
-/// Ends the program where its words cannot be read: one that is not UTF-8 is a mistake of usage.
-fn status_without_words<E: Write>(error: &io::Error, errors: &mut E) -> Status {
-    if error.kind() != ErrorKind::OutOfMemory {
-        return Status::Usage;
+/// How the program ends where its words cannot be read: one that is not UTF-8 is a mistake of usage.
+fn ending_without_words(error: &io::Error) -> Status
+    ensures { result ≡ ending_without_words (error_kind error.now) }
+{
+    match error.kind() {
+        ErrorKind::OutOfMemory => Status::Fault,
+        _ => Status::Usage,
     }
-    let _ = write_fault(errors, &Fault::NoMemory);
-    Status::Fault
+}
+
+/// Ends the program where its words cannot be read.
+fn answer_unread<E: Write>(error: &io::Error, errors: &mut E) -> Status {
+    let status = ending_without_words(error);
+    let _ = match status {
+        Status::Fault => write_fault(errors, &Fault::NoMemory, Wording::Number),
+        _ => writeln!(errors, "error: a word of the command line is not UTF-8"),
+    };
+    status
 }
 
 fn main(rt: HostRuntime) -> ExitCode {
@@ -41,7 +60,7 @@ fn main(rt: HostRuntime) -> ExitCode {
             &mut rt.stdout(),
             &mut rt.stderr(),
         ),
-        Err(error) => status_without_words(&error, &mut rt.stderr()).code(),
+        Err(error) => answer_unread(&error, &mut rt.stderr()).code(),
     };
     ExitCode::from(status)
 }

@@ -6,82 +6,104 @@ ghost use Rattle.std.specs.String.{string_bytes};
 
 use crate::folder::{Folder, FolderFault};
 use crate::messages::Fault;
-use crate::read_ahead::Waiting;
-use kc_files::Prefix;
+use crate::read_ahead::{Reach, Waiting};
+use bumpalo::Bump;
+use kc_files::{Prefix, Warning};
 use kc_session::{OpenFault, Session, open};
-use kc_text::{Sources, Text, TextFault, TextProblem, Vars};
+use kc_text::{Line, Sources, Text, TextFault, TextProblem, Vars, logical_lines};
 use std::alloc::Global;
-
-/// The most files of a Kconfig.
-const MAX_FILES: usize = 4_096;
+use std::collections::{HashMap, HashSet};
 
 /// The most paths that are read ahead at a time.
 const MAX_AHEAD: usize = 65_536;
 
-/// A Kconfig that is to be opened.
+/// The `.config` that is loaded.
+#[derive(Drop)]
+pub struct ConfigFile {
+    /// The path that its fault names.
+    path: String,
+    bytes: Vec<u8>,
+}
+
+impl ConfigFile {
+    /// None: no line.
+    pub fn none(alloc: Global) -> ConfigFile {
+        ConfigFile {
+            path: String::new(alloc),
+            bytes: Vec::new(alloc),
+        }
+    }
+}
+
+/// The `.config` of a path of a folder. Of one that is too long it has enough to be found too long.
+pub fn read_config_file<F: Folder>(
+    alloc: Global,
+    folder: &F,
+    path: &str,
+) -> Result<ConfigFile, Fault> {
+    match folder.read_config(alloc, path) {
+        Ok(bytes) => Ok(ConfigFile {
+            path: String::from_str(alloc, path)?,
+            bytes,
+        }),
+        Err(FolderFault::CannotRead) => Err(Fault::CannotRead(Text::copy_of(alloc, path)?)),
+        Err(FolderFault::NoMemory) => Err(Fault::NoMemory),
+    }
+}
+
+/// A Kconfig that is to be opened with the values of a `.config`.
 #[derive(Drop)]
 pub struct Kconfig<'a, F> {
     /// Where its files are.
     pub folder: &'a F,
-    /// The variables that it sees.
+    /// The variables that it sees, each as its name and its text, for reading ahead.
+    pub variables: &'a [(&'a str, &'a str)],
+    /// These variables.
     pub vars: &'a Vars,
     /// The path of its top file.
     pub top: &'a str,
     /// What stands before the names of symbols in files.
     pub prefix: &'a Prefix,
+    pub config: &'a ConfigFile,
 }
 
-/// Which files are read.
-#[derive(Clone, Copy, PartialEq, Eq)]
-enum Reading {
-    /// Those that `open` wants, one at a time.
-    Wanted,
-    /// Also those that are named by the files that were read, before they are wanted.
-    Ahead,
-}
+/// A session, and the warnings of the `.config` in the order of its lines.
+type Opened = (Session, Vec<Warning>);
 
-/// The session of a Kconfig. The answer is that of reading the files that `open` wants, one at a time.
+/// The session of a Kconfig with the values of its `.config`, and the warnings in the order of its lines. The answer is
+/// that of reading the files that `open` wants, one at a time.
 ///
 /// What `open` answers depends on the variables and on the texts of the paths that it looks up alone, so files that
 /// are read ahead change nothing, whether they are wanted later or not. They only take part in the limits on all
-/// files together, and of memory: where there is no room for a file, or memory is refused, all is read again without
-/// reading ahead.
-pub fn open_kconfig<F: Folder>(alloc: Global, kconfig: &Kconfig<'_, F>) -> Result<Session, Fault> {
-    match open_reading(alloc, kconfig, Reading::Ahead) {
-        Err(Fault::Full(_) | Fault::NoMemory) => open_reading(alloc, kconfig, Reading::Wanted),
+/// files together, and of memory. So where there is no room for a file that is wanted, or memory is refused, less is
+/// read ahead, and in the end nothing. A file that was wanted is not read twice: it may be a pipe.
+pub fn open_kconfig<F: Folder>(alloc: Global, kconfig: &Kconfig<'_, F>) -> Result<Opened, Fault> {
+    let mut files = Files::new(alloc, kconfig)?;
+    match files.open(kconfig, Reach::Everything) {
+        Err(Fault::Full(_) | Fault::NoMemory) => open_with_less(&mut files, kconfig),
         answer => answer,
     }
 }
 
-/// The session of a Kconfig, by reading files until none is wanted.
-fn open_reading<F: Folder>(
-    alloc: Global,
+/// The same, where not all that is named can be read ahead.
+fn open_with_less<F: Folder>(
+    files: &mut Files<'_, F>,
     kconfig: &Kconfig<'_, F>,
-    reading: Reading,
-) -> Result<Session, Fault> {
-    let mut files = Files::new(alloc, kconfig.folder, reading);
-    let mut answer = files.open(kconfig);
-    // Each turn adds a file that was not there, and there is no room for more than 4,096.
-    for _ in 0..=MAX_FILES {
-        let Err(fault) = answer else {
-            break;
-        };
-        let wanted = wanted_path(fault)?;
-        files.read_wanted(wanted.as_str())?;
-        answer = files.open(kconfig);
+) -> Result<Opened, Fault> {
+    match files.open(kconfig, Reach::Unindented) {
+        Err(Fault::Full(_) | Fault::NoMemory) => files.open(kconfig, Reach::Nothing),
+        answer => answer,
     }
-    Ok(answer?)
 }
 
-/// The path of the file that is wanted, or the fault, where it is another one.
-fn wanted_path(fault: OpenFault) -> Result<Text, Fault> {
-    match fault {
-        OpenFault::Text(TextFault::At(problem, path, line)) => match problem {
-            TextProblem::MissingSource(wanted) => Ok(wanted),
-            problem => Err(Fault::Text(TextFault::At(problem, path, line))),
-        },
-        fault => Err(Fault::from(fault)),
-    }
+/// What a `source` line wants.
+#[derive(Drop)]
+struct Want {
+    /// The path that it names.
+    path: Text,
+    /// The file in which it stands, and its number there.
+    file: Text,
+    line: usize,
 }
 
 /// The files that were read so far.
@@ -89,43 +111,132 @@ fn wanted_path(fault: OpenFault) -> Result<Text, Fault> {
 struct Files<'a, F> {
     alloc: Global,
     folder: &'a F,
-    reading: Reading,
+    reach: Reach,
     sources: Sources,
     waiting: Waiting,
+    /// How many files `sources` has.
+    count: usize,
+    /// How many of them were read ahead.
+    ahead: usize,
+    /// The texts of files that were wanted, by their paths, for another start.
+    kept: HashMap<String, String>,
 }
 
 impl<'a, F: Folder> Files<'a, F> {
-    /// No files.
-    fn new(alloc: Global, folder: &'a F, reading: Reading) -> Files<'a, F> {
-        Files {
+    /// No files, of a Kconfig whose files are read as far ahead as can be.
+    fn new(alloc: Global, kconfig: &Kconfig<'a, F>) -> Result<Files<'a, F>, Fault> {
+        Ok(Files {
             alloc,
-            folder,
-            reading,
+            folder: kconfig.folder,
+            reach: Reach::Everything,
             sources: Sources::new(alloc),
-            waiting: Waiting::new(alloc),
+            waiting: Waiting::new(alloc, kconfig.variables)?,
+            count: 0,
+            ahead: 0,
+            kept: HashMap::new(alloc),
+        })
+    }
+
+    /// Starts with no files, and reads as far ahead as a reach says.
+    fn start(&mut self, reach: Reach) {
+        self.reach = reach;
+        self.sources = Sources::new(self.alloc);
+        self.waiting.start();
+        self.count = 0;
+        self.ahead = 0;
+    }
+
+    /// The session, by reading files until none is wanted. There is no end but an answer: each turn adds a file that was
+    /// not there, and `Sources` refuses those that are too many.
+    fn open(&mut self, kconfig: &Kconfig<'_, F>, reach: Reach) -> Result<Opened, Fault> {
+        self.start(reach);
+        let mut answer = self.open_sources(kconfig);
+        for _ in 0..u64::MAX {
+            let Err(fault) = answer else {
+                break;
+            };
+            let want = want_of(self.alloc, fault, kconfig.config)?;
+            self.read_wanted(kconfig, &want)?;
+            answer = self.open_sources(kconfig);
+        }
+        match answer {
+            Ok(opened) => Ok(opened),
+            Err(fault) => Err(fault_of(self.alloc, fault, kconfig.config)),
         }
     }
 
     /// What the Kconfig is with these files alone.
-    fn open(&self, kconfig: &Kconfig<'_, F>) -> Result<Session, OpenFault> {
+    fn open_sources(&self, kconfig: &Kconfig<'_, F>) -> Result<Opened, OpenFault> {
         open(
             self.alloc,
             &self.sources,
             kconfig.vars,
             kconfig.top,
             kconfig.prefix,
+            kconfig.config.bytes.as_slice(),
         )
     }
 
-    /// Reads the file of a path that is wanted, and then what may be read ahead.
-    fn read_wanted(&mut self, path: &str) -> Result<(), Fault> {
+    /// Reads the file that is wanted, and then what may be read ahead.
+    fn read_wanted(&mut self, kconfig: &Kconfig<'_, F>, want: &Want) -> Result<(), Fault> {
+        let path = want.path.as_str();
         self.waiting.pass(path)?;
-        let read = self.folder.read_bytes(self.alloc, path);
-        self.add(path, read)?;
-        self.read_ahead()
+        let text = self.wanted_text(path)?;
+        match self.add(path, text) {
+            Ok(()) => self.read_ahead(),
+            Err(TextFault::NoMemory) => Err(Fault::NoMemory),
+            Err(fault) => Err(self.fault_without_room(kconfig, want, fault)),
+        }
     }
 
-    /// Reads the files that wait. One that cannot be read, or is not UTF-8, is skipped: it is read again, and
+    /// The fault where there is no room for a file that is wanted: `Full`, unless the same files had been there if each
+    /// had been read as it was wanted.
+    fn fault_without_room(
+        &mut self,
+        kconfig: &Kconfig<'_, F>,
+        want: &Want,
+        fault: TextFault,
+    ) -> Fault {
+        if self.ahead == 0 {
+            return Fault::Text(fault);
+        }
+        match self.are_all_followed(kconfig, want) {
+            Ok(true) => Fault::Text(fault),
+            Ok(false) => Fault::Full(fault),
+            Err(fault) => fault,
+        }
+    }
+
+    /// Whether all files are followed before a `source` line, by the lines before it: so the files would be the same had
+    /// each been read as it was wanted. Only of a line of the top file this is known. The top file is cut there, so the
+    /// files serve for nothing else after that.
+    fn are_all_followed(&mut self, kconfig: &Kconfig<'_, F>, want: &Want) -> Result<bool, Fault> {
+        let top = kconfig.top;
+        let Some(text) = self.kept.get(top).filter(|_| want.file.as_str() == top) else {
+            return Ok(false);
+        };
+        self.sources
+            .add(top, lines_before(text.as_str(), want.line))?;
+        let arena = Bump::new(self.alloc);
+        let lines = logical_lines(self.alloc, &arena, &self.sources, kconfig.vars, top)?;
+        Ok(count_files(self.alloc, lines.as_slice())? == self.count)
+    }
+
+    /// The text of a path that is wanted. It is kept where another start may want it.
+    fn wanted_text(&mut self, path: &str) -> Result<String, Fault> {
+        if let Some(text) = self.kept.get(path) {
+            return Ok(String::from_str(self.alloc, text.as_str())?);
+        }
+        let read = self.folder.read_bytes(self.alloc, path);
+        let text = text_of(self.alloc, path, read)?;
+        if self.reach != Reach::Nothing {
+            let copy = String::from_str(self.alloc, text.as_str())?;
+            self.kept.insert(String::from_str(self.alloc, path)?, copy)?;
+        }
+        Ok(text)
+    }
+
+    /// Reads the files that wait. One that cannot be read, is not UTF-8 or has no room is skipped: it is read again, and
     /// reported, if it is ever wanted. So is what is left where too many paths wait.
     fn read_ahead(&mut self) -> Result<(), Fault> {
         for _ in 0..MAX_AHEAD {
@@ -133,25 +244,71 @@ impl<'a, F: Folder> Files<'a, F> {
                 break;
             };
             let read = self.folder.read_plain(self.alloc, path.as_str());
-            match self.add(path.as_str(), read) {
-                Ok(()) | Err(Fault::CannotRead(_) | Fault::NotUtf8(_)) => {}
-                Err(fault) => return Err(fault),
+            let text = match text_of(self.alloc, path.as_str(), read) {
+                Ok(text) => text,
+                Err(Fault::NoMemory) => return Err(Fault::NoMemory),
+                Err(_) => continue,
+            };
+            match self.add(path.as_str(), text) {
+                Ok(()) => self.ahead = self.ahead.wrapping_add(1),
+                Err(TextFault::NoMemory) => return Err(Fault::NoMemory),
+                Err(_) => {}
             }
         }
         Ok(())
     }
 
-    /// Adds the file of a path, by what reading it gave. What it names waits, where files are read ahead.
-    fn add(&mut self, path: &str, read: Result<Vec<u8>, FolderFault>) -> Result<(), Fault> {
-        let text = text_of(self.alloc, path, read)?;
-        if self.reading == Reading::Ahead {
-            self.waiting.add_named(text.as_str())?;
+    /// Adds the text of a path. What it names waits.
+    fn add(&mut self, path: &str, text: String) -> Result<(), TextFault> {
+        self.waiting.add_named(text.as_str(), self.reach)?;
+        self.sources.add_text(path, Text::new(text))?;
+        self.count = self.count.wrapping_add(1);
+        Ok(())
+    }
+}
+
+/// The lines of a text before the line of a number.
+fn lines_before(text: &str, number: usize) -> &str {
+    let ends = text.bytes().enumerate().filter(|(_, byte)| *byte == b'\n');
+    let before = number.saturating_sub(2);
+    match ends.skip(before).next() {
+        Some((end, _)) if number > 1 => text.get(..=end).unwrap_or(text),
+        _ => "",
+    }
+}
+
+/// How many files have a line, as the last line of each file is its end.
+fn count_files(alloc: Global, lines: &[Line<'_>]) -> Result<usize, Fault> {
+    let mut paths = HashSet::new(alloc);
+    for line in lines {
+        if !paths.contains(line.path()) {
+            paths.insert(String::from_str(alloc, line.path())?)?;
         }
-        match self.sources.add_text(path, Text::new(text)) {
-            Ok(()) => Ok(()),
-            Err(TextFault::NoMemory) => Err(Fault::NoMemory),
-            Err(fault) => Err(Fault::Full(fault)),
-        }
+    }
+    Ok(paths.len())
+}
+
+/// What is wanted, or the fault, where it is another one.
+fn want_of(alloc: Global, fault: OpenFault, config: &ConfigFile) -> Result<Want, Fault> {
+    match fault {
+        OpenFault::Text(TextFault::At(problem, file, line)) => match problem {
+            TextProblem::MissingSource(path) => Ok(Want { path, file, line }),
+            problem => Err(Fault::Text(TextFault::At(problem, file, line))),
+        },
+        fault => Err(fault_of(alloc, fault, config)),
+    }
+}
+
+/// The fault of a Kconfig that has no session with a `.config`.
+fn fault_of(alloc: Global, fault: OpenFault, config: &ConfigFile) -> Fault {
+    match fault {
+        OpenFault::Text(fault) => Fault::Text(fault),
+        OpenFault::Tree(fault) => Fault::Tree(fault),
+        OpenFault::Limit => match Text::copy_of(alloc, config.path.as_str()) {
+            Ok(path) => Fault::Limit(path),
+            Err(_) => Fault::NoMemory,
+        },
+        OpenFault::NoMemory => Fault::NoMemory,
     }
 }
 

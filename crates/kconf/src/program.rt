@@ -4,24 +4,29 @@ ghost use Rattle.clap.specs.Words.{kind_of};
 ghost use Rattle.kconf.specs.Endings.{ending_of};
 
 use crate::arguments::Arguments;
+use crate::explanations::Wording;
 use crate::folder::Folder;
-use crate::messages::{Fault, Status, write_fault};
-use crate::opening::{Kconfig, open_kconfig};
+use crate::messages::{Fault, Status, write_fault, write_warnings};
+use crate::opening::{ConfigFile, Kconfig, open_kconfig, read_config_file};
+use crate::targets::Target;
 use clap::Error;
 use clap::error::ErrorKind;
-use kc_session::{IoFault, Session, run};
+use kc_files::Warning;
+use kc_session::{IoFault, Reply, Session, run};
 use kc_text::Vars;
 use std::alloc::Global;
 use std::convert::AsStr;
 use std::io::{self, Read, Write};
 use std::mem;
 
-/// Does what the words of a command line ask for, and gives the exit status: 0 where it was done, 1 after a
-/// fault, which `errors` reports, and 2 where the words are no command line. The first word is the program's
-/// name.
+/// Does what the words of a command line ask for, and gives the exit status: 0 where it was done, with warnings or
+/// without, 1 after a fault, which `errors` reports, and 2 where the words are no command line. The first word is the
+/// program's name.
 ///
-/// The first fault is reported: of the words, then of the variables in them, then of the files and their texts as they
-/// are read, then of the lines and the symbols, and last of the stream of commands. Where `errors` cannot be written nothing more is done.
+/// The first fault is reported: of the words, then of the variables in them, then of the reading of CONFIG, then of the
+/// files and their texts as they are read, then of the lines and the symbols, then of CONFIG's length, and last of the
+/// input and the output. Nothing is written to `output` before all of these but the last are known to be none. Where
+/// `errors` cannot be written, what it lacks changes nothing else.
 pub fn program<S: AsStr, F: Folder, R: Read, W: Write, E: Write>(
     alloc: Global,
     words: &[S],
@@ -33,44 +38,91 @@ pub fn program<S: AsStr, F: Folder, R: Read, W: Write, E: Write>(
     ensures { result ≤ 2 }
 {
     let status = match Arguments::parse(alloc, words) {
-        Ok(arguments) => match serve(alloc, &arguments, folder, input, output) {
+        Ok(arguments) => match serve(alloc, &arguments, folder, input, output, errors) {
             Ok(()) => Status::Done,
-            Err(fault) => tell(&fault, errors),
+            Err(fault) => report(&fault, arguments.wording, errors),
         },
         Err(error) => answer_words(&error, output, errors),
     };
     status.code()
 }
 
-/// Reads the Kconfig, and serves the stream of commands on it.
-fn serve<F: Folder, R: Read, W: Write>(
+/// Reads the Kconfig and CONFIG, writes the warnings, and then what the target asks for.
+fn serve<F: Folder, R: Read, W: Write, E: Write>(
     alloc: Global,
     arguments: &Arguments<'_>,
     folder: &F,
     input: &mut R,
     output: &mut W,
+    errors: &mut E,
 ) -> Result<(), Fault> {
-    let mut session = open_session(alloc, arguments, folder)?;
-    let served = run(alloc, input, output, &mut session);
+    let (mut session, warnings) = open_session(alloc, arguments, folder)?;
+    let path = arguments.config.unwrap_or("");
+    // A warning that cannot be written is no fault: the status says whether the output is there.
+    let _ = write_warnings(errors, path, warnings.as_slice(), arguments.wording);
+    let served = write_target(alloc, arguments.target, &mut session, input, output);
     // The program ends here, so its memory need not be given back piece by piece.
     mem::forget(session);
-    Ok(served?)
+    served
 }
 
-/// The session of the Kconfig of a folder, which sees the variables of the words alone.
+/// The session of the Kconfig of a folder, which sees the variables of the words alone, with the values of CONFIG and
+/// the warnings of its lines.
 fn open_session<F: Folder>(
     alloc: Global,
     arguments: &Arguments<'_>,
     folder: &F,
-) -> Result<Session, Fault> {
+) -> Result<(Session, Vec<Warning>), Fault> {
     let vars = Vars::from_pairs(alloc, arguments.variables.as_slice())?;
+    let config = match arguments.config {
+        Some(path) => read_config_file(alloc, folder, path)?,
+        None => ConfigFile::none(alloc),
+    };
     let kconfig = Kconfig {
         folder,
+        variables: arguments.variables.as_slice(),
         vars: &vars,
         top: arguments.kconfig,
         prefix: &arguments.prefix,
+        config: &config,
     };
     open_kconfig(alloc, &kconfig)
+}
+
+/// Writes the output of a target: the text of its query after its edit, or the replies to the commands of the input.
+fn write_target<R: Read, W: Write>(
+    alloc: Global,
+    target: Target,
+    session: &mut Session,
+    input: &mut R,
+    output: &mut W,
+) -> Result<(), Fault> {
+    let Some(query) = target.query() else {
+        return Ok(run(alloc, input, output, session)?);
+    };
+    if let Some(edit) = target.edit() {
+        write_reply(session.apply(edit), output)?;
+    }
+    write_reply(session.apply(query), output)?;
+    flush(output)
+}
+
+/// Writes the text of a reply. Of those commands that targets have, only want of memory refuses one.
+fn write_reply<W: Write>(reply: Reply, output: &mut W) -> Result<(), Fault> {
+    let Reply::Done(text) = reply else {
+        return Err(Fault::NoMemory);
+    };
+    match output.write_all(text.as_str().as_bytes()) {
+        Ok(()) => Ok(()),
+        Err(_) => Err(Fault::Stream(IoFault::Write)),
+    }
+}
+
+fn flush<W: Write>(output: &mut W) -> Result<(), Fault> {
+    match output.flush() {
+        Ok(()) => Ok(()),
+        Err(_) => Err(Fault::Stream(IoFault::Write)),
+    }
 }
 
 /// Shows what a parse of the words gave in place of arguments: help on `output`, and else the mistake on
@@ -79,9 +131,9 @@ fn answer_words<W: Write, E: Write>(error: &Error, output: &mut W, errors: &mut 
     match ending_of(error) {
         Status::Done => match show_help(error, output) {
             Ok(()) => Status::Done,
-            Err(_) => tell(&Fault::Stream(IoFault::Write), errors),
+            Err(_) => report(&Fault::Stream(IoFault::Write), Wording::Number, errors),
         },
-        Status::Fault => tell(&Fault::NoMemory, errors),
+        Status::Fault => report(&Fault::NoMemory, Wording::Number, errors),
         Status::Usage => {
             let _ = write!(errors, "{error}");
             Status::Usage
@@ -105,8 +157,8 @@ fn ending_of(error: &Error) -> Status
     }
 }
 
-/// Tells of a fault.
-fn tell<E: Write>(fault: &Fault, errors: &mut E) -> Status {
-    let _ = write_fault(errors, fault);
+/// Reports a fault.
+fn report<E: Write>(fault: &Fault, wording: Wording, errors: &mut E) -> Status {
+    let _ = write_fault(errors, fault, wording);
     Status::Fault
 }

@@ -1,33 +1,54 @@
 //! The paths that the texts of files name in `source` lines of the plain form, found without reading the lines before.
 //!
-//! A text is looked at by itself: a line in a help text counts too, and one with a reference does not. So the paths
-//! found are a guess at the files that will be wanted, which saves reading all lines again for each file.
+//! A text is looked at by itself: a line in a help text counts too, and references are followed by the texts that
+//! `Known` has. So the paths found are a guess at the files that will be wanted, which saves reading all lines again for
+//! each file.
 
-use memchr::{memchr, memchr3, memmem};
+use crate::known::Known;
+use memchr::{memchr, memchr2, memmem};
 use std::alloc::{AllocError, Global};
 use std::collections::HashSet;
 
 /// The word that a `source` line begins with.
 const SOURCE: &str = "source";
 
+/// Which of the files that a text names are read before they are wanted.
+#[derive(Clone, Copy, Debug, PartialEq, Eq)]
+pub(crate) enum Reach {
+    /// All.
+    Everything,
+    /// Those whose `source` begins its line, so that it stands in no help text.
+    Unindented,
+    /// None.
+    Nothing,
+}
+
 /// The paths that wait to be read, each once.
 #[derive(Drop)]
 pub(crate) struct Waiting {
     alloc: Global,
-    /// The paths that wait.
+    /// The paths that wait, the first to be read behind.
     paths: Vec<String>,
     /// These, and all that were read or passed.
     seen: HashSet<String>,
+    known: Known,
 }
 
 impl Waiting {
-    /// No path waits.
-    pub(crate) fn new(alloc: Global) -> Waiting {
-        Waiting {
+    /// No path waits, of files that see variables, each with its name and its text.
+    pub(crate) fn new(alloc: Global, variables: &[(&str, &str)]) -> Result<Waiting, AllocError> {
+        Ok(Waiting {
             alloc,
             paths: Vec::new(alloc),
             seen: HashSet::new(alloc),
-        }
+            known: Known::new(alloc, variables)?,
+        })
+    }
+
+    /// Forgets all paths.
+    pub(crate) fn start(&mut self) {
+        self.paths = Vec::new(self.alloc);
+        self.seen = HashSet::new(self.alloc);
     }
 
     /// Takes a path that waits.
@@ -44,36 +65,53 @@ impl Waiting {
         Ok(true)
     }
 
-    /// Has the paths wait that a text names, but for those that were seen before.
-    pub(crate) fn add_named(&mut self, text: &str) -> Result<(), AllocError> {
+    /// Has the paths wait that a text names within a reach, but for those that were seen before: in their order, and
+    /// before those that wait already, as they will be wanted.
+    pub(crate) fn add_named(&mut self, text: &str, reach: Reach) -> Result<(), AllocError> {
+        if reach == Reach::Nothing {
+            return Ok(());
+        }
+        self.known.note_definitions(text)?;
+        let first = self.paths.len();
         for place in memmem::find_iter(text.as_bytes(), SOURCE.as_bytes()) {
-            let Some(path) = path_named(text, place) else {
+            let Some(quoted) = quoted_at(text, place, reach) else {
                 continue;
             };
-            if self.pass(path)? {
-                self.paths.push(String::from_str(self.alloc, path)?)?;
-            }
+            self.add_quoted(quoted)?;
+        }
+        if let Some((_, added)) = self.paths.split_at_mut_checked(first) {
+            added.reverse();
+        }
+        Ok(())
+    }
+
+    /// Has the path wait that a text in quotes stands for.
+    fn add_quoted(&mut self, quoted: &str) -> Result<(), AllocError> {
+        let Some(path) = self.known.expand(quoted)? else {
+            return Ok(());
+        };
+        if self.pass(path.as_str())? {
+            self.paths.push(path)?;
         }
         Ok(())
     }
 }
 
-/// The path that the `source` at a place of a text names, where the line has nothing else before its end quote.
-fn path_named(text: &str, place: usize) -> Option<&str> {
-    let before = without_blanks(text.get(..place)?);
+/// What the `source` at a place of a text has in its quotes, where the line has nothing else before its end quote.
+fn quoted_at(text: &str, place: usize, reach: Reach) -> Option<&str> {
+    let before = text.get(..place)?;
+    let before = match reach {
+        Reach::Everything => before.trim_end_matches([' ', '\t']),
+        Reach::Unindented | Reach::Nothing => before,
+    };
     let named = text.get(place..)?.strip_prefix(SOURCE)?;
     let quoted = named.trim_start_matches([' ', '\t']).strip_prefix('"')?;
     let path = quoted.get(..memchr(b'"', quoted.as_bytes())?)?;
     let begins_line = before.is_empty() || before.ends_with('\n');
-    (begins_line && is_plain_path(path)).then_some(path)
+    (begins_line && is_on_one_line(path)).then_some(path)
 }
 
-/// Whether a text in quotes is a path as it stands: on one line, with no backslash and no dollar.
-fn is_plain_path(text: &str) -> bool {
-    memchr3(b'\n', b'\\', b'$', text.as_bytes()).is_none()
-}
-
-/// A text without the spaces and tabs at its end.
-fn without_blanks(text: &str) -> &str {
-    text.trim_end_matches([' ', '\t'])
+/// Whether a text in quotes is on one line and has no backslash, so that it stands for itself but for references.
+fn is_on_one_line(text: &str) -> bool {
+    memchr2(b'\n', b'\\', text.as_bytes()).is_none()
 }

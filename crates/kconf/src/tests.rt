@@ -1,7 +1,11 @@
 //! The program over files and streams in memory.
+mod ahead;
 mod commands;
 mod faults;
 mod files;
+mod flushes;
+mod system_files;
+mod targets;
 mod variables;
 mod words;
 

@@ -214,8 +214,8 @@ fn each_file_is_read_as_it_is_wanted(rt: HostRuntime) -> Result<(), Fail> {
     for (refusal, want) in [
         (None, 4),
         (Some(FolderFault::CannotRead), 3),
-        // All is read again.
-        (Some(FolderFault::NoMemory), 4),
+        // All starts again, with the text of the top file.
+        (Some(FolderFault::NoMemory), 3),
     ] {
         let folder = CountingFolder {
             files: MemoryFolder {

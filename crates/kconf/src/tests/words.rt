@@ -1,6 +1,8 @@
 //! The words of a command line.
+use crate::answer_unread;
 use crate::tests::{Outcome, run_program};
 use std::alloc::{AllocError, Global};
+use std::io::{self, ErrorKind};
 use std::test::Fail;
 
 const FILES: [(&str, &[u8]); 2] = [
@@ -56,8 +58,11 @@ fn other_words_are_a_mistake_of_usage(rt: HostRuntime) -> Result<(), Fail> {
         "frob",
         "session",
         "session Kconfig",
-        "session Kconfig other",
-        "session nowhere other",
+        "olddefconfig Kconfig",
+        "allnoconfig",
+        "allnoconfig Kconfig -",
+        "allyesconfig Kconfig .config",
+        "oldconfig Kconfig -",
         "session Kconfig - -x",
         "session Kconfig - ARCH",
         "session Kconfig - =x",
@@ -74,6 +79,8 @@ fn other_words_are_a_mistake_of_usage(rt: HostRuntime) -> Result<(), Fail> {
         "session Kconfig - --prefix é",
         "session Kconfig - --prefix A123456789B123456789C123456789D123456789E123456789F123456789_abcd",
         "session Kconfig - --prefix A --prefix A",
+        "session Kconfig - --explain --explain",
+        "--explain session Kconfig -",
         "--prefix A session Kconfig -",
     ];
     for line in rows {
@@ -87,11 +94,40 @@ fn other_words_are_a_mistake_of_usage(rt: HostRuntime) -> Result<(), Fail> {
 
 #[test]
 fn help_is_output(rt: HostRuntime) -> Result<(), Fail> {
-    for line in ["--help", "session --help", "session nowhere - --help"] {
+    let rows = [
+        (
+            "--help",
+            "kconf olddefconfig Kconfig .config > new.config\n",
+        ),
+        ("session --help", "kconf session Kconfig .config\n"),
+        (
+            "session nowhere - --help",
+            "kconf session Kconfig .config\n",
+        ),
+        (
+            "genheader --help",
+            "kconf genheader Kconfig .config > autoconf.h\n",
+        ),
+    ];
+    for (line, end) in rows {
         let outcome = run_line(rt.alloc(), line)?;
         assert_eq!(rt; outcome.status, 0, "at {line:?}");
-        assert!(rt; !outcome.output.is_empty(), "at {line:?}");
+        let output = std::str::from_utf8(outcome.output.as_slice())?;
+        assert!(rt; output.ends_with(end), "at {line:?}: {output}");
         assert_eq!(rt; outcome.errors.as_slice(), b"".as_slice(), "at {line:?}");
     }
     Ok(())
+}
+
+#[test]
+fn words_that_are_not_utf_8_are_a_mistake_of_usage(rt: HostRuntime) {
+    // What reading the words gives for one that is not UTF-8.
+    let mut errors = Vec::new(rt.alloc());
+    let status = answer_unread(&io::Error::from(ErrorKind::InvalidData), &mut errors);
+    assert_eq!(rt; status.code(), 2);
+    assert!(rt; !errors.is_empty());
+    let mut errors = Vec::new(rt.alloc());
+    let status = answer_unread(&io::Error::from(ErrorKind::OutOfMemory), &mut errors);
+    assert_eq!(rt; status.code(), 1);
+    assert_eq!(rt; errors.as_slice(), b"kconf: memory\n".as_slice());
 }
