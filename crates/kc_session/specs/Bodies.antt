@@ -1,5 +1,5 @@
 -- This project's own command stream: the body of a load, a `.config`.
-use Rattle.std.specs.Prelude.{◌≡◌, ℕ, ◌&&◌, nat_le, Bool, false, List, [], ◌++◌, length, map, filter_map, codes, decimal}
+use Rattle.std.specs.Prelude.{◌≡◌, ℕ, ◌&&◌, nat_le, Bool, true, false, List, [], ◌++◌, length, filter_map, codes, decimal}
 use Rattle.std.specs.List.{flat_map, list_all}
 use Rattle.kc_outline.specs.TreeValue.{TreeValue}
 use Rattle.kc_files.specs.declared.assign.Assign.{Assign}

@@ -6,6 +6,7 @@ ghost use Rattle.kc_value.specs.UserValues.{UserValues, IsUserFor};
 ghost use Rattle.kc_session.specs.AllValues.{all_given, is_free_tri, is_yes_in_allnoconfig, tri_given, value_given};
 ghost use Rattle.kc_session.specs.AllValueSteps.{with_given};
 
+use crate::show::symbol_count;
 use crate::values::{choice_of, type_of};
 use kc_tree::{SymId, SymbolType, Tree, Tri, UserVal};
 use kc_value::User;
@@ -72,7 +73,7 @@ pub(crate) fn give_all(tree: &Tree, user: &mut User, all: AllValue)
     ensures user { IsUserFor tree.now user.new }
 {
     user.reset();
-    for number in 0..tree.symbols().len() {
-        give(tree, user, all, SymId(number as u32));
+    for number in 0..symbol_count(tree) {
+        give(tree, user, all, SymId(number));
     }
 }

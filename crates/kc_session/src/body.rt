@@ -60,13 +60,14 @@ fn first_line(text: &[u8]) -> (&[u8], &[u8])
 {
     let len = line_len(text);
     if len < text.len() {
-        text.split_at(len + 1)
-    } else {
-        text.split_at(len)
+        return text.split_at(len + 1);
     }
+    let nothing: &[u8] = &[];
+    (text, nothing)
 }
 
 /// Whether no line of a text is too long.
+#[tactic(auto, using(crate::proofs::BodyLines::fit_behind, crate::proofs::BodyLines::first_is_long, crate::proofs::BodyLines::none_is_long))]
 fn fit_lines(text: &[u8]) -> bool
     ensures { result ≡ list_all fits_line (lines_of text.now) }
 {

@@ -116,6 +116,7 @@ fn read_user(
 /// - `OpenFault::Limit` where these have none either, and the `.config` has more than 16,777,216 bytes, or a line of more
 ///   than 65,536.
 /// - `OpenFault::NoMemory` where memory was refused.
+#[tactic(auto, using(crate::proofs::OpenLaws::text_fault, crate::proofs::OpenLaws::tree_fault, crate::proofs::OpenLaws::config_fault))]
 pub fn open(
     alloc: Global,
     sources: &Sources,

@@ -11,8 +11,7 @@ use crate::command::{Command, Refusal, Reply};
 use crate::load::{read_body, warnings_text};
 use crate::show::{list_text, show_line};
 use crate::values::{choice_of, type_of, value_of};
-use kc_files::{Assign, Load, Prefix};
-use kc_files::{apply, config_text, defconfig_text, header_text, new_text};
+use kc_files::{Assign, Load, Prefix, apply, config_text, defconfig_text, header_text, new_text};
 use kc_text::Text;
 use kc_tree::{ChoiceId, Node, SymId, Tree, Tri};
 use kc_value::{Fresh, Resolver, User, Value, solve};
@@ -82,7 +81,7 @@ impl Session {
 
     /// A session of a tree with user values for it.
     pub(crate) fn of(alloc: Global, tree: Tree, user: User, prefix: Prefix) -> Session
-        requires { IsUserFor tree.old user.old }
+        requires { IsUserFor tree user }
         ensures { result ≡ record { tree = tree; user = user; prefix = prefix } }
     {
         Session {
@@ -234,6 +233,7 @@ impl Session {
     }
 
     /// Loads a body: what its lines mean, and the lines about its warnings. Both are there before anything changes.
+    #[tactic(auto, using(crate::proofs::Outcomes::load_refused, crate::proofs::Outcomes::load_done))]
     fn load(&mut self, load: Load, body: &[u8]) -> Reply
         ensures { IsOutcome self.old (load_outcome self.old load body.now) result self.new }
     {
