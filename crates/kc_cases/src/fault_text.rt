@@ -12,6 +12,7 @@ pub(crate) fn fault_text(alloc: Global, fault: &OpenFault) -> Result<String, All
     match fault {
         OpenFault::Text(fault) => text_fault_text(alloc, fault),
         OpenFault::Tree(fault) => tree_fault_text(alloc, fault),
+        OpenFault::Limit => String::from_str(alloc, "limit\n"),
         OpenFault::NoMemory => String::from_str(alloc, "memory\n"),
     }
 }

@@ -70,8 +70,8 @@ fn opened_outcome(
     prefix: &Prefix,
     parts: &[Part<'_>],
 ) -> Result<Option<Difference>, AllocError> {
-    match open(alloc, &texts.sources, &texts.vars, "Kconfig", prefix) {
-        Ok(mut session) => session_outcome(alloc, &mut session, parts),
+    match open(alloc, &texts.sources, &texts.vars, "Kconfig", prefix, b"") {
+        Ok((mut session, _)) => session_outcome(alloc, &mut session, parts),
         Err(fault) => fault_outcome(alloc, &fault, parts),
     }
 }

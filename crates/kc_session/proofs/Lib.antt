@@ -1,10 +1,14 @@
+pub mod AllValueLaws
 pub mod Appending
+pub mod BodyLines
+pub mod BodyMeaning
 pub mod Cutting
 mod Examples
 mod ReplyExamples
 pub mod Holding
 pub mod LineLists
 pub mod Lines
+pub mod OpenLaws
 pub mod Outcomes
 pub mod RunSteps
 pub mod Spelling

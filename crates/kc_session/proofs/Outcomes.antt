@@ -1,99 +1,132 @@
 -- What an edit did, with or without its memory.
-use Rattle.std.proofs.Common.{◌≡◌, ◌≤◌, Bool, true, false, not, ◌&&◌, ℕ, List, [], length, Option, Some, None, is_some, IsTrue, sym, ap, ◌∙◌, subst, arith, replicate}
+use Rattle.std.proofs.Common.{◌≡◌, ◌≤◌, Bool, true, false, not, if◌then◌else◌, ℕ, List, [], length, Option, Some, None, is_some, IsTrue, sym, ap, ◌∙◌, subst, arith, replicate}
 use Rattle.std.proofs.lemmas.Bool.{false≢true}
 use Rattle.std.proofs.lemmas.List.{set_past}
 use Rattle.std.specs.Option.{option_map_or}
 use Rattle.kc_statement.specs.declared.id.SymId.{SymId}
 use Rattle.kc_outline.specs.declared.id.ChoiceId.{ChoiceId}
 use Rattle.kc_tree.specs.declared.user_value.UserVal.{UserVal}
+use Rattle.kc_tree.specs.declared.user_value.UserVal.TheVariants.{Text}
 use Rattle.kc_tree.specs.SymbolFaults.{is_tri_type}
 use Rattle.kc_outline.specs.TreeValue.{TreeValue, symbol_named, choice_of}
 use Rattle.kc_value.specs.UserValues.{UserValues, IsUserFor, with_value, with_chosen, no_values}
 use Rattle.kc_files.specs.ConfigText.{type_of}
 use Rattle.kc_session.specs.declared.command.Command.{Command}
 use Rattle.kc_session.specs.declared.command.Command.TheVariants.{Set}
-use Rattle.kc_session.specs.declared.command.Refusal.TheVariants.{UndefinedSymbol, BadValue, NoMemory}
+use Rattle.kc_session.specs.declared.command.Refusal.{Refusal}
+use Rattle.kc_session.specs.declared.command.Refusal.TheVariants.{UnknownCommand, UndefinedSymbol, BadValue, BadMemberValue, BadLineCount, TooLong, NoMemory}
 use Rattle.kc_session.specs.declared.command.Reply.{Reply}
 use Rattle.kc_session.specs.declared.command.Reply.TheVariants.{Done, Refused}
 use Rattle.kc_session.specs.Session.{SessionValue, with_user}
 use Rattle.kc_session.specs.Values.{value_of}
-use Rattle.kc_session.specs.Effect.{Outcome, IsOutcome, IsApplied, perform, asks_memory, is_done, keeps_text, refuse, edit, set_member, set_value, set_symbol, set_outcome}
+use Rattle.kc_session.specs.Effect.{Outcome, IsOutcome, IsApplied, perform, keeps_text, refuse, give_value, set_member, set_value, set_symbol, set_outcome, loaded, load_outcome}
+use Rattle.kc_session.specs.Bodies.{fits_body, assigns_in, warnings_text_of, IsReadRefusal}
+use Rattle.kc_files.specs.declared.assign.Assign.{Assign}
+use Rattle.kc_files.specs.declared.loading.Load.{Load}
+use Rattle.kc_files.specs.Loading.{user_after}
+use Rattle.kc_statement.specs.Numerals.{numeral_in}
+use Rattle.kc_statement.specs.declared.symbol_type.SymbolType.{SymbolType}
+use Rattle.kc_statement.specs.declared.symbol_type.SymbolType.TheVariants as kind
 
 -- with its memory, an edit did what is due
-done_as_due : (s : SessionValue) (asks : Bool) (due : Outcome) (r : Reply) (n : SessionValue) → r ≡ due.reply → n ≡ with_user s due.user → IsOutcome s asks due r n
-done_as_due s asks due r n replied session = record { starved = false; may = λ h. absurd (false≢true h); replied = replied; session = session }
+done_as_due : (s : SessionValue) (due : Outcome) (r : Reply) (n : SessionValue) → r ≡ due.reply → n ≡ with_user s due.user → IsOutcome s due r n
+done_as_due s due r n replied session = record { starved = false; may = λ h. absurd (false≢true h); replied = replied; session = session }
 
-same_due : (s : SessionValue) (asks more : Bool) (due other : Outcome) (r : Reply) (n : SessionValue) → asks ≡ more → due ≡ other
-    → IsOutcome s asks due r n → IsOutcome s more other r n
-same_due s asks more due other r n a d o = subst (λ x. IsOutcome s more x r n) d (subst (λ x. IsOutcome s x due r n) a o)
+same_due : (s : SessionValue) (due other : Outcome) (r : Reply) (n : SessionValue) → due ≡ other → IsOutcome s due r n → IsOutcome s other r n
+same_due s due other r n d o = subst (λ x. IsOutcome s x r n) d o
 
 -- ---- the value of a symbol
-pub value_refused : (s : SessionValue) (k : SymId) (value : List ℕ) (asks : Bool) (r : Reply) (n : SessionValue) → value_of (type_of s.tree k) value ≡ None
-    → r ≡ Refused BadValue → n ≡ s → IsOutcome s asks (set_value s k value) r n
-value_refused s k value asks r n none replied same =
-    let due : set_value s k value ≡ refuse s BadValue = ap (λ v. option_map_or (λ v. edit (with_value s.user k (Some v))) v (refuse s BadValue)) none in
-    done_as_due s asks (set_value s k value) r n (replied ∙ ap (λ (o : Outcome). o.reply) (sym due)) (same ∙ ap (λ (o : Outcome). with_user s o.user) (sym due))
+pub value_refused : (s : SessionValue) (k : SymId) (value : List ℕ) (r : Reply) (n : SessionValue) → value_of (type_of s.tree k) value ≡ None
+    → r ≡ Refused BadValue → n ≡ s → IsOutcome s (set_value s k value) r n
+value_refused s k value r n none replied same =
+    let due : refuse s BadValue ≡ set_value s k value = ap (λ v. option_map_or (give_value s k) v (refuse s BadValue)) (sym none) in
+    same_due s (refuse s BadValue) (set_value s k value) r n due (done_as_due s (refuse s BadValue) r n replied same)
 
-pub value_kept : (s : SessionValue) (k : SymId) (value : List ℕ) (asks : Bool) (v : UserVal) (r : Reply) (n : SessionValue) → value_of (type_of s.tree k) value ≡ Some v
-    → r ≡ Done [] → n ≡ with_user s (with_value s.user k (Some v)) → IsOutcome s asks (set_value s k value) r n
-value_kept s k value asks v r n some replied kept =
-    let due : set_value s k value ≡ edit (with_value s.user k (Some v)) = ap (λ v. option_map_or (λ v. edit (with_value s.user k (Some v))) v (refuse s BadValue)) some in
-    done_as_due s asks (set_value s k value) r n (replied ∙ ap (λ (o : Outcome). o.reply) (sym due)) (kept ∙ ap (λ (o : Outcome). with_user s o.user) (sym due))
+pub value_kept : (s : SessionValue) (k : SymId) (value : List ℕ) (v : UserVal) (r : Reply) (n : SessionValue) → value_of (type_of s.tree k) value ≡ Some v
+    → r ≡ Done [] → n ≡ with_user s (with_value s.user k (Some v)) → IsOutcome s (set_value s k value) r n
+value_kept s k value v r n some replied session =
+    let due : give_value s k v ≡ set_value s k value = ap (λ v. option_map_or (give_value s k) v (refuse s BadValue)) (sym some) in
+    same_due s (give_value s k v) (set_value s k value) r n due (done_as_due s (give_value s k v) r n replied session)
 
-done_if_some : (s : SessionValue) (k : SymId) (v : Option UserVal) → IsTrue (is_some v)
-    → IsTrue (is_done (option_map_or (λ v. edit (with_value s.user k (Some v))) v (refuse s BadValue)).reply)
-done_if_some s k None h = absurd (false≢true h)
-done_if_some s k (Some v) some = some
+-- what is spelt for a symbol that is no bool and no tristate is a text
+keeps_number : (k : SymbolType) (text : List ℕ) (b : Bool) → IsTrue (is_some (if b then Some (Text text) else None))
+    → IsTrue (option_map_or keeps_text (if b then Some (Text text) else None) false)
+keeps_number k text true h = h
+keeps_number k text false h = h
 
-both : (a b : Bool) → IsTrue a → IsTrue b → IsTrue (a && b)
-both true b h k = k
-both false b h k = absurd (false≢true h)
+keeps_spelled : (k : SymbolType) (text : List ℕ) → IsTrue (not (is_tri_type k)) → IsTrue (is_some (value_of k text))
+    → IsTrue (option_map_or keeps_text (value_of k text) false)
+keeps_spelled kind.Bool text is_text spelled = absurd (false≢true is_text)
+keeps_spelled kind.Tristate text is_text spelled = absurd (false≢true is_text)
+keeps_spelled kind.String text is_text spelled = is_text
+keeps_spelled kind.Int text is_text spelled = keeps_number kind.Int text (is_some (numeral_in kind.Int text)) spelled
+keeps_spelled kind.Hex text is_text spelled = keeps_number kind.Hex text (is_some (numeral_in kind.Hex text)) spelled
+
+takes_if_keeps : (s : SessionValue) (k : SymId) (v : Option UserVal) → IsTrue (option_map_or keeps_text v false)
+    → IsTrue (option_map_or (give_value s k) v (refuse s BadValue)).takes_memory
+takes_if_keeps s k None h = h
+takes_if_keeps s k (Some v) h = h
 
 pub value_starved : (s : SessionValue) (k : SymId) (value : List ℕ) (r : Reply) (n : SessionValue) → IsTrue (not (is_tri_type (type_of s.tree k)))
-    → IsTrue (is_some (value_of (type_of s.tree k) value)) → r ≡ Refused NoMemory → n ≡ s
-    → IsOutcome s (not (is_tri_type (type_of s.tree k))) (set_value s k value) r n
+    → IsTrue (is_some (value_of (type_of s.tree k) value)) → r ≡ Refused NoMemory → n ≡ s → IsOutcome s (set_value s k value) r n
 value_starved s k value r n is_text spelled replied same = record {
   starved = true;
-  may = λ yes. both (not (is_tri_type (type_of s.tree k))) (is_done (set_value s k value).reply) is_text (done_if_some s k (value_of (type_of s.tree k) value) spelled);
+  may = λ yes. takes_if_keeps s k (value_of (type_of s.tree k) value) (keeps_spelled (type_of s.tree k) value is_text spelled);
   replied = replied;
   session = same;
 }
 
 -- ---- a symbol, a member of a choice or not
 pub member_outcome : (s : SessionValue) (k : SymId) (c : ChoiceId) (value : List ℕ) (r : Reply) (n : SessionValue) → choice_of s.tree k ≡ Some c
-    → r ≡ (set_member s k c value).reply → n ≡ with_user s (set_member s k c value).user
-    → IsOutcome s (keeps_text s.tree k) (set_symbol s value k) r n
+    → r ≡ (set_member s k c value).reply → n ≡ with_user s (set_member s k c value).user → IsOutcome s (set_symbol s value k) r n
 member_outcome s k c value r n is_member replied session =
     let due : set_member s k c value ≡ set_symbol s value k = ap (λ x. option_map_or (λ c. set_member s k c value) x (set_value s k value)) (sym is_member) in
-    done_as_due s (keeps_text s.tree k) (set_symbol s value k) r n (replied ∙ ap (λ (o : Outcome). o.reply) due) (session ∙ ap (λ (o : Outcome). with_user s o.user) due)
+    same_due s (set_member s k c value) (set_symbol s value k) r n due (done_as_due s (set_member s k c value) r n replied session)
 
 pub free_outcome : (s : SessionValue) (k : SymId) (value : List ℕ) (r : Reply) (n : SessionValue) → choice_of s.tree k ≡ None
-    → IsOutcome s (not (is_tri_type (type_of s.tree k))) (set_value s k value) r n → IsOutcome s (keeps_text s.tree k) (set_symbol s value k) r n
+    → IsOutcome s (set_value s k value) r n → IsOutcome s (set_symbol s value k) r n
 free_outcome s k value r n is_free o =
-    same_due s (not (is_tri_type (type_of s.tree k))) (keeps_text s.tree k) (set_value s k value) (set_symbol s value k) r n
-    (ap (λ x. not (is_some x) && not (is_tri_type (type_of s.tree k))) (sym is_free))
+    same_due s (set_value s k value) (set_symbol s value k) r n
     (ap (λ x. option_map_or (λ c. set_member s k c value) x (set_value s k value)) (sym is_free)) o
 
 -- ---- the command
-applied : (s : SessionValue) (c : Command) (r : Reply) (n : SessionValue) → IsOutcome s (asks_memory s c) (perform s c) r n → IsApplied s c r n
-applied s c r n o = record { starved = o.starved; may = o.may; replied = o.replied; session = o.session }
-
 pub unknown_applied : (s : SessionValue) (name value : List ℕ) (r : Reply) (n : SessionValue) → symbol_named s.tree name ≡ None
     → r ≡ Refused UndefinedSymbol → n ≡ s → IsApplied s (Set name value) r n
 unfolding perform
 unknown_applied s name value r n none replied same =
     let due : refuse s UndefinedSymbol ≡ set_outcome s name value = ap (λ x. option_map_or (set_symbol s value) x (refuse s UndefinedSymbol)) (sym none) in
-    applied s (Set name value) r n
-    (done_as_due s (asks_memory s (Set name value)) (set_outcome s name value) r n (replied ∙ ap (λ (o : Outcome). o.reply) due) (same ∙ ap (λ (o : Outcome). with_user s o.user) due))
+    same_due s (refuse s UndefinedSymbol) (set_outcome s name value) r n due (done_as_due s (refuse s UndefinedSymbol) r n replied same)
 
 pub symbol_applied : (s : SessionValue) (name value : List ℕ) (k : SymId) (r : Reply) (n : SessionValue) → symbol_named s.tree name ≡ Some k
-    → IsOutcome s (keeps_text s.tree k) (set_symbol s value k) r n → IsApplied s (Set name value) r n
+    → IsOutcome s (set_symbol s value k) r n → IsApplied s (Set name value) r n
 unfolding perform
 symbol_applied s name value k r n some o =
-    applied s (Set name value) r n
-    (same_due s (keeps_text s.tree k) (asks_memory s (Set name value)) (set_symbol s value k) (set_outcome s name value) r n
-    (ap (λ x. option_map_or (keeps_text s.tree) x false) (sym some))
-    (ap (λ x. option_map_or (set_symbol s value) x (refuse s UndefinedSymbol)) (sym some)) o)
+    same_due s (set_symbol s value k) (set_outcome s name value) r n
+    (ap (λ x. option_map_or (set_symbol s value) x (refuse s UndefinedSymbol)) (sym some)) o
+
+-- ---- a load
+pub load_refused : (s : SessionValue) (load : Load) (body : List ℕ) (f : Refusal) (r : Reply) (n : SessionValue) → IsReadRefusal body f
+    → r ≡ Refused f → n ≡ s → IsOutcome s (load_outcome s load body) r n
+load_refused s load body TooLong r n why replied same =
+    let due : refuse s TooLong ≡ load_outcome s load body = ap (λ b. if b then loaded s load body else refuse s TooLong) (sym why) in
+    same_due s (refuse s TooLong) (load_outcome s load body) r n due (done_as_due s (refuse s TooLong) r n replied same)
+load_refused s load body NoMemory r n why replied same =
+    let due : loaded s load body ≡ load_outcome s load body = ap (λ b. if b then loaded s load body else refuse s TooLong) (sym why) in
+    same_due s (loaded s load body) (load_outcome s load body) r n due
+    (record { starved = true; may = λ h. h; replied = replied; session = same })
+load_refused s load body UnknownCommand r n why replied same = absurd why
+load_refused s load body UndefinedSymbol r n why replied same = absurd why
+load_refused s load body BadValue r n why replied same = absurd why
+load_refused s load body BadMemberValue r n why replied same = absurd why
+load_refused s load body BadLineCount r n why replied same = absurd why
+
+pub load_done : (s : SessionValue) (load : Load) (body text : List ℕ) (assigns : List Assign) (u : UserValues) (r : Reply) (n : SessionValue)
+    → fits_body body ≡ true → text ≡ warnings_text_of s.tree s.prefix body → assigns ≡ assigns_in s.tree s.prefix body
+    → u ≡ user_after s.tree s.user load assigns → r ≡ Done text → n ≡ with_user s u → IsOutcome s (load_outcome s load body) r n
+load_done s load body text assigns u r n fits warnings counted user replied session =
+    let due : loaded s load body ≡ load_outcome s load body = ap (λ b. if b then loaded s load body else refuse s TooLong) (sym fits) in
+    same_due s (loaded s load body) (load_outcome s load body) r n due
+    (done_as_due s (loaded s load body) r n (replied ∙ ap Done warnings) (session ∙ ap (with_user s) (user ∙ ap (user_after s.tree s.user load) counted)))
 
 -- ---- values and chosen members
 -- a choice that is not there is not changed

@@ -1,5 +1,5 @@
 -- Commands with their replies, computed from the definitions. What each reply is was worked out by hand.
-use Rattle.std.proofs.Common.{◌≡◌, ℕ, false, [], ◌∷◌, Option, Some, None, refl}
+use Rattle.std.proofs.Common.{◌≡◌, ℕ, true, false, [], ◌∷◌, Option, Some, None, refl}
 use Rattle.std.specs.Prelude.{codes}
 use Rattle.kc_statement.specs.declared.attribute.Prompt.{Prompt}
 use Rattle.kc_statement.specs.declared.id.SymId.{SymId}
@@ -109,16 +109,16 @@ config_takes_nothing : command_in (codes "config ") ≡ None
 config_takes_nothing = refl
 
 -- an edit changes the user value of its symbol alone
-set_b : perform (session None None None) (Set (codes "B") (codes "y")) ≡ record { reply = Done []; user = (session None yes None).user }
+set_b : perform (session None None None) (Set (codes "B") (codes "y")) ≡ record { reply = Done []; user = (session None yes None).user; takes_memory = false }
 unfolding perform
 set_b = refl
 
-set_m : perform (session None yes None) (Set (codes "A") (codes "m")) ≡ record { reply = Refused BadValue; user = (session None yes None).user }
+set_m : perform (session None yes None) (Set (codes "A") (codes "m")) ≡ record { reply = Refused BadValue; user = (session None yes None).user; takes_memory = false }
 unfolding perform
 set_m = refl
 
 -- m is a value of a tristate alone
-set_tristate : perform (session None None None) (Set (codes "T") (codes "m")) ≡ record { reply = Done []; user = (session None None m_value).user }
+set_tristate : perform (session None None None) (Set (codes "T") (codes "m")) ≡ record { reply = Done []; user = (session None None m_value).user; takes_memory = false }
 unfolding perform
 set_tristate = refl
 
@@ -205,29 +205,29 @@ m_member = Some (record { 0 = 1 })
 abbrev n_member : Option SymId
 n_member = Some (record { 0 = 2 })
 
-set_string : perform (other_session None None) (Set (codes "S") (codes "a b")) ≡ record { reply = Done []; user = (other_session (Some (Text (codes "a b"))) None).user }
+set_string : perform (other_session None None) (Set (codes "S") (codes "a b")) ≡ record { reply = Done []; user = (other_session (Some (Text (codes "a b"))) None).user; takes_memory = true }
 unfolding perform
 set_string = refl
 
 -- y makes a member the chosen one
-set_member_y : perform (other_session None m_member) (Set (codes "N") (codes "y")) ≡ record { reply = Done []; user = (other_session None n_member).user }
+set_member_y : perform (other_session None m_member) (Set (codes "N") (codes "y")) ≡ record { reply = Done []; user = (other_session None n_member).user; takes_memory = false }
 unfolding perform
 set_member_y = refl
 
-set_member_n : perform (other_session None m_member) (Set (codes "M") (codes "n")) ≡ record { reply = Refused BadMemberValue; user = (other_session None m_member).user }
+set_member_n : perform (other_session None m_member) (Set (codes "M") (codes "n")) ≡ record { reply = Refused BadMemberValue; user = (other_session None m_member).user; takes_memory = false }
 unfolding perform
 set_member_n = refl
 
-unset_chosen : perform (other_session None m_member) (Unset (codes "M")) ≡ record { reply = Done []; user = (other_session None None).user }
+unset_chosen : perform (other_session None m_member) (Unset (codes "M")) ≡ record { reply = Done []; user = (other_session None None).user; takes_memory = false }
 unfolding perform
 unset_chosen = refl
 
 -- another member stays the chosen one
-unset_other : perform (other_session None m_member) (Unset (codes "N")) ≡ record { reply = Done []; user = (other_session None m_member).user }
+unset_other : perform (other_session None m_member) (Unset (codes "N")) ≡ record { reply = Done []; user = (other_session None m_member).user; takes_memory = false }
 unfolding perform
 unset_other = refl
 
-reset_takes_all : perform (other_session (Some (Text (codes "a"))) m_member) Reset ≡ record { reply = Done []; user = (other_session None None).user }
+reset_takes_all : perform (other_session (Some (Text (codes "a"))) m_member) Reset ≡ record { reply = Done []; user = (other_session None None).user; takes_memory = false }
 unfolding perform
 reset_takes_all = refl
 

@@ -3,7 +3,7 @@ use Rattle.std.specs.Prelude.{ℕ, Bool, ◌==◌, List, length, Option, Some, N
 use Rattle.std.specs.List.{before_first, after_first, position_or_len}
 use Rattle.std.specs.Str.{bytes_eq, is_utf8}
 use Rattle.kc_session.specs.declared.command.Command.{Command}
-use Rattle.kc_session.specs.declared.command.Command.TheVariants.{Set, Unset, Reset, Show, List as ListAll, Choices, Config}
+use Rattle.kc_session.specs.declared.command.Command.TheVariants.{Set, Unset, Reset, AllNo, AllYes, Show, List as ListAll, Choices, Config, Header, Defconfig, New}
 
 abbrev pub is_space : ℕ → Bool
 is_space b = b == 32
@@ -33,7 +33,12 @@ command_word text =
     if bytes_eq text (codes "config") then Some Config
     else (if bytes_eq text (codes "list") then Some ListAll
     else (if bytes_eq text (codes "choices") then Some Choices
-    else (if bytes_eq text (codes "reset") then Some Reset else None)))
+    else (if bytes_eq text (codes "reset") then Some Reset
+    else (if bytes_eq text (codes "allno") then Some AllNo
+    else (if bytes_eq text (codes "allyes") then Some AllYes
+    else (if bytes_eq text (codes "header") then Some Header
+    else (if bytes_eq text (codes "defconfig") then Some Defconfig
+    else (if bytes_eq text (codes "new") then Some New else None))))))))
 
 -- the command that a text spells, in words parted by one space each
 abbrev pub command_in : List ℕ → Option Command

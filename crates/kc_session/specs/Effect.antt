@@ -1,21 +1,31 @@
 -- This project's own command stream: what a command changes and what is replied.
-use Rattle.std.specs.Prelude.{◌≡◌, ℕ, Bool, true, false, not, ◌&&◌, List, [], Some, None, is_some, codes, IsTrue, if◌then◌else◌}
+use Rattle.std.specs.Prelude.{◌≡◌, ℕ, Bool, true, false, List, [], Some, None, codes, IsTrue, if◌then◌else◌}
 use Rattle.std.specs.Option.{option_map_or}
 use Rattle.kc_statement.specs.declared.id.SymId.{SymId}
 use Rattle.std.specs.Str.{bytes_eq}
 use Rattle.kc_outline.specs.declared.id.ChoiceId.{ChoiceId}
-use Rattle.kc_tree.specs.SymbolFaults.{is_tri_type}
-use Rattle.kc_outline.specs.TreeValue.{TreeValue, symbol_named, choice_of}
+use Rattle.kc_tree.specs.declared.user_value.UserVal.{UserVal}
+use Rattle.kc_tree.specs.declared.user_value.UserVal.TheVariants.{Tri as TriVal, Text}
+use Rattle.kc_outline.specs.TreeValue.{symbol_named, choice_of}
 use Rattle.kc_value.specs.UserValues.{UserValues, with_value, with_chosen, chosen_in, no_values}
 use Rattle.kc_value.specs.ChoiceRule.{is_symbol}
 use Rattle.kc_value.specs.Solution.{solution}
 use Rattle.kc_files.specs.ConfigText.{config_text_of, type_of}
+use Rattle.kc_files.specs.DefaultText.{default_text_of}
+use Rattle.kc_files.specs.HeaderText.{header_text_of}
+use Rattle.kc_files.specs.NewText.{new_text_of}
+use Rattle.kc_files.specs.Loading.{user_after}
+use Rattle.kc_files.specs.declared.loading.Load.{Load}
+use Rattle.kc_files.specs.declared.loading.Load.TheVariants.{Replace, Merge as MergeLoad}
+use Rattle.kc_session.specs.declared.all_values.AllValue.TheVariants as all
 use Rattle.kc_session.specs.declared.command.Command.{Command}
-use Rattle.kc_session.specs.declared.command.Command.TheVariants.{Set, Unset, Reset, Show, List as ListAll, Choices, Config}
+use Rattle.kc_session.specs.declared.command.Command.TheVariants.{Set, Unset, Reset, Load as LoadBody, Merge, AllNo, AllYes, Show, List as ListAll, Choices, Config, Header, Defconfig, New}
 use Rattle.kc_session.specs.declared.command.Refusal.{Refusal}
-use Rattle.kc_session.specs.declared.command.Refusal.TheVariants.{UnknownCommand, UndefinedSymbol, BadValue, BadMemberValue, TooLong, NoMemory}
+use Rattle.kc_session.specs.declared.command.Refusal.TheVariants.{UnknownCommand, UndefinedSymbol, BadValue, BadMemberValue, BadLineCount, TooLong, NoMemory}
 use Rattle.kc_session.specs.declared.command.Reply.{Reply}
 use Rattle.kc_session.specs.declared.command.Reply.TheVariants.{Done, Refused}
+use Rattle.kc_session.specs.AllValues.{all_given}
+use Rattle.kc_session.specs.Bodies.{fits_body, assigns_in, warnings_text_of}
 use Rattle.kc_session.specs.Session.{SessionValue, with_user}
 use Rattle.kc_session.specs.ShowLine.{show_line_of, list_text_of}
 use Rattle.kc_session.specs.ChoiceLine.{choices_text_of}
@@ -26,25 +36,28 @@ refusal_number UnknownCommand = 1
 refusal_number UndefinedSymbol = 2
 refusal_number BadValue = 3
 refusal_number BadMemberValue = 4
+refusal_number BadLineCount = 5
 refusal_number TooLong = 6
 refusal_number NoMemory = 7
 
--- a reply, and the user values after it
+-- A reply, the user values after it, and whether it takes memory, which can be refused then: a query that has a text
+-- takes some, a load that is done, and an edit that keeps a text. Nothing else does.
 pub record Outcome : Type 0 where
   pub reply : Reply
   pub user : UserValues
+  pub takes_memory : Bool
 
 -- a refusal changes nothing
 abbrev pub refuse : SessionValue → Refusal → Outcome
-refuse s r = record { reply = Refused r; user = s.user }
+refuse s r = record { reply = Refused r; user = s.user; takes_memory = false }
 
 -- a text changes nothing either
 abbrev pub answer : SessionValue → List ℕ → Outcome
-answer s text = record { reply = Done text; user = s.user }
+answer s text = record { reply = Done text; user = s.user; takes_memory = true }
 
 -- an edit has no text
 abbrev pub edit : UserValues → Outcome
-edit u = record { reply = Done []; user = u }
+edit u = record { reply = Done []; user = u; takes_memory = false }
 
 -- what is done with the symbol of a name, where there is one
 abbrev pub with_symbol : SessionValue → List ℕ → (SymId → Outcome) → Outcome
@@ -55,10 +68,17 @@ abbrev pub set_member : SessionValue → SymId → ChoiceId → List ℕ → Out
 set_member s k c value =
     if bytes_eq value (codes "y") then edit (with_chosen s.user c (Some k)) else refuse s BadMemberValue
 
+-- a copy is kept of a text
+abbrev pub keeps_text : UserVal → Bool
+keeps_text (TriVal v) = false
+keeps_text (Text w) = true
+
+abbrev pub give_value : SessionValue → SymId → UserVal → Outcome
+give_value s k v = record { reply = Done []; user = with_value s.user k (Some v); takes_memory = keeps_text v }
+
 -- a value that is not one of the symbol's type is refused
 abbrev pub set_value : SessionValue → SymId → List ℕ → Outcome
-set_value s k value =
-    option_map_or (λ v. edit (with_value s.user k (Some v))) (value_of (type_of s.tree k) value) (refuse s BadValue)
+set_value s k value = option_map_or (give_value s k) (value_of (type_of s.tree k) value) (refuse s BadValue)
 
 abbrev pub set_symbol : SessionValue → List ℕ → SymId → Outcome
 set_symbol s value k = option_map_or (λ c. set_member s k c value) (choice_of s.tree k) (set_value s k value)
@@ -79,6 +99,18 @@ unset_outcome s name = with_symbol s name (unset_symbol s)
 abbrev pub reset_outcome : SessionValue → Outcome
 reset_outcome s = edit (no_values s.tree)
 
+-- the assignments of a body are applied, and its warnings are listed
+abbrev pub loaded : SessionValue → Load → List ℕ → Outcome
+loaded s load body = record {
+  reply = Done (warnings_text_of s.tree s.prefix body);
+  user = user_after s.tree s.user load (assigns_in s.tree s.prefix body);
+  takes_memory = true;
+}
+
+-- a body that is too long, or that has a line too long, is refused
+abbrev pub load_outcome : SessionValue → Load → List ℕ → Outcome
+load_outcome s load body = if fits_body body then loaded s load body else refuse s TooLong
+
 abbrev pub show_outcome : SessionValue → List ℕ → Outcome
 show_outcome s name = with_symbol s name (λ k. answer s (show_line_of s.tree s.user k))
 
@@ -92,58 +124,49 @@ choices_outcome s = answer s (choices_text_of s.tree s.user)
 abbrev pub config_outcome : SessionValue → Outcome
 config_outcome s = answer s (config_text_of s.tree s.prefix [] (solution s.tree s.user))
 
+abbrev pub header_outcome : SessionValue → Outcome
+header_outcome s = answer s (header_text_of s.tree s.prefix (solution s.tree s.user))
+
+abbrev pub defconfig_outcome : SessionValue → Outcome
+defconfig_outcome s = answer s (default_text_of s.tree s.user s.prefix)
+
+abbrev pub new_outcome : SessionValue → Outcome
+new_outcome s = answer s (new_text_of s.tree s.user s.prefix)
+
 -- effect and reply of a command with ample memory
 unfoldable pub perform : SessionValue → Command → Outcome
 perform s (Set name value) = set_outcome s name value
 perform s (Unset name) = unset_outcome s name
 perform s Reset = reset_outcome s
+perform s (LoadBody body) = load_outcome s Replace body
+perform s (Merge body) = load_outcome s MergeLoad body
+perform s AllNo = edit (all_given s.tree all.No)
+perform s AllYes = edit (all_given s.tree all.Yes)
 perform s (Show name) = show_outcome s name
 perform s ListAll = list_outcome s
 perform s Choices = choices_outcome s
 perform s Config = config_outcome s
-
-abbrev pub is_done : Reply → Bool
-is_done (Done text) = true
-is_done (Refused r) = false
-
--- a string, an int or a hex that is no member keeps a copy of its value
-abbrev pub keeps_text : TreeValue → SymId → Bool
-keeps_text t k = not (is_some (choice_of t k)) && not (is_tri_type (type_of t k))
-
--- an edit takes no memory, but where it keeps a text
-abbrev pub asks_memory : SessionValue → Command → Bool
-asks_memory s (Set name value) = option_map_or (keeps_text s.tree) (symbol_named s.tree name) false
-asks_memory s (Unset name) = false
-asks_memory s Reset = false
-asks_memory s (Show name) = true
-asks_memory s ListAll = true
-asks_memory s Choices = true
-asks_memory s Config = true
-
--- memory can be refused to a query or an edit that would be done
-abbrev pub may_starve : SessionValue → Command → Bool
-may_starve s c = asks_memory s c && is_done (perform s c).reply
+perform s Header = header_outcome s
+perform s Defconfig = defconfig_outcome s
+perform s New = new_outcome s
 
 -- what a command that is refused its memory does instead
 abbrev pub starved_or : SessionValue → Bool → Outcome → Outcome
 starved_or s starved o = if starved then refuse s NoMemory else o
 
--- the command was done as it is to be, or was refused its memory where it may be
-pub record IsApplied (old : SessionValue) (c : Command) (reply : Reply) (new : SessionValue) : Type 0 where
+-- the outcome that is due, or memory was refused where the outcome takes some
+pub record IsOutcome (old : SessionValue) (due : Outcome) (reply : Reply) (new : SessionValue) : Type 0 where
   pub starved : Bool
-  pub may : IsTrue starved → IsTrue (may_starve old c)
-  pub replied : reply ≡ (starved_or old starved (perform old c)).reply
-  pub session : new ≡ with_user old (starved_or old starved (perform old c)).user
-
--- the reply that is due, or that memory was refused where the one that is due has a text
-pub record IsReplyTo (reply due : Reply) : Type 0 where
-  pub starved : Bool
-  pub may : IsTrue starved → IsTrue (is_done due)
-  pub is : reply ≡ (if starved then Refused NoMemory else due)
-
--- the outcome that is due, or that memory was refused where it may be
-pub record IsOutcome (old : SessionValue) (asks : Bool) (due : Outcome) (reply : Reply) (new : SessionValue) : Type 0 where
-  pub starved : Bool
-  pub may : IsTrue starved → IsTrue (asks && is_done due.reply)
+  pub may : IsTrue starved → IsTrue due.takes_memory
   pub replied : reply ≡ (starved_or old starved due).reply
   pub session : new ≡ with_user old (starved_or old starved due).user
+
+-- the command was done as it is to be, or was refused its memory where it takes some
+abbrev pub IsApplied : SessionValue → Command → Reply → SessionValue → Type 0
+IsApplied old c reply new = IsOutcome old (perform old c) reply new
+
+-- the reply that is due, or that memory was refused where the outcome takes some
+pub record IsReplyTo (reply : Reply) (due : Outcome) : Type 0 where
+  pub starved : Bool
+  pub may : IsTrue starved → IsTrue due.takes_memory
+  pub is : reply ≡ (if starved then Refused NoMemory else due.reply)

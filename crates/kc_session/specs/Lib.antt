@@ -1,3 +1,6 @@
+pub mod AllValues
+pub mod AllValueSteps
+pub mod Bodies
 pub mod Commands
 pub mod Effect
 pub mod Held

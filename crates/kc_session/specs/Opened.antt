@@ -1,5 +1,5 @@
 -- This project's own: the session of the texts of a Kconfig, or why there is none.
-use Rattle.std.specs.Prelude.{◌≡◌, ℕ, List, Ok, Err}
+use Rattle.std.specs.Prelude.{◌≡◌, ℕ, true, false, List, Ok, Err}
 use Rattle.kc_text.specs.LineValue.{LineValue}
 use Rattle.kc_text.specs.FileList.{File}
 use Rattle.kc_text.specs.Expansion.{texts_in}
@@ -8,15 +8,26 @@ use Rattle.kc_tree.specs.declared.fault.TreeFault.{TreeFault}
 use Rattle.kc_tree.specs.declared.fault.TreeFault.TheVariants.{Line, Symbol, Choice, Loop, NoMemory as NoTreeMemory}
 use Rattle.kc_tree.specs.Parsed.{IsTreeOf, IsFaultOf}
 use Rattle.kc_session.specs.declared.opening.OpenFault.{OpenFault}
-use Rattle.kc_session.specs.declared.opening.OpenFault.TheVariants.{Text, Tree, NoMemory}
-use Rattle.kc_session.specs.Session.{SessionValue, new_session}
+use Rattle.kc_session.specs.declared.opening.OpenFault.TheVariants.{Text, Tree, Limit, NoMemory}
+use Rattle.kc_outline.specs.TreeValue.{TreeValue}
+use Rattle.kc_value.specs.UserValues.{UserValues, no_values}
+use Rattle.kc_files.specs.Loading.{user_after}
+use Rattle.kc_files.specs.declared.loading.Load.TheVariants.{Replace}
+use Rattle.kc_session.specs.Bodies.{fits_body, assigns_in}
+use Rattle.kc_session.specs.Session.{SessionValue}
 
--- the texts have logical lines with the variables that are passed in, and these have a tree: that of the session, which has no user values
-pub record IsOpened (files vars : List File) (top prefix : List ℕ) (s : SessionValue) : Type 0 where
+-- the user values that a `.config` gives a tree without any
+abbrev pub user_of_config : TreeValue → List ℕ → List ℕ → UserValues
+user_of_config t prefix config = user_after t (no_values t) Replace (assigns_in t prefix config)
+
+-- The texts have logical lines with the variables that are passed in, and these have a tree: that of the session. Its user
+-- values are those of the `.config`, which is not too long.
+pub record IsOpened (files vars : List File) (top prefix config : List ℕ) (s : SessionValue) : Type 0 where
   pub lines : List LineValue
   pub lines_are : logical_lines_of files (texts_in vars) top ≡ Ok lines
   pub tree : IsTreeOf lines s.tree
-  pub session : s ≡ new_session s.tree prefix
+  pub session : s ≡ record { tree = s.tree; user = user_of_config s.tree prefix config; prefix = prefix }
+  pub fits : fits_body config ≡ true
 
 -- the fault has a number: it is not out of memory
 abbrev pub IsNumbered : TreeFault → Type 0
@@ -33,14 +44,38 @@ pub record HasTreeFault (files vars : List File) (top : List ℕ) (fault : TreeF
   pub fault_is : IsFaultOf lines fault
   pub numbered : IsNumbered fault
 
+-- the first fault of the texts
+abbrev pub IsTextFaultOf : List File → List File → List ℕ → OpenFault → Type 0
+IsTextFaultOf files vars top (Text fault) = logical_lines_of files (texts_in vars) top ≡ Err fault
+IsTextFaultOf files vars top (Tree fault) = ⊥
+IsTextFaultOf files vars top Limit = ⊥
+IsTextFaultOf files vars top NoMemory = Unit {0}
+
 -- what stops the lines from having a tree
 abbrev pub IsTreeFaultOf : List LineValue → OpenFault → Type 0
 IsTreeFaultOf lines (Text fault) = ⊥
 IsTreeFaultOf lines (Tree fault) = IsFaultOf lines fault × IsNumbered fault
+IsTreeFaultOf lines Limit = ⊥
 IsTreeFaultOf lines NoMemory = Unit {0}
 
--- the first fault of the texts, or else of their lines; out of memory says nothing of them
-abbrev pub IsOpenFault : List File → List File → List ℕ → OpenFault → Type 0
-IsOpenFault files vars top (Text fault) = logical_lines_of files (texts_in vars) top ≡ Err fault
-IsOpenFault files vars top (Tree fault) = HasTreeFault files vars top fault
-IsOpenFault files vars top NoMemory = Unit {0}
+-- what stops a `.config` from being loaded
+abbrev pub IsConfigFault : List ℕ → OpenFault → Type 0
+IsConfigFault config (Text fault) = ⊥
+IsConfigFault config (Tree fault) = ⊥
+IsConfigFault config Limit = fits_body config ≡ false
+IsConfigFault config NoMemory = Unit {0}
+
+-- the texts have a tree, and the `.config` is too long
+pub record HasLongConfig (files vars : List File) (top config : List ℕ) : Type 0 where
+  pub lines : List LineValue
+  pub lines_are : logical_lines_of files (texts_in vars) top ≡ Ok lines
+  pub tree : TreeValue
+  pub tree_is : IsTreeOf lines tree
+  pub is_long : fits_body config ≡ false
+
+-- the first fault of the texts, or else of their lines, or else that the `.config` is too long; out of memory says nothing
+abbrev pub IsOpenFault : List File → List File → List ℕ → List ℕ → OpenFault → Type 0
+IsOpenFault files vars top config (Text fault) = logical_lines_of files (texts_in vars) top ≡ Err fault
+IsOpenFault files vars top config (Tree fault) = HasTreeFault files vars top fault
+IsOpenFault files vars top config Limit = HasLongConfig files vars top config
+IsOpenFault files vars top config NoMemory = Unit {0}

@@ -1,11 +1,11 @@
 -- This project's own command stream: the replies to its commands.
-use Rattle.std.specs.Prelude.{ℕ, ◌+◌, Bool, false, List, [], ◌∷◌, ◌++◌, Option, Some, None, codes, IsTrue}
+use Rattle.std.specs.Prelude.{ℕ, ◌+◌, Bool, List, [], ◌∷◌, ◌++◌, Option, Some, None, codes, IsTrue}
 use Rattle.kc_session.specs.declared.command.Command.{Command}
 use Rattle.kc_session.specs.declared.command.Refusal.TheVariants.{UnknownCommand, TooLong}
 use Rattle.kc_session.specs.declared.command.Reply.{Reply}
 use Rattle.kc_session.specs.declared.command.Reply.TheVariants.{Done, Refused}
 use Rattle.kc_session.specs.Commands.{command_of}
-use Rattle.kc_session.specs.Effect.{Outcome, refusal_number, refuse, perform, may_starve, starved_or}
+use Rattle.kc_session.specs.Effect.{Outcome, refusal_number, refuse, perform, starved_or}
 use Rattle.kc_session.specs.Session.{SessionValue, with_user}
 use Rattle.kc_session.specs.Stream.{StreamCommand, text_if_fits}
 
@@ -23,21 +23,13 @@ abbrev pub text_outcome : SessionValue → Option (List ℕ) → Outcome
 text_outcome s None = refuse s TooLong
 text_outcome s (Some text) = spelled_outcome s (command_of text)
 
-abbrev pub spelled_may_starve : SessionValue → Option Command → Bool
-spelled_may_starve s None = false
-spelled_may_starve s (Some c) = may_starve s c
-
--- whether memory can be refused to a line
-abbrev pub text_may_starve : SessionValue → Option (List ℕ) → Bool
-text_may_starve s None = false
-text_may_starve s (Some text) = spelled_may_starve s (command_of text)
-
 -- effect and reply of a line of which it is said whether it was refused its memory
 unfoldable pub outcome : SessionValue → Option (List ℕ) → Bool → Outcome
 outcome s text starved = starved_or s starved (text_outcome s text)
 
+-- whether memory can be refused to a line
 unfoldable pub may_be_refused : SessionValue → Option (List ℕ) → Bool
-may_be_refused s text = text_may_starve s text
+may_be_refused s text = (text_outcome s text).takes_memory
 
 -- the session after a line
 abbrev pub session_after : SessionValue → Option (List ℕ) → Bool → SessionValue

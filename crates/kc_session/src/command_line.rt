@@ -45,6 +45,11 @@ fn read_word(text: &str) -> Option<Command<'_>>
         "list" => Some(Command::List),
         "choices" => Some(Command::Choices),
         "reset" => Some(Command::Reset),
+        "allno" => Some(Command::AllNo),
+        "allyes" => Some(Command::AllYes),
+        "header" => Some(Command::Header),
+        "defconfig" => Some(Command::Defconfig),
+        "new" => Some(Command::New),
         _ => None,
     }
 }

@@ -4,12 +4,15 @@
 //! line is read, or refused as too long, with the memory that was reserved at the start.
 #![tactic(auto)]
 
+mod all_values;
+mod body;
 mod choices;
 mod command;
 mod command_line;
 mod fault;
 mod input;
 mod line;
+mod load;
 mod next_line;
 mod opening;
 mod replies;
@@ -19,6 +22,7 @@ mod show;
 mod values;
 mod writing;
 
+pub use body::Body;
 pub use command::{Command, Refusal, Reply};
 pub use fault::IoFault;
 pub use opening::{OpenFault, open};

@@ -1,7 +1,7 @@
 //! The one buffer that holds a line.
 ghost use Rattle.std.specs.Prelude.{◌≡◌, ℕ, List, [], ◌∷◌, ◌++◌, IfOk, IfErr, option_copied, length, ◌==◌};
 ghost use Rattle.kc_session.specs.Held.{held_of, text_held};
-ghost use Rattle.kc_session.specs.Stream.{text_of_line, without_return};
+ghost use Rattle.kc_session.specs.Stream.{fits_line, text_of_line, without_return};
 
 use crate::fault::IoFault;
 use std::alloc::Global;
@@ -87,6 +87,13 @@ impl LineBuffer {
         let text = without_line_end(self.bytes.as_slice());
         (text.len() <= LINE_LIMIT).then_some(text)
     }
+}
+
+/// Whether a line with its line end is not too long.
+pub(crate) fn fits_line(line: &[u8]) -> bool
+    ensures { result ≡ fits_line line.now }
+{
+    without_line_end(line).len() <= LINE_LIMIT
 }
 
 // The line without its line feed and the one carriage return before it.

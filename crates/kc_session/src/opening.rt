@@ -1,16 +1,22 @@
 //! From the texts of a Kconfig to a session.
-ghost use Rattle.std.specs.Prelude.{◌≡◌, IfOk, IfErr, Ok, Err};
+ghost use Rattle.std.specs.Prelude.{◌≡◌, All, IfOk, IfErr, OnOk, Ok, Err, true};
 ghost use Rattle.kc_text.specs.Expansion.{texts_in};
 ghost use Rattle.kc_text.specs.Reading.{logical_lines_of};
 ghost use Rattle.kc_tree.specs.Parsed.{IsTreeOf, IsFaultOf};
 ghost use Rattle.kc_value.specs.Solution.{solution, IsOnlySolution};
-ghost use Rattle.kc_session.specs.Opened.{IsOpened, IsOpenFault, IsTreeFaultOf};
+ghost use Rattle.kc_value.specs.UserValues.{UserValues, IsUserFor};
+ghost use Rattle.kc_files.specs.LineReading.{IsAssignFor};
+ghost use Rattle.kc_session.specs.Bodies.{fits_body, assigns_in, warnings_in};
+ghost use Rattle.kc_session.specs.Opened.{IsOpened, IsOpenFault, IsTextFaultOf, IsTreeFaultOf, IsConfigFault, user_of_config};
 
+use crate::command::Refusal;
+use crate::load::read_body;
 use crate::session::Session;
 use bumpalo::Bump;
-use kc_files::Prefix;
+use kc_files::{Assign, Load, Prefix, Warning, apply};
 use kc_text::{Line, Sources, TextFault, Vars, logical_lines};
 use kc_tree::{Tree, TreeFault};
+use kc_value::User;
 use std::alloc::Global;
 
 /// Why texts give no session.
@@ -20,6 +26,8 @@ pub enum OpenFault {
     Text(TextFault),
     /// A fault of the lines or of the tree, with its number.
     Tree(TreeFault),
+    /// The `.config` is too long, or one of its lines.
+    Limit,
     /// Memory was refused.
     NoMemory,
 }
@@ -33,7 +41,7 @@ fn read_lines<'a>(
     top: &str,
 ) -> Result<Vec<Line<'a>>, OpenFault>
     ensures lines { IfOk result (λ lines. logical_lines_of sources.now (texts_in vars.now) top.now ≡ Ok lines.items) }
-    ensures fault { IfErr result (IsOpenFault sources.now vars.now top.now) }
+    ensures fault { IfErr result (IsTextFaultOf sources.now vars.now top.now) }
 {
     match logical_lines(alloc, arena, sources, vars, top) {
         Ok(lines) => Ok(lines),
@@ -54,33 +62,80 @@ fn read_tree(alloc: Global, lines: &[Line<'_>]) -> Result<Tree, OpenFault>
     }
 }
 
-/// The session of the Kconfig that begins with the top file, without user values. Its values are those of the only
-/// solution. It keeps a copy of the prefix.
+/// The assignments of a `.config` that count, and its warnings.
+fn read_assigns(
+    alloc: Global,
+    tree: &Tree,
+    prefix: &Prefix,
+    config: &[u8],
+) -> Result<(Vec<Assign>, Vec<Warning>), OpenFault>
+    ensures fits { OnOk result (fits_body config.now ≡ true) }
+    ensures assigns { IfOk result (λ r. r.0.items ≡ assigns_in tree.now prefix.now config.now) }
+    ensures fitting { IfOk result (λ r. All (IsAssignFor tree.now) r.0.items) }
+    ensures warnings { IfOk result (λ r. r.1.items ≡ warnings_in tree.now prefix.now config.now) }
+    ensures fault { IfErr result (IsConfigFault config.now) }
+{
+    match read_body(alloc, tree, prefix, config) {
+        Ok(reading) => Ok(reading),
+        Err(Refusal::TooLong) => Err(OpenFault::Limit),
+        Err(_) => Err(OpenFault::NoMemory),
+    }
+}
+
+/// The user values that a `.config` gives a tree, and its warnings. Whatever they are later, the tree has one solution,
+/// and no other.
+fn read_user(
+    alloc: Global,
+    tree: &Tree,
+    prefix: &Prefix,
+    config: &[u8],
+) -> Result<(User, Vec<Warning>), OpenFault>
+    ensures fits { OnOk result (fits_body config.now ≡ true) }
+    ensures values { IfOk result (λ r. r.0 ≡ user_of_config tree.now prefix.now config.now) }
+    ensures user { IfOk result (λ r. IsUserFor tree.now r.0) }
+    ensures warnings { IfOk result (λ r. r.1.items ≡ warnings_in tree.now prefix.now config.now) }
+    ensures solved { OnOk result ((u : UserValues) → IsOnlySolution tree.now u (solution tree.now u)) }
+    ensures fault { IfErr result (IsConfigFault config.now) }
+{
+    let (assigns, warnings) = read_assigns(alloc, tree, prefix, config)?;
+    let Ok(mut user) = User::empty(alloc, tree) else {
+        return Err(OpenFault::NoMemory);
+    };
+    apply(tree, &mut user, assigns, Load::Replace);
+    Ok((user, warnings))
+}
+
+/// The session of the Kconfig that begins with the top file, with the user values of a `.config`, and its warnings in
+/// the order of its lines: as after a `load` of it, and without any where it is empty. The session's values are those of
+/// the only solution. It keeps a copy of the prefix.
 ///
 /// # Errors
 ///
 /// - `OpenFault::Text` with the first fault of the texts.
 /// - `OpenFault::Tree` where the texts have none, with the first fault of their lines, symbols and nodes.
+/// - `OpenFault::Limit` where these have none either, and the `.config` has more than 16,777,216 bytes, or a line of more
+///   than 65,536.
 /// - `OpenFault::NoMemory` where memory was refused.
+#[tactic(auto, using(crate::proofs::OpenLaws::text_fault, crate::proofs::OpenLaws::tree_fault, crate::proofs::OpenLaws::config_fault))]
 pub fn open(
     alloc: Global,
     sources: &Sources,
     vars: &Vars,
     top: &str,
     prefix: &Prefix,
-) -> Result<Session, OpenFault>
-    ensures opened { IfOk result (IsOpened sources.now vars.now top.now prefix.now) }
-    ensures solved { IfOk result (λ s. IsOnlySolution s.tree s.user (solution s.tree s.user)) }
-    ensures fault { IfErr result (IsOpenFault sources.now vars.now top.now) }
+    config: &[u8],
+) -> Result<(Session, Vec<Warning>), OpenFault>
+    ensures opened { IfOk result (λ r. IsOpened sources.now vars.now top.now prefix.now config.now r.0) }
+    ensures warnings { IfOk result (λ r. r.1.items ≡ warnings_in r.0.tree prefix.now config.now) }
+    ensures solved { IfOk result (λ r. IsOnlySolution r.0.tree r.0.user (solution r.0.tree r.0.user)) }
+    ensures fault { IfErr result (IsOpenFault sources.now vars.now top.now config.now) }
 {
     let arena = Bump::new(alloc);
     let lines = read_lines(alloc, &arena, sources, vars, top)?;
     let tree = read_tree(alloc, lines.as_slice())?;
+    let (user, warnings) = read_user(alloc, &tree, prefix, config)?;
     let Ok(prefix) = prefix.copy(alloc) else {
         return Err(OpenFault::NoMemory);
     };
-    match Session::new(alloc, tree, prefix) {
-        Ok(session) => Ok(session),
-        Err(_) => Err(OpenFault::NoMemory),
-    }
+    Ok((Session::of(alloc, tree, user, prefix), warnings))
 }

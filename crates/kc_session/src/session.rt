@@ -1,15 +1,17 @@
 //! A session: a tree, user values, and the commands that read and change them.
-ghost use Rattle.std.specs.Prelude.{◌≡◌, [], not, None, IfSome, IfOk, IfErr, OnErr};
+ghost use Rattle.std.specs.Prelude.{◌≡◌, [], true, None, All, IfSome, IfOk, IfErr, OnErr};
 ghost use Rattle.std.specs.String.{string_bytes};
 ghost use Rattle.kc_value.specs.Solution.{solution, IsOnlySolution};
 ghost use Rattle.kc_value.specs.UserValues.{chosen_in};
 ghost use Rattle.kc_value.specs.ChoiceRule.{is_symbol};
 
+use crate::all_values::{AllValue, give_all};
 use crate::choices::choices_text;
 use crate::command::{Command, Refusal, Reply};
+use crate::load::{read_body, warnings_text};
 use crate::show::{list_text, show_line};
 use crate::values::{choice_of, type_of, value_of};
-use kc_files::{Prefix, config_text};
+use kc_files::{Assign, Load, Prefix, apply, config_text, defconfig_text, header_text, new_text};
 use kc_text::Text;
 use kc_tree::{ChoiceId, Node, SymId, Tree, Tri};
 use kc_value::{Fresh, Resolver, User, Value, solve};
@@ -47,11 +49,14 @@ impl Session {
     ghost use Rattle.kc_session.specs.Session.{new_session, with_user};
     ghost use Rattle.kc_tree.specs.declared.node.Node.TheVariants.{Vis};
     ghost use Rattle.kc_tree.specs.Nodes.{IsNodeOf};
-    ghost use Rattle.kc_tree.specs.SymbolFaults.{is_tri_type};
     ghost use Rattle.kc_outline.specs.TreeValue.{symbol_named, choice_of};
-    ghost use Rattle.kc_value.specs.UserValues.{with_chosen};
+    ghost use Rattle.kc_value.specs.UserValues.{IsUserFor, with_chosen};
     ghost use Rattle.kc_files.specs.ConfigText.{type_of};
-    ghost use Rattle.kc_session.specs.Effect.{IsApplied, IsOutcome, IsReplyTo, keeps_text, set_member, set_value, set_symbol, unset_outcome, unset_symbol, unchosen, reset_outcome, show_outcome, list_outcome, choices_outcome, config_outcome};
+    ghost use Rattle.kc_files.specs.LineReading.{IsAssignFor};
+    ghost use Rattle.kc_files.specs.Loading.{user_after};
+    ghost use Rattle.kc_session.specs.AllValues.{all_given};
+    ghost use Rattle.kc_session.specs.Bodies.{fits_body, assigns_in, warnings_text_of, IsReadRefusal};
+    ghost use Rattle.kc_session.specs.Effect.{IsApplied, IsOutcome, IsReplyTo, set_member, set_value, set_symbol, unset_outcome, unset_symbol, unchosen, reset_outcome, load_outcome, show_outcome, list_outcome, choices_outcome, config_outcome, header_outcome, defconfig_outcome, new_outcome};
 
     /// A session of a tree, without user values, with the prefix of the names in files. Its values are those of the only
     /// solution.
@@ -69,19 +74,27 @@ impl Session {
         ensures err { IfErr result (λ e. (e.0 ≡ tree) × (e.1 ≡ prefix)) }
     {
         match User::empty(alloc, &tree) {
-            Ok(user) => Ok(Session {
-                alloc,
-                tree,
-                user,
-                prefix,
-                answer: Value::Tri(Tri::No),
-            }),
+            Ok(user) => Ok(Session::of(alloc, tree, user, prefix)),
             Err(fault) => Err((tree, prefix, fault)),
         }
     }
 
-    /// Does one command. A refusal changes nothing, and only a query and an edit that keeps a text can be refused its
-    /// memory.
+    /// A session of a tree with user values for it.
+    pub(crate) fn of(alloc: Global, tree: Tree, user: User, prefix: Prefix) -> Session
+        requires { IsUserFor tree user }
+        ensures { result ≡ record { tree = tree; user = user; prefix = prefix } }
+    {
+        Session {
+            alloc,
+            tree,
+            user,
+            prefix,
+            answer: Value::Tri(Tri::No),
+        }
+    }
+
+    /// Does one command. A refusal changes nothing, and only a query, a load and an edit that keeps a text can be refused
+    /// their memory.
     #[tactic(auto, unfolding(crate::specs::Effect::perform))]
     pub fn apply(&mut self, command: Command<'_>) -> Reply
         ensures { IsApplied self.old command.entry result self.new }
@@ -90,10 +103,17 @@ impl Session {
             Command::Set(name, value) => self.set(name.as_str(), value.as_str()),
             Command::Unset(name) => self.unset(name.as_str()),
             Command::Reset => self.reset(),
+            Command::Load(body) => self.load(Load::Replace, body.as_bytes()),
+            Command::Merge(body) => self.load(Load::Merge, body.as_bytes()),
+            Command::AllNo => self.give_all(AllValue::No),
+            Command::AllYes => self.give_all(AllValue::Yes),
             Command::Show(name) => self.show(name.as_str()),
             Command::List => self.list(),
             Command::Choices => self.choices(),
             Command::Config => self.config(),
+            Command::Header => self.header(),
+            Command::Defconfig => self.defconfig(),
+            Command::New => self.new_list(),
         }
     }
 
@@ -119,8 +139,7 @@ impl Session {
     #[tactic(auto, using(crate::proofs::Outcomes::member_outcome, crate::proofs::Outcomes::free_outcome))]
     fn set_symbol(&mut self, symbol: SymId, value: &str) -> Reply
         requires { IsNodeOf self.old.tree (Vis symbol) }
-        ensures { IsOutcome self.old (keeps_text self.old.tree symbol)
-            (set_symbol self.old value.now symbol) result self.new }
+        ensures { IsOutcome self.old (set_symbol self.old value.now symbol) result self.new }
     {
         match choice_of(&self.tree, symbol) {
             Some(choice) => self.set_member(symbol, choice, value),
@@ -156,8 +175,7 @@ impl Session {
     fn set_value(&mut self, symbol: SymId, value: &str) -> Reply
         requires inside { IsNodeOf self.old.tree (Vis symbol) }
         requires alone { choice_of self.old.tree symbol ≡ None }
-        ensures { IsOutcome self.old (not (is_tri_type (type_of self.old.tree symbol)))
-            (set_value self.old symbol value.now) result self.new }
+        ensures { IsOutcome self.old (set_value self.old symbol value.now) result self.new }
     {
         match value_of(self.alloc, type_of(&self.tree, symbol), value) {
             Ok(Some(value)) => {
@@ -179,7 +197,7 @@ impl Session {
         }
     }
 
-    /// Takes the value of a symbol away, or leaves its choice without a chosen member where that is this one.
+    /// Removes the value of a symbol, or leaves its choice without a chosen member where that is this one.
     fn unset_symbol(&mut self, symbol: SymId) -> Reply
         requires { IsNodeOf self.old.tree (Vis symbol) }
         ensures reply { result ≡ (unset_symbol self.old symbol).reply }
@@ -214,8 +232,47 @@ impl Session {
         done(self.alloc)
     }
 
+    /// Loads a body: what its lines mean, and the lines about its warnings. Both are there before anything changes.
+    #[tactic(auto, using(crate::proofs::Outcomes::load_refused, crate::proofs::Outcomes::load_done))]
+    fn load(&mut self, load: Load, body: &[u8]) -> Reply
+        ensures { IsOutcome self.old (load_outcome self.old load body.now) result self.new }
+    {
+        match self.read(body) {
+            Ok((assigns, warnings)) => {
+                apply(&self.tree, &mut self.user, assigns, load);
+                Reply::Done(Text::new(warnings))
+            }
+            Err(refusal) => Reply::Refused(refusal),
+        }
+    }
+
+    /// The assignments of a body that count, and the lines about its warnings.
+    ///
+    /// The error comes where the body is too long, or memory was refused.
+    fn read(&self, body: &[u8]) -> Result<(Vec<Assign>, String), Refusal>
+        ensures fits { IfOk result (λ r. fits_body body.now ≡ true) }
+        ensures assigns { IfOk result (λ r. r.0.items ≡ assigns_in self.now.tree self.now.prefix body.now) }
+        ensures fitting { IfOk result (λ r. All (IsAssignFor self.now.tree) r.0.items) }
+        ensures warnings { IfOk result (λ r. string_bytes r.1 ≡ warnings_text_of self.now.tree self.now.prefix body.now) }
+        ensures refusal { IfErr result (IsReadRefusal body.now) }
+    {
+        let (assigns, warnings) = read_body(self.alloc, &self.tree, &self.prefix, body)?;
+        match warnings_text(self.alloc, warnings.as_slice()) {
+            Ok(text) => Ok((assigns, text)),
+            Err(_) => Err(Refusal::NoMemory),
+        }
+    }
+
+    fn give_all(&mut self, all: AllValue) -> Reply
+        ensures reply { result ≡ Reply.Done [] }
+        ensures session { self.new ≡ with_user self.old (all_given self.old.tree all) }
+    {
+        give_all(&self.tree, &mut self.user, all);
+        done(self.alloc)
+    }
+
     fn show(&self, name: &str) -> Reply
-        ensures { IsReplyTo result (show_outcome self.now name.now).reply }
+        ensures { IsReplyTo result (show_outcome self.now name.now) }
     {
         let Some(symbol) = self.find(name) else {
             return Reply::Refused(Refusal::UndefinedSymbol);
@@ -225,24 +282,45 @@ impl Session {
     }
 
     fn list(&self) -> Reply
-        ensures { IsReplyTo result (list_outcome self.now).reply }
+        ensures { IsReplyTo result (list_outcome self.now) }
     {
         let mut resolver = Fresh::new(self.alloc, &self.tree, &self.user);
         text_reply(list_text(self.alloc, &mut resolver))
     }
 
     fn choices(&self) -> Reply
-        ensures { IsReplyTo result (choices_outcome self.now).reply }
+        ensures { IsReplyTo result (choices_outcome self.now) }
     {
         let mut resolver = Fresh::new(self.alloc, &self.tree, &self.user);
         text_reply(choices_text(self.alloc, &mut resolver))
     }
 
     fn config(&self) -> Reply
-        ensures { IsReplyTo result (config_outcome self.now).reply }
+        ensures { IsReplyTo result (config_outcome self.now) }
     {
         let mut resolver = Fresh::new(self.alloc, &self.tree, &self.user);
         text_reply(config_text(self.alloc, &mut resolver, &self.prefix, ""))
+    }
+
+    fn header(&self) -> Reply
+        ensures { IsReplyTo result (header_outcome self.now) }
+    {
+        let mut resolver = Fresh::new(self.alloc, &self.tree, &self.user);
+        text_reply(header_text(self.alloc, &mut resolver, &self.prefix))
+    }
+
+    fn defconfig(&self) -> Reply
+        ensures { IsReplyTo result (defconfig_outcome self.now) }
+    {
+        let mut resolver = Fresh::new(self.alloc, &self.tree, &self.user);
+        text_reply(defconfig_text(self.alloc, &mut resolver, &self.prefix))
+    }
+
+    fn new_list(&self) -> Reply
+        ensures { IsReplyTo result (new_outcome self.now) }
+    {
+        let mut resolver = Fresh::new(self.alloc, &self.tree, &self.user);
+        text_reply(new_text(self.alloc, &mut resolver, &self.prefix))
     }
 }
 

@@ -156,7 +156,7 @@ fn push_rest(
 }
 
 /// How many symbols there are.
-fn symbol_count(tree: &Tree) -> u32
+pub(crate) fn symbol_count(tree: &Tree) -> u32
     ensures { result ≡ length tree.now.symbols }
 {
     tree.symbols().len() as u32

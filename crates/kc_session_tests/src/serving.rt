@@ -24,7 +24,15 @@ fn session_of(alloc: Global, kconfig: &str) -> Result<Session, Fail> {
     let mut sources = Sources::new(alloc);
     sources.add("Kconfig", kconfig)?;
     let prefix = Prefix::new(alloc, "CONFIG_")?;
-    Ok(open(alloc, &sources, &Vars::none(alloc), "Kconfig", &prefix)?)
+    let (session, _) = open(
+        alloc,
+        &sources,
+        &Vars::none(alloc),
+        "Kconfig",
+        &prefix,
+        b"",
+    )?;
+    Ok(session)
 }
 
 /// The replies of a session to a stream that is read and written without a failure.
