@@ -1,7 +1,7 @@
 -- Streams, and the lines and commands that the definitions give for them.
 use Rattle.std.proofs.Common.{◌≡◌, [], ◌∷◌, refl}
 use Rattle.std.specs.Prelude.{codes, map, Some}
-use Rattle.kc_session.specs.Stream.{lines_of, text_of_line, text_if_fits, command_of_line, commands_of, complete_commands_of}
+use Rattle.kc_session.specs.Stream.{lines_of, text_of_line, text_if_fits}
 
 lines_of-mixed : lines_of (codes "set B y\nshow B\r\n\nx") ≡ codes "set B y\n" ∷ codes "show B\r\n" ∷ codes "\n" ∷ codes "x" ∷ []
 unfolding lines_of
@@ -23,11 +23,3 @@ text_of_line-each = refl
 text_if_fits-short : text_if_fits (codes "a\r\n") ≡ Some (codes "a")
 unfolding text_of_line
 text_if_fits-short = refl
-
-commands_of-two : commands_of (codes "a\nb") ≡ command_of_line (codes "a\n") ∷ command_of_line (codes "b") ∷ []
-unfolding commands_of lines_of
-commands_of-two = refl
-
-complete_commands_of-one : complete_commands_of (codes "a\nb") ≡ command_of_line (codes "a\n") ∷ []
-unfolding complete_commands_of commands_of lines_of
-complete_commands_of-one = refl

@@ -1,9 +1,9 @@
 -- What the line buffer keeps of a line, byte by byte, and that it keeps the text of each line that fits.
-use Rattle.std.proofs.Common.{◌≡◌, ℕ, ◌<◌, ◌≤◌, Bool, true, false, List, [], ◌∷◌, ◌++◌, length, take, refl, sym, ap, ◌∙◌, inl, inr, arith, None, Some}
+use Rattle.std.proofs.Common.{◌≡◌, ℕ, ◌<◌, ◌≤◌, Bool, true, false, List, [], ◌∷◌, ◌++◌, length, take, refl, sym, ap, ◌∙◌, inl, inr, arith, None, Some, cond}
 use Rattle.std.proofs.lemmas.Bool.{cases_lt, le-ltb, lt-ltb, lt-leb, cond-false}
 use Rattle.std.proofs.lemmas.List.{length_push, length-take, take_all, take-append-le}
 use Rattle.kc_session.specs.Stream.{line_limit, text_of_line, fits_line, text_if_fits}
-use Rattle.kc_session.specs.Held.{HeldLine, line_room, held_of, text_held}
+use Rattle.kc_session.specs.Held.{HeldLine, line_room, held_of, text_held, line_held}
 use Rattle.kc_session.proofs.Lines.{length-text_of_line}
 
 -- two equal parts make equal values
@@ -63,5 +63,16 @@ text_held-held_of line =
       | inl long ↦
           rw (held_of-long line long)
           (sym (cond-false (fits_line line) (Some (text_of_line line)) None (lt-leb (length (text_of_line line)) line_limit (omega (arith, length-text_of_line line)))))
+      | inr short ↦ rw (held_of-short line short) refl
+    ]
+
+-- so is the line itself
+pub line_held-held_of : (line : List ℕ) → line_held (held_of line) ≡ cond (fits_line line) (Some line) None
+unfolding line_held
+line_held-held_of line =
+    elim (cases_lt line_room (length line)) [
+      | inl long ↦
+          rw (held_of-long line long)
+          (sym (cond-false (fits_line line) (Some line) None (lt-leb (length (text_of_line line)) line_limit (omega (arith, length-text_of_line line)))))
       | inr short ↦ rw (held_of-short line short) refl
     ]

@@ -1,5 +1,6 @@
 pub mod AllValueLaws
 pub mod Appending
+pub mod BodyHolding
 pub mod BodyLines
 pub mod BodyMeaning
 pub mod Cutting
@@ -10,7 +11,9 @@ pub mod LineLists
 pub mod Lines
 pub mod OpenLaws
 pub mod Outcomes
+pub mod Replying
 pub mod RunSteps
+pub mod TakingBody
 pub mod Spelling
 pub mod Answered
 pub mod Taking

@@ -29,10 +29,10 @@ use Rattle.kc_statement.specs.declared.symbol_type.SymbolType.{SymbolType}
 use Rattle.kc_statement.specs.declared.symbol_type.SymbolType.TheVariants as kind
 
 -- with its memory, an edit did what is due
-done_as_due : (s : SessionValue) (due : Outcome) (r : Reply) (n : SessionValue) → r ≡ due.reply → n ≡ with_user s due.user → IsOutcome s due r n
+pub done_as_due : (s : SessionValue) (due : Outcome) (r : Reply) (n : SessionValue) → r ≡ due.reply → n ≡ with_user s due.user → IsOutcome s due r n
 done_as_due s due r n replied session = record { starved = false; may = λ h. absurd (false≢true h); replied = replied; session = session }
 
-same_due : (s : SessionValue) (due other : Outcome) (r : Reply) (n : SessionValue) → due ≡ other → IsOutcome s due r n → IsOutcome s other r n
+pub same_due : (s : SessionValue) (due other : Outcome) (r : Reply) (n : SessionValue) → due ≡ other → IsOutcome s due r n → IsOutcome s other r n
 same_due s due other r n d o = subst (λ x. IsOutcome s x r n) d o
 
 -- ---- the value of a symbol

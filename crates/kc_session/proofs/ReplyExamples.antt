@@ -1,5 +1,5 @@
 -- Commands with their replies, computed from the definitions. What each reply is was worked out by hand.
-use Rattle.std.proofs.Common.{◌≡◌, ℕ, true, false, [], ◌∷◌, Option, Some, None, refl}
+use Rattle.std.proofs.Common.{◌≡◌, ℕ, true, false, [], ◌∷◌, Option, Some, None, Ok, Err, refl}
 use Rattle.std.specs.Prelude.{codes}
 use Rattle.kc_statement.specs.declared.attribute.Prompt.{Prompt}
 use Rattle.kc_statement.specs.declared.id.SymId.{SymId}
@@ -14,9 +14,11 @@ use Rattle.kc_value.specs.Rule.{rule}
 use Rattle.kc_value.specs.Solution.{applied, solution}
 use Rattle.kc_value.specs.Assignable.{assignable_values}
 use Rattle.kc_session.specs.declared.command.Command.TheVariants.{Set, Unset, Reset, Show, List as ListAll, Choices, Config}
-use Rattle.kc_session.specs.declared.command.Refusal.TheVariants.{UndefinedSymbol, BadValue, BadMemberValue}
+use Rattle.kc_session.specs.declared.command.Refusal.TheVariants.{UnknownCommand, BadLineCount, UndefinedSymbol, BadValue, BadMemberValue}
 use Rattle.kc_session.specs.declared.command.Reply.TheVariants.{Done, Refused}
-use Rattle.kc_session.specs.Commands.{command_in}
+use Rattle.kc_session.specs.Commands.{request_in}
+use Rattle.kc_session.specs.declared.command_line.Request.TheVariants.{Whole, WithBody}
+use Rattle.kc_files.specs.declared.loading.Load.TheVariants.{Replace}
 use Rattle.kc_session.specs.Effect.{perform}
 use Rattle.kc_session.specs.Replies.{reply_bytes}
 use Rattle.kc_session.specs.Session.{SessionValue}
@@ -77,36 +79,52 @@ abbrev m_value : Option UserVal
 m_value = Some (TriVal Module)
 
 -- words are parted by one space each, and may be empty
-set_words : command_in (codes "set B y") ≡ Some (Set (codes "B") (codes "y"))
+set_words : request_in (codes "set B y") ≡ Ok (Whole (Set (codes "B") (codes "y")))
 set_words = refl
 
-set_empty : command_in (codes "set A ") ≡ Some (Set (codes "A") [])
+set_empty : request_in (codes "set A ") ≡ Ok (Whole (Set (codes "A") []))
 set_empty = refl
 
-set_lacks_a_value : command_in (codes "set A") ≡ None
+set_lacks_a_value : request_in (codes "set A") ≡ Err UnknownCommand
 set_lacks_a_value = refl
 
 -- the value is the whole rest
-set_spaces : command_in (codes "set S a  b ") ≡ Some (Set (codes "S") (codes "a  b "))
+set_spaces : request_in (codes "set S a  b ") ≡ Ok (Whole (Set (codes "S") (codes "a  b ")))
 set_spaces = refl
 
-list_alone : command_in (codes "list") ≡ Some ListAll
+list_alone : request_in (codes "list") ≡ Ok (Whole ListAll)
 list_alone = refl
 
-choices_alone : command_in (codes "choices") ≡ Some Choices
+choices_alone : request_in (codes "choices") ≡ Ok (Whole Choices)
 choices_alone = refl
 
-reset_alone : command_in (codes "reset") ≡ Some Reset
+reset_alone : request_in (codes "reset") ≡ Ok (Whole Reset)
 reset_alone = refl
 
-reset_takes_nothing : command_in (codes "reset A") ≡ None
+reset_takes_nothing : request_in (codes "reset A") ≡ Err UnknownCommand
 reset_takes_nothing = refl
 
-unset_empty : command_in (codes "unset ") ≡ Some (Unset [])
+unset_empty : request_in (codes "unset ") ≡ Ok (Whole (Unset []))
 unset_empty = refl
 
-config_takes_nothing : command_in (codes "config ") ≡ None
+config_takes_nothing : request_in (codes "config ") ≡ Err UnknownCommand
 config_takes_nothing = refl
+
+load_of_lines : request_in (codes "load 0012") ≡ Ok (WithBody Replace 12)
+load_of_lines = refl
+
+-- a count has seven digits at the most, and no sign
+load_of_eight_digits : request_in (codes "load 00000001") ≡ Err BadLineCount
+load_of_eight_digits = refl
+
+load_of_nothing : request_in (codes "load ") ≡ Err BadLineCount
+load_of_nothing = refl
+
+load_with_sign : request_in (codes "load +1") ≡ Err BadLineCount
+load_with_sign = refl
+
+load_of_two : request_in (codes "load 1 2") ≡ Err UnknownCommand
+load_of_two = refl
 
 -- an edit changes the user value of its symbol alone
 set_b : perform (session None None None) (Set (codes "B") (codes "y")) ≡ record { reply = Done []; user = (session None yes None).user; takes_memory = false }

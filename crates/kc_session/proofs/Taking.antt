@@ -3,10 +3,10 @@ use Rattle.std.proofs.Common.{◌≡◌, ℕ, ◌+◌, ◌<◌, ◌≤◌, false
 use Rattle.std.specs.Io.KnownBytes.{Consumes, IsAtEnd}
 use Rattle.std.proofs.KnownBytes.{Consumes-trans}
 use Rattle.kc_session.specs.Stream.{has_feed}
-use Rattle.kc_session.specs.Held.{HeldLine, held_of, text_held}
+use Rattle.kc_session.specs.Held.{HeldLine, held_of}
 use Rattle.kc_session.specs.NextLine.{IsEndedLine, TakesEndedLine, TakesLastLine, TakesNothing}
 use Rattle.kc_session.proofs.Lines.{IsEndedLine-push, IsLastLine-unended}
-use Rattle.kc_session.proofs.Holding.{held_of-empty, held_of-short, text_held-held_of}
+use Rattle.kc_session.proofs.Holding.{held_of-empty, held_of-short}
 
 -- A beginning of a line was taken and is held. Each byte taken lowered the budget.
 pub record HasTaken (left after : Option (List ℕ)) (held : HeldLine) (from to : ℕ) : Type 0 where
@@ -28,7 +28,7 @@ TakesEndedLine-pushed left mid after held pushed from mid_budget b h more pushes
       line = h.part ++ b ∷ [];
       taken = Consumes-trans left mid after h.part (b ∷ []) h.taken more;
       is_line = subst IsEndedLine (sym same) (IsEndedLine-push h.part h.has_no_feed);
-      text = ap text_held (pushes h.part h.holds) ∙ text_held-held_of (h.part ++ b ∷ []);
+      holds = pushes h.part h.holds;
     }
 
 -- no more bytes came
@@ -48,7 +48,7 @@ TakesLastLine-from_part : (left after : Option (List ℕ)) (held : HeldLine) (pa
     → IsAtEnd after → 0 < length part → TakesLastLine left after held
 TakesLastLine-from_part left after held [] taken h holds end some = absurd (omega arith)
 TakesLastLine-from_part left after held (b ∷ bs) taken h holds end some =
-    record { line = b ∷ bs; taken = taken; is_line = IsLastLine-unended b bs h; text = ap text_held holds ∙ text_held-held_of (b ∷ bs); end = end }
+    record { line = b ∷ bs; taken = taken; is_line = IsLastLine-unended b bs h; holds = holds; end = end }
 
 -- what is held came from the part
 part-some : (held : HeldLine) (part : List ℕ) → held ≡ held_of part → 0 < length held.kept → 0 < length part

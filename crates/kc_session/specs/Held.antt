@@ -1,6 +1,6 @@
 -- This project's own command stream: what the line buffer keeps of a line.
-use Rattle.std.specs.Prelude.{ℕ, ◌+◌, nat_lt, Bool, cond, List, length, take, Option, None}
-use Rattle.kc_session.specs.Stream.{line_limit, text_if_fits}
+use Rattle.std.specs.Prelude.{ℕ, ◌+◌, nat_lt, Bool, cond, List, length, take, Option, Some, None}
+use Rattle.kc_session.specs.Stream.{line_limit, fits_line, text_if_fits}
 
 -- the first bytes of a line with its line end, and whether some had no room
 pub record HeldLine : Type 0 where
@@ -18,3 +18,7 @@ held_of line = record { kept = take line_room line; is_cut = nat_lt line_room (l
 -- the text of the line that is kept, or nothing where the line is too long
 unfoldable pub text_held : HeldLine → Option (List ℕ)
 text_held held = cond held.is_cut None (text_if_fits held.kept)
+
+-- the line that is kept, or nothing where the line is too long
+unfoldable pub line_held : HeldLine → Option (List ℕ)
+line_held held = cond held.is_cut None (cond (fits_line held.kept) (Some held.kept) None)

@@ -3,8 +3,8 @@ use Rattle.std.specs.Prelude.{◌≡◌, ℕ, Bool, true, false, List, [], ◌�
 use Rattle.std.specs.Io.KnownBytes.{Consumes, IsAtEnd}
 use Rattle.kc_session.specs.declared.next_line.LineRead.{LineRead}
 use Rattle.kc_session.specs.declared.next_line.LineRead.TheVariants.{Ended, Unended, Nothing}
-use Rattle.kc_session.specs.Stream.{has_feed, is_ended, lines_of, text_if_fits}
-use Rattle.kc_session.specs.Held.{HeldLine, text_held}
+use Rattle.kc_session.specs.Stream.{has_feed, is_ended, lines_of}
+use Rattle.kc_session.specs.Held.{HeldLine, held_of}
 
 -- a line with its line feed: the first line of each stream that begins with it, whatever follows
 pub record IsEndedLine (line : List ℕ) : Type 0 where
@@ -16,19 +16,19 @@ pub record IsLastLine (line : List ℕ) : Type 0 where
   pub only : lines_of line ≡ line ∷ []
   pub unended : is_ended line ≡ false
 
--- a line with its line feed was taken, and its text is kept
+-- a line with its line feed was taken, and is held as far as there is room for it
 pub record TakesEndedLine (left after : Option (List ℕ)) (held : HeldLine) : Type 0 where
   pub line : List ℕ
   pub taken : Consumes left after line
   pub is_line : IsEndedLine line
-  pub text : text_held held ≡ text_if_fits line
+  pub holds : held ≡ held_of line
 
--- the last line, without a line feed, was taken, and its text is kept; the stream has ended
+-- the last line, without a line feed, was taken, and is held so; the stream has ended
 pub record TakesLastLine (left after : Option (List ℕ)) (held : HeldLine) : Type 0 where
   pub line : List ℕ
   pub taken : Consumes left after line
   pub is_line : IsLastLine line
-  pub text : text_held held ≡ text_if_fits line
+  pub holds : held ≡ held_of line
   pub end : IsAtEnd after
 
 -- no byte was taken: the stream has ended

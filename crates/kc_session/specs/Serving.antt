@@ -4,9 +4,9 @@ use Rattle.kc_session.specs.declared.fault.IoFault.{IoFault}
 use Rattle.kc_session.specs.declared.fault.IoFault.TheVariants.{Read, Write, Memory}
 use Rattle.std.specs.Io.KnownBytes.{Appends, Consumes, IsAtEnd}
 use Rattle.kc_session.specs.Output.{WritesPart}
-use Rattle.kc_session.specs.Replies.{may_be_refused, session_after, reply_to, text_of, output_of, session_after_all, MayStarve}
+use Rattle.kc_session.specs.Replies.{outcome, session_after, reply_to, output_of, session_after_all, MayStarve}
 use Rattle.kc_session.specs.Session.{SessionValue}
-use Rattle.kc_session.specs.Stream.{StreamCommand, commands_of, complete_commands_of}
+use Rattle.kc_session.specs.StreamCommands.{StreamCommand, commands_of, complete_commands_of}
 
 -- The commands were done in turn, and all their replies were written, each that of a resolver that knows
 -- nothing but the tree and the user values left by the commands before.
@@ -17,19 +17,19 @@ pub record Answers (commands : List StreamCommand) (written wrote : Option (List
   pub output : Appends written wrote (output_of session commands starved)
   pub session_is : after ≡ session_after_all session commands starved
 
--- one line was done and its reply written
-pub record AnswersLine (text : Option (List ℕ)) (written wrote : Option (List ℕ)) (session after : SessionValue) : Type 0 where
+-- one command was done and its reply written
+pub record AnswersCommand (command : StreamCommand) (written wrote : Option (List ℕ)) (session after : SessionValue) : Type 0 where
   pub starved : Bool
-  pub may : IsTrue starved → IsTrue (may_be_refused session text)
-  pub output : Appends written wrote (reply_to session text starved)
-  pub session_is : after ≡ session_after session text starved
+  pub may : IsTrue starved → IsTrue (outcome session command).takes_memory
+  pub output : Appends written wrote (reply_to session command starved)
+  pub session_is : after ≡ session_after session command starved
 
--- one line was done, and a beginning of its reply was written
-pub record StopsInReply (text : Option (List ℕ)) (written wrote : Option (List ℕ)) (session after : SessionValue) : Type 0 where
+-- one command was done, and a beginning of its reply was written
+pub record StopsInReply (command : StreamCommand) (written wrote : Option (List ℕ)) (session after : SessionValue) : Type 0 where
   pub starved : Bool
-  pub may : IsTrue starved → IsTrue (may_be_refused session text)
-  pub output : WritesPart written wrote (reply_to session text starved)
-  pub session_is : after ≡ session_after session text starved
+  pub may : IsTrue starved → IsTrue (outcome session command).takes_memory
+  pub output : WritesPart written wrote (reply_to session command starved)
+  pub session_is : after ≡ session_after session command starved
 
 -- the stream was read to its end, and all its commands were answered
 pub record ServesAll (remaining left written wrote : Option (List ℕ)) (session after : SessionValue) : Type 0 where
@@ -54,9 +54,9 @@ pub record StopsWriting (remaining written wrote : Option (List ℕ)) (session a
   pub before : Option (List ℕ)
   pub between : SessionValue
   pub answered : Answers done written before session between
-  pub stopped : StopsInReply (text_of failed) before wrote between after
+  pub stopped : StopsInReply failed before wrote between after
 
--- What serving with a line buffer gives, by its answer; memory is no matter any more.
+-- What serving with buffers gives, by its answer; memory is no matter any more.
 abbrev pub Serves : Result (Unit {0}) IoFault → Option (List ℕ) → Option (List ℕ) → Option (List ℕ) → Option (List ℕ) → SessionValue → SessionValue → Type 0
 Serves (Ok u) remaining left written wrote session after = ServesAll remaining left written wrote session after
 Serves (Err Read) remaining left written wrote session after = StopsReading remaining left written wrote session after

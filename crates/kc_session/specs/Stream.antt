@@ -1,5 +1,5 @@
--- This project's own command stream: how a stream of bytes is cut into lines and commands.
-use Rattle.std.specs.Prelude.{ℕ, ◌-◌, ◌==◌, nat_le, Bool, cond, List, [], ◌∷◌, length, take, map, filter, slice_index, Option, Some, None}
+-- This project's own command stream: how a stream of bytes is cut into lines.
+use Rattle.std.specs.Prelude.{ℕ, ◌-◌, ◌==◌, nat_le, Bool, cond, List, [], ◌∷◌, length, take, slice_index, Option, Some, None}
 use Rattle.std.specs.List.{list_any, onto_first}
 
 -- the byte that ends a line
@@ -52,23 +52,3 @@ fits_line line = nat_le (length (text_of_line line)) line_limit
 -- the text of a line, or nothing where the line is too long
 abbrev pub text_if_fits : List ℕ → Option (List ℕ)
 text_if_fits line = cond (fits_line line) (Some (text_of_line line)) None
-
--- A command as it stands in the stream, with its line end.
-pub record StreamCommand : Type 0 where
-  pub line : List ℕ
-
--- the command that is one line
-abbrev pub command_of_line : List ℕ → StreamCommand
-command_of_line line = record { line = line }
-
--- the commands of a stream, in their order: each line is one
-unfoldable pub commands_of : List ℕ → List StreamCommand
-commands_of stream = map command_of_line (lines_of stream)
-
--- all of the command is there: its line has its line feed
-abbrev pub is_complete : StreamCommand → Bool
-is_complete command = is_ended command.line
-
--- the commands that were read completely when reading failed after these bytes
-unfoldable pub complete_commands_of : List ℕ → List StreamCommand
-complete_commands_of stream = filter is_complete (commands_of stream)

@@ -1,19 +1,64 @@
-//! From the text of a line to its command.
-ghost use Rattle.std.specs.Prelude.{◌≡◌, IfNone, IfSome, false, true};
-ghost use Rattle.kc_session.specs.Commands.{command_of, command_in, command_word, command_with, is_parted, word_before, rest_after};
+//! From the text of a line to what it asks for.
+ghost use Rattle.std.specs.Prelude.{◌≡◌, ◌&&◌, ◌-◌, ◌^◌, IfNone, IfSome, false, true, length, nat_le};
+ghost use Rattle.std.specs.Char.{is_ascii_digit};
+ghost use Rattle.std.specs.List.{list_all};
+ghost use Rattle.std.specs.Option.{option_copied};
+ghost use Rattle.kc_statement.specs.Numerals.{digits_up_to};
+ghost use Rattle.kc_session.specs.Commands.{request_of, request_in, request_word, request_with, request_with_argument, load_request, line_count, lines_asked, load_command, request_of_text, command_word, is_parted, word_before, rest_after};
 
-use crate::command::Command;
+use crate::body::Body;
+use crate::command::{Command, Refusal};
+use kc_files::Load;
 use kc_text::TextRef;
 use std::str;
 
-/// The command that the text of a line spells, `None` where it spells none.
-#[tactic(auto, unfolding(crate::specs::Commands::command_of), using(crate::proofs::Texts::text_facts))]
-pub(crate) fn read_command(text: &[u8]) -> Option<Command<'_>>
-    ensures { result ≡ command_of text.now }
+/// The most lines that a body has.
+const MOST_LINES: u64 = 9_999_999;
+
+/// The most digits of the count of these lines.
+const MOST_DIGITS: usize = 7;
+
+/// What a line asks for.
+#[derive(Debug, Drop)]
+pub(crate) enum Request<'a> {
+    /// A command that is this line.
+    Whole(Command<'a>),
+    /// A load whose body is so many of the next lines.
+    WithBody(Load, u64),
+}
+
+/// The command that loads a body.
+pub(crate) fn load_command(load: Load, body: &[u8]) -> Command<'_>
+    ensures { result ≡ load_command load body.now }
+{
+    match load {
+        Load::Replace => Command::Load(Body::new(body)),
+        Load::Merge => Command::Merge(Body::new(body)),
+    }
+}
+
+/// How many lines behind a line are its body: none where the line is refused, or is no load. A line that is too long has
+/// no text.
+pub(crate) fn lines_asked(text: Option<&[u8]>) -> u64
+    ensures { result ≡ lines_asked (request_of_text (option_copied text.entry)) }
+{
+    let Some(text) = text else {
+        return 0;
+    };
+    match read_request(text) {
+        Ok(Request::WithBody(_, count)) => count,
+        Ok(Request::Whole(_)) | Err(_) => 0,
+    }
+}
+
+/// What the text of a line asks for, or why the line is refused.
+#[tactic(auto, unfolding(crate::specs::Commands::request_of), using(crate::proofs::Texts::text_facts))]
+pub(crate) fn read_request(text: &[u8]) -> Result<Request<'_>, Refusal>
+    ensures { result ≡ request_of text.now }
 {
     match str::from_utf8(text) {
         Ok(text) => read_text(text),
-        Err(_) => None,
+        Err(_) => Err(Refusal::UnknownCommand),
     }
 }
 
@@ -27,12 +72,21 @@ fn split_word(text: &str) -> Option<(&str, &str)>
     text.split_once(' ')
 }
 
-fn read_text(text: &str) -> Option<Command<'_>>
-    ensures { result ≡ command_in text.now }
+fn read_text(text: &str) -> Result<Request<'_>, Refusal>
+    ensures { result ≡ request_in text.now }
 {
     match split_word(text) {
         Some((word, rest)) => read_words(word, rest),
-        None => read_word(text),
+        None => read_one_word(text),
+    }
+}
+
+fn read_one_word(text: &str) -> Result<Request<'_>, Refusal>
+    ensures { result ≡ request_word text.now }
+{
+    match read_word(text) {
+        Some(command) => Ok(Request::Whole(command)),
+        None => Err(Refusal::UnknownCommand),
     }
 }
 
@@ -54,21 +108,83 @@ fn read_word(text: &str) -> Option<Command<'_>>
     }
 }
 
-/// The command of a first word and the rest of its line.
-fn read_words<'a>(word: &str, rest: &'a str) -> Option<Command<'a>>
-    ensures { result ≡ command_with word.now rest.entry.now }
+/// What a first word and the rest of its line ask for.
+fn read_words<'a>(word: &str, rest: &'a str) -> Result<Request<'a>, Refusal>
+    ensures { result ≡ request_with word.now rest.entry.now }
 {
     let parts = split_word(rest);
     if word == "set" {
-        let (name, value) = parts?;
-        return Some(Command::Set(TextRef::new(name), TextRef::new(value)));
+        return match parts {
+            Some((name, value)) => Ok(Request::Whole(Command::Set(
+                TextRef::new(name),
+                TextRef::new(value),
+            ))),
+            None => Err(Refusal::UnknownCommand),
+        };
     }
     if parts.is_some() {
+        return Err(Refusal::UnknownCommand);
+    }
+    read_with_argument(word, rest)
+}
+
+/// What a first word and its only argument ask for.
+fn read_with_argument<'a>(word: &str, argument: &'a str) -> Result<Request<'a>, Refusal>
+    ensures { result ≡ request_with_argument word.now argument.entry.now }
+{
+    match word {
+        "unset" => Ok(Request::Whole(Command::Unset(TextRef::new(argument)))),
+        "show" => Ok(Request::Whole(Command::Show(TextRef::new(argument)))),
+        "load" => read_load(Load::Replace, argument),
+        "merge" => read_load(Load::Merge, argument),
+        _ => Err(Refusal::UnknownCommand),
+    }
+}
+
+/// A load of as many lines as a text says.
+fn read_load<'a>(load: Load, count: &str) -> Result<Request<'a>, Refusal>
+    ensures { result ≡ load_request load count.now }
+{
+    match line_count(count) {
+        Some(count) => Ok(Request::WithBody(load, count)),
+        None => Err(Refusal::BadLineCount),
+    }
+}
+
+/// The number that one to seven decimal digits spell.
+fn line_count(text: &str) -> Option<u64>
+    ensures { result ≡ line_count text.now }
+{
+    if text.len() > MOST_DIGITS {
         return None;
     }
-    match word {
-        "unset" => Some(Command::Unset(TextRef::new(rest))),
-        "show" => Some(Command::Show(TextRef::new(rest))),
-        _ => None,
+    let count = decimal(text)?;
+    if count > MOST_LINES {
+        return None;
     }
+    Some(count)
+}
+
+/// Whether each byte is a decimal digit.
+fn are_digits(bytes: &[u8]) -> bool
+    ensures { result ≡ list_all is_ascii_digit bytes.now }
+{
+    bytes.iter().all(|byte| byte.is_ascii_digit())
+}
+
+/// Whether a text is one or more decimal digits.
+fn is_decimal(text: &str) -> bool
+    ensures { result ≡ (list_all is_ascii_digit text.now && nat_le 1 (length text.now)) }
+{
+    are_digits(text.as_bytes()) && text.len() >= 1
+}
+
+/// The number that one or more decimal digits spell, none past 64 bits.
+fn decimal(text: &str) -> Option<u64>
+    ensures { result ≡ digits_up_to (2 ^ 64 - 1) text.now }
+{
+    if !is_decimal(text) {
+        return None;
+    }
+    u64::from_str_radix(text, 10).ok()
 }

@@ -1,11 +1,12 @@
 //! A session over a Kconfig tree, and the stream of commands that drives it.
 //!
-//! A stream is cut into lines, and each line is a command. Nothing is allocated once the line buffer is there, so a
-//! line is read, or refused as too long, with the memory that was reserved at the start.
+//! A stream is cut into lines. Each line is a command, but for those that a load takes as its body. A line is read, or
+//! refused as too long, with the memory that was reserved at the start; a body takes memory as it is read.
 #![tactic(auto)]
 
 mod all_values;
 mod body;
+mod body_buffer;
 mod choices;
 mod command;
 mod command_line;
@@ -13,6 +14,7 @@ mod fault;
 mod input;
 mod line;
 mod load;
+mod next_command;
 mod next_line;
 mod opening;
 mod replies;

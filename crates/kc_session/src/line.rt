@@ -1,6 +1,6 @@
 //! The one buffer that holds a line.
 ghost use Rattle.std.specs.Prelude.{◌≡◌, ℕ, List, [], ◌∷◌, ◌++◌, IfOk, IfErr, option_copied, length, ◌==◌};
-ghost use Rattle.kc_session.specs.Held.{held_of, text_held};
+ghost use Rattle.kc_session.specs.Held.{held_of, line_held, text_held};
 ghost use Rattle.kc_session.specs.Stream.{fits_line, text_of_line, without_return};
 
 use crate::fault::IoFault;
@@ -74,6 +74,18 @@ impl LineBuffer {
         } else {
             self.is_cut = true;
         }
+    }
+
+    /// The line with its line end, or `None` where it is too long.
+    #[tactic(auto, unfolding(crate::specs::Held::line_held))]
+    pub(crate) fn whole(&self) -> Option<&[u8]>
+        ensures { option_copied result ≡ line_held self.now }
+    {
+        if self.is_cut {
+            return None;
+        }
+        let line = self.bytes.as_slice();
+        fits_line(line).then_some(line)
     }
 
     /// The line without its line end, or `None` where it is too long.

@@ -1,30 +1,51 @@
-//! The reply to one line: how it is made, and how it is written.
-ghost use Rattle.std.specs.Prelude.{◌≡◌, ◌++◌, OnOk, OnErr, IfErr};
+//! The reply to one command: how it is made, and how it is written.
+ghost use Rattle.std.specs.Prelude.{◌≡◌, ℕ, List, ◌++◌, OnOk, OnErr, IfErr};
 ghost use Rattle.std.specs.Io.KnownBytes.{Appends};
 ghost use Rattle.std.specs.Option.{option_copied};
 ghost use Rattle.kc_session.specs.Output.{WritesPart};
-ghost use Rattle.kc_session.specs.Replies.{reply_bytes};
-ghost use Rattle.kc_session.specs.Serving.{AnswersLine, StopsInReply};
-ghost use Rattle.kc_session.specs.LineReply.{IsLineReply};
+ghost use Rattle.kc_session.specs.Effect.{IsOutcome};
+ghost use Rattle.kc_session.specs.HeldBody.{GivesBody, body_held, joined};
+ghost use Rattle.kc_session.specs.NextCommand.{HoldsCommand};
+ghost use Rattle.kc_session.specs.Replies.{body_outcome, outcome, reply_bytes};
+ghost use Rattle.kc_session.specs.Serving.{AnswersCommand, StopsInReply};
+ghost use Rattle.kc_session.specs.Stream.{lines_of, text_if_fits};
+ghost use Rattle.kc_session.specs.StreamCommands.{StreamCommand, lines_taken};
 
+use crate::body_buffer::BodyBuffer;
 use crate::command::{Refusal, Reply};
-use crate::command_line::read_command;
+use crate::command_line::{Request, load_command, read_request};
 use crate::fault::IoFault;
+use crate::line::LineBuffer;
 use crate::session::Session;
 use crate::writing::{append_all, write_all_of};
+use kc_files::Load;
 use std::io::Write;
 
-/// Does the command of a line, whose text is `None` where the line is too long.
-#[tactic(auto, unfolding(crate::specs::Replies::outcome, crate::specs::Replies::may_be_refused))]
-fn reply_to_line(text: Option<&[u8]>, session: &mut Session) -> Reply
-    ensures { IsLineReply (option_copied text.entry) session.old result session.new }
+/// Does a command of the stream, from the text of its line, which is `None` where the line is too long, and from its body.
+#[tactic(auto, using(crate::proofs::Replying::no_text_reply, crate::proofs::Replying::refused_reply, crate::proofs::Replying::whole_reply, crate::proofs::Replying::load_reply))]
+fn reply_to_command(text: Option<&[u8]>, body: &BodyBuffer, session: &mut Session) -> Reply
+    ensures { (c : StreamCommand) → option_copied text.entry ≡ text_if_fits c.line → GivesBody (body_held body.now) (lines_taken c.line) c.body
+        → lines_of (joined c.body) ≡ c.body → IsOutcome session.old (outcome session.old c) result session.new }
 {
     let Some(text) = text else {
         return Reply::Refused(Refusal::TooLong);
     };
-    match read_command(text) {
-        Some(command) => session.apply(command),
-        None => Reply::Refused(Refusal::UnknownCommand),
+    match read_request(text) {
+        Ok(Request::Whole(command)) => session.apply(command),
+        Ok(Request::WithBody(load, _)) => reply_to_load(load, body, session),
+        Err(refusal) => Reply::Refused(refusal),
+    }
+}
+
+/// Loads a body, if it can be.
+#[tactic(auto, using(crate::proofs::Replying::load_refused_reply, crate::proofs::Replying::load_done_reply))]
+fn reply_to_load(load: Load, body: &BodyBuffer, session: &mut Session) -> Reply
+    ensures { (k : ℕ) (lines : List (List ℕ)) → GivesBody (body_held body.now) k lines → lines_of (joined lines) ≡ lines
+        → IsOutcome session.old (body_outcome session.old load k lines) result session.new }
+{
+    match body.content() {
+        Ok(bytes) => session.apply(load_command(load, bytes)),
+        Err(refusal) => Reply::Refused(refusal),
     }
 }
 
@@ -60,18 +81,19 @@ fn write_two<W: Write>(writer: &mut W, first: &[u8], second: &[u8]) -> Result<()
     write_all_of(writer, second)
 }
 
-/// Does the command of a line, and writes its reply.
-pub(crate) fn answer_line<W: Write>(
-    text: Option<&[u8]>,
+/// Does the command that the buffers hold, and writes its reply.
+pub(crate) fn answer_command<W: Write>(
+    line: &LineBuffer,
+    body: &BodyBuffer,
     writer: &mut W,
     session: &mut Session,
 ) -> Result<(), IoFault>
-    ensures ok { OnOk result (AnswersLine (option_copied text.entry)
-        (W.contents writer.old) (W.contents writer.new) session.old session.new) }
-    ensures err { OnErr result (StopsInReply (option_copied text.entry)
-        (W.contents writer.old) (W.contents writer.new) session.old session.new) }
+    ensures ok { OnOk result ((c : StreamCommand) → HoldsCommand line.now body.now c
+        → AnswersCommand c (W.contents writer.old) (W.contents writer.new) session.old session.new) }
+    ensures err { OnErr result ((c : StreamCommand) → HoldsCommand line.now body.now c
+        → StopsInReply c (W.contents writer.old) (W.contents writer.new) session.old session.new) }
     ensures fault { IfErr result (λ fault. fault ≡ IoFault.Write) }
 {
-    let reply = reply_to_line(text, session);
+    let reply = reply_to_command(line.text(), body, session);
     write_reply(writer, &reply)
 }

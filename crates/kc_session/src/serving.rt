@@ -2,21 +2,22 @@
 ghost use Rattle.std.specs.Prelude.{◌≡◌, [], OnOk, IsErrOf};
 ghost use Rattle.kc_session.specs.Serving.{Serves, ServesAll, StopsReading, StopsWriting};
 
+use crate::body_buffer::BodyBuffer;
 use crate::fault::IoFault;
 use crate::input::Input;
 use crate::line::LineBuffer;
-use crate::next_line::{LineRead, read_line};
-use crate::replies::answer_line;
+use crate::next_command::{CommandRead, read_command};
+use crate::replies::answer_command;
 use crate::session::Session;
 use std::alloc::Global;
 use std::io::{Read, Write};
 
-/// Serves a stream of commands, each line one, until the stream ends. Each reply is written and flushed before
+/// Serves a stream of commands, each a line and, of a load, the lines of its body, until the stream ends. Each reply is written and flushed before
 /// the next line is read. After a read of no bytes nothing more is read.
 ///
 /// # Errors
 ///
-/// - `IoFault::Memory` where the line buffer was refused its memory. Nothing was read, written or done.
+/// - `IoFault::Memory` where the line buffers were refused their memory. Nothing was read, written or done.
 /// - `IoFault::Read` where a read failed, or after 2^63 reads. All commands that were read completely were done,
 ///   and their replies are written; a line that was cut is not run.
 /// - `IoFault::Write` where a write or flush failed, or a write took no byte. The commands up to and including
@@ -37,27 +38,33 @@ pub fn run<R: Read, W: Write>(
         (reader.new ≡ reader.old) × (writer.new ≡ writer.old) × (session.new ≡ session.old) }
 {
     let mut line = LineBuffer::new(alloc)?;
+    let mut next = LineBuffer::new(alloc)?;
+    let mut body = BodyBuffer::new(alloc);
     let mut input = Input::new();
-    serve(reader, writer, session, &mut input, &mut line)
+    serve(
+        reader, writer, session, &mut input, &mut line, &mut next, &mut body,
+    )
 }
 
-/// Serves a stream with a line buffer, from an input of which nothing is unread.
+/// Serves a stream with its buffers, from an input of which nothing is unread.
 fn serve<R: Read, W: Write>(
     reader: &mut R,
     writer: &mut W,
     session: &mut Session,
     input: &mut Input,
     line: &mut LineBuffer,
+    next: &mut LineBuffer,
+    body: &mut BodyBuffer,
 ) -> Result<(), IoFault>
     requires { input.old.bytes ≡ [] }
     ensures { Serves result (R.remaining reader.old) (R.remaining reader.new)
         (W.contents writer.old) (W.contents writer.new) session.old session.new }
 {
     loop {
-        match read_line(reader, input, line)? {
-            LineRead::Ended => answer_line(line.text(), writer, session)?,
-            LineRead::Unended => return answer_line(line.text(), writer, session),
-            LineRead::Nothing => return Ok(()),
+        match read_command(reader, input, line, next, body)? {
+            CommandRead::Whole => answer_command(line, body, writer, session)?,
+            CommandRead::Last => return answer_command(line, body, writer, session),
+            CommandRead::Nothing => return Ok(()),
         }
     }
 }
