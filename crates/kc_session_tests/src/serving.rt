@@ -24,14 +24,7 @@ fn session_of(alloc: Global, kconfig: &str) -> Result<Session, Fail> {
     let mut sources = Sources::new(alloc);
     sources.add("Kconfig", kconfig)?;
     let prefix = Prefix::new(alloc, "CONFIG_")?;
-    let (session, _) = open(
-        alloc,
-        &sources,
-        &Vars::none(alloc),
-        "Kconfig",
-        &prefix,
-        b"",
-    )?;
+    let (session, _) = open(alloc, &sources, &Vars::none(alloc), "Kconfig", &prefix, b"")?;
     Ok(session)
 }
 
