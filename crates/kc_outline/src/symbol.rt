@@ -189,7 +189,7 @@ impl Symbol {
         self.implied.as_slice()
     }
 
-    /// Whether a line `option allnoconfig_y` names it. No command uses it yet.
+    /// Whether a line `option allnoconfig_y` names it.
     pub fn is_yes_in_allnoconfig(&self) -> bool
         ensures { result ≡ self.now.is_yes_in_allnoconfig }
     {
