@@ -1,0 +1,189 @@
+#!/usr/bin/env python3
+"""Turns a Kconfig tree with macro functions into one that kconf reads.
+
+    tools/expand_kconfig.py [--root FOLDER] [--expand] [--environment] [--notes FILE] KCONFIG OUT [NAME=VALUE]...
+
+KCONFIG and all files that it sources are read in FOLDER (or the working directory) and written to the same paths below
+OUT, which must not be there or be empty. Run kconf in OUT.
+
+Macro functions are run, and variables that files define are put in place; so are `$NAME`, `${NAME}` of words NAME=VALUE.
+Paths, prompts and titles get their quotes. Each line keeps its number (except in files with def_int, def_hex or
+def_string), so that a fault that kconf reports is at the same line of the tree. What is changed in its meaning, or could
+be, is noted on standard error with its file and line. On standard output are the words NAME=VALUE that kconf needs.
+
+Commands of $(shell,..) are run in FOLDER, with the words NAME=VALUE in their environment. The status is 0, 1 where a
+line can't be expanded, and 2 for a mistake of usage. docs/TREES.md has examples.
+"""
+
+import argparse
+import glob
+import re
+import shlex
+import sys
+from pathlib import Path, PurePosixPath
+
+from kconfig_lines import HELP, VARIABLE, Logical, Tokens, logical_lines
+from kconfig_macros import Fault, Macros, Place
+from kconfig_rewrite import Statement, rewrite_choices, rewrite_statement
+
+SOURCES = ("source", "rsource", "osource", "orsource")
+MOST_OPEN = 64
+
+
+def read_lines(path: Path, notes: list[str]) -> list[str]:
+    """The lines of a file. Bytes that are no UTF-8 are read as Latin-1, which is noted."""
+    data = path.read_bytes()
+    try:
+        text = data.decode()
+    except UnicodeDecodeError:
+        notes.append(f"{path}:0: no UTF-8: read as Latin-1")
+        text = data.decode("latin-1")
+    lines = text.split("\n")
+    return [line.removesuffix("\r") for line in (lines[:-1] if lines[-1] == "" else lines)]
+
+
+class Expander:
+    """Reads a tree, and keeps the files that are to be written."""
+
+    def __init__(self, root: Path, macros: Macros, stays: bool) -> None:
+        self.root = root
+        self.macros = macros
+        self.stays = stays
+        self.notes: list[str] = []
+        self.written: dict[str, str] = {}  # the text of each path
+        self.needed: set[str] = set()  # the words NAME=VALUE that a reference stands for
+        self.open: list[str] = []
+        self.choice_names: dict[str, Place] = {}
+
+    def expand_file(self, path: str, place: Place) -> str:
+        """Reads a file and all that it sources. Returns the path under which it is written."""
+        if path in self.open or len(self.open) == MOST_OPEN:
+            raise place.fault(f"{path} is sourced within itself, or too deeply")
+        self.open.append(path)
+        statements = [self.expand_line(logical, Place(path, logical.line))
+                      for logical in logical_lines(self.lines_of(path, place))]
+        rewrite_choices(statements, self.notes)
+        self.open.pop()
+        text = "".join(statement.written + "\n" for statement in statements)
+        return self.keep(path, text)
+
+    def lines_of(self, path: str, place: Place) -> list[str]:
+        try:
+            return read_lines(self.root / path, self.notes)
+        except OSError as fault:
+            raise place.fault(f"{path} can't be read: {fault.strerror}") from fault
+
+    def keep(self, path: str, text: str) -> str:
+        """Keeps a text under its path, or under one with a number where the path has another text."""
+        number, name = 1, path
+        while self.written.get(name, text) != text:
+            number += 1
+            name = f"{path}.{number}"
+        self.written[name] = text
+        self.needed.update(re.findall(r"(?<!\\)\$\(([A-Za-z0-9_-]+)\)", text) if self.stays else [])
+        return name
+
+    def expand_line(self, logical: Logical, place: Place) -> Statement:
+        """The statement of a logical line, as it is written for kconf."""
+        if logical.is_help or (match := HELP.fullmatch(logical.text)) and match[1] in ("help", "---help---"):
+            return Statement(place, [], logical.text, logical)
+        if match:
+            return Statement(place, [], "help", logical)
+        if VARIABLE.match(logical.text) or logical.text.lstrip(" \t").startswith("$"):
+            if not self.macros.read_assignment(logical.text, place):
+                raise place.fault("no such statement")
+            return Statement(place, [], logical.keep(""), logical)
+        tokens = Tokens(logical.text, place, self.macros, self.stays, self.notes).all()
+        if tokens and not tokens[0].has_reference and tokens[0].text in SOURCES and len(tokens) == 2:
+            return Statement(place, tokens, logical.keep(self.source(tokens, place)), logical)
+        if len(tokens) == 1 and tokens[0].kind == "word" and self.is_assignment_by_reference(logical, place):
+            return Statement(place, [], logical.keep(""), logical)
+        return rewrite_statement(Statement(place, tokens, "", logical), self.choice_names, self.notes)
+
+    def is_assignment_by_reference(self, logical: Logical, place: Place) -> bool:
+        return "$(" in logical.text and self.macros.read_assignment(logical.text, place)
+
+    def source(self, tokens: list, place: Place) -> str:
+        """The `source` line for a path, after the file is read."""
+        word, path = tokens[0].text, tokens[1].text
+        if word in ("rsource", "orsource"):
+            path = str(PurePosixPath(place.path).parent / path)
+        path = self.inside(path, place)
+        found = self.matches(path)
+        if not found and word in ("osource", "orsource"):
+            return ""
+        if found != [path]:
+            return self.source_of_matches(path, found, place)
+        name = self.expand_file(path, place)
+        stays = word == "source" and name == tokens[1].text and tokens[1].kind == "quoted"
+        return f"source {tokens[1].written}" if stays else f'source "{name}"'
+
+    def inside(self, path: str, place: Place) -> str:
+        """The path relative to the root."""
+        for root in (str(self.root), str(self.root.resolve())):
+            if path.startswith(root.rstrip("/") + "/"):
+                path = path[len(root.rstrip("/")) + 1 :]
+        if path.startswith("/") or ".." in PurePosixPath(path).parts:
+            raise place.fault(f"{path} is outside of the tree")
+        return str(PurePosixPath(path))
+
+    def matches(self, path: str) -> list[str]:
+        if (self.root / path).is_file() or not glob.has_magic(path):
+            return [path] if (self.root / path).is_file() else []
+        return sorted(glob.glob(path, root_dir=self.root))
+
+    def source_of_matches(self, path: str, found: list[str], place: Place) -> str:
+        """A `source` line of a file that sources what a pattern matches, as Kconfiglib reads it."""
+        if not found:
+            raise place.fault(f"{path} can't be read")
+        lines = "".join(f'source "{self.expand_file(match, place)}"\n' for match in found)
+        name = self.keep(f"{PurePosixPath(place.path)}.sources", lines)
+        self.notes.append(f"{place.path}:{place.line}: {path} is read as a pattern of {len(found)} files")
+        return f'source "{name}"'
+
+    def write(self, out: Path) -> None:
+        for path, text in self.written.items():
+            (out / path).parent.mkdir(parents=True, exist_ok=True)
+            (out / path).write_text(text)
+
+
+def parse_words() -> argparse.Namespace:
+    parser = argparse.ArgumentParser(description=__doc__, formatter_class=argparse.RawDescriptionHelpFormatter)
+    parser.add_argument("--root", type=Path, default=Path("."), metavar="FOLDER", help="the folder of the tree")
+    parser.add_argument("--expand", action="store_true", help="put NAME=VALUE in place as well: kconf needs no words")
+    parser.add_argument("--environment", action="store_true", help="let references see the environment as well")
+    parser.add_argument("--notes", type=Path, metavar="FILE", help="write the notes to FILE")
+    parser.add_argument("kconfig", metavar="KCONFIG", help="the top file, from FOLDER")
+    parser.add_argument("out", type=Path, metavar="OUT", help="the folder to write to")
+    parser.add_argument("words", nargs="*", metavar="NAME=VALUE", help="variables of the tree")
+    arguments = parser.parse_args()
+    if any(not re.match(r"[A-Za-z0-9_][A-Za-z0-9_-]*=", word) for word in arguments.words):
+        parser.error("variables are given as NAME=VALUE")
+    if arguments.out.exists() and any(arguments.out.iterdir()):
+        parser.error(f"{arguments.out} is not empty")
+    return arguments
+
+
+def main() -> int:
+    arguments = parse_words()
+    passed = dict(word.split("=", 1) for word in arguments.words)
+    macros = Macros(passed, str(arguments.root), arguments.environment)
+    expander = Expander(arguments.root, macros, stays=not arguments.expand)
+    try:
+        expander.expand_file(arguments.kconfig, Place(arguments.kconfig, 0))
+    except Fault as fault:
+        print(fault, file=sys.stderr)
+        return 1
+    expander.write(arguments.out)
+    notes = "".join(note + "\n" for note in dict.fromkeys(expander.notes))
+    if arguments.notes:
+        arguments.notes.write_text(notes)
+    else:
+        sys.stderr.write(notes)
+    print(f"{len(expander.written)} files, {macros.commands} commands, {len(expander.notes)} notes", file=sys.stderr)
+    print(" ".join(shlex.quote(f"{name}={passed[name]}") for name in passed if name in expander.needed))
+    return 0
+
+
+if __name__ == "__main__":
+    sys.exit(main())

@@ -1,0 +1,157 @@
+"""Rewrites statements that kconf does not read into ones that it reads, where that keeps their meaning."""
+
+from dataclasses import dataclass
+
+from kconfig_lines import Logical, Token
+from kconfig_macros import Place
+
+TYPES = ("bool", "tristate", "string", "int", "hex")
+TITLED = ("prompt", "menu", "comment", "mainmenu", *TYPES)
+DEFAULTS = {"def_int": "int", "def_hex": "hex", "def_string": "string"}
+ATTRIBUTES = frozenset(
+    [*TYPES, *DEFAULTS, "def_bool", "def_tristate", "prompt", "default", "depends", "optional", "help", "---help---"]
+)
+
+
+@dataclass
+class Statement:
+    """A logical line, its tokens, and how it is written for kconf."""
+
+    place: Place
+    tokens: list[Token]
+    written: str
+    logical: Logical
+
+    def begins(self, *words: str) -> bool:
+        return bool(self.tokens) and self.tokens[0].is_word(*words)
+
+    def note(self, notes: list[str], text: str) -> None:
+        notes.append(f"{self.place.path}:{self.place.line}: {text}")
+
+    def write(self, text: str) -> None:
+        self.written = self.logical.keep(text)
+
+    def indentation(self) -> str:
+        return self.logical.text[: len(self.logical.text) - len(self.logical.text.lstrip(" \t"))]
+
+
+def spelt(tokens: list[Token]) -> str:
+    """Tokens as they are written, with a blank between."""
+    return " ".join(token.written for token in tokens)
+
+
+def split_at_if(tokens: list[Token]) -> tuple[list[Token], list[Token]]:
+    """The tokens before the word `if`, and those behind it."""
+    at = next((at for at, token in enumerate(tokens) if token.is_word("if")), len(tokens))
+    return tokens[:at], tokens[at + 1 :]
+
+
+def is_unchanged(statement: Statement) -> bool:
+    """Whether kconf reads the line as it stands."""
+    text = statement.logical.text
+    return "$" not in text and statement.logical.count == 1 and text.isascii() and "'" not in text
+
+
+def rewrite_statement(statement: Statement, names: dict[str, Place], notes: list[str]) -> Statement:
+    """Writes a statement for kconf. The names are those of choices."""
+    tokens = statement.tokens
+    if not tokens:
+        statement.write("" if statement.logical.count > 1 else statement.logical.text)
+        return statement
+    before = len(notes)
+    lines = [spelt(line) for line in rewritten(statement, names, notes)]
+    if lines == [spelt(tokens)] and len(notes) == before and is_plain(statement):
+        statement.written = "\n".join([statement.logical.text]) if is_unchanged(statement) else statement.logical.keep(
+            statement.indentation() + lines[0]
+        )
+        return statement
+    statement.write("\n".join(statement.indentation() + line for line in lines))
+    return statement
+
+
+def is_plain(statement: Statement) -> bool:
+    """Whether no character of the line was dropped."""
+    dropped = set("&|:@%^*+?;,~`{}[]")
+    return not (dropped & set("".join(t.text for t in statement.tokens if t.kind == "operator")) - set("&|"))
+
+
+def rewritten(statement: Statement, names: dict[str, Place], notes: list[str]) -> list[list[Token]]:
+    """The lines of tokens that stand for a statement."""
+    tokens = statement.tokens
+    first = tokens[0].text if tokens[0].kind == "word" else ""
+    if first in TITLED and len(tokens) > 1 and tokens[1].kind == "word" and not tokens[1].is_word("if"):
+        statement.note(notes, f"{tokens[1].text} is put into quotes")
+        return [[tokens[0], Token("quoted", tokens[1].text, f'"{tokens[1].text}"'), *tokens[2:]]]
+    if first in DEFAULTS:
+        return [[Token("word", "", DEFAULTS[first])], [Token("word", "", "default"), *tokens[1:]]]
+    if first == "depends" and len(tokens) > 2:
+        return [conditional_dependency(tokens)]
+    if first == "option" and len(tokens) > 1:
+        return option(statement, notes)
+    if first == "choice" and len(tokens) == 2 and tokens[1].kind == "word":
+        return named_choice(statement, names, notes)
+    return [tokens]
+
+
+def conditional_dependency(tokens: list[Token]) -> list[Token]:
+    """`depends on A if B` as `depends on (A) || !(B)`, as the kernel's documents have it."""
+    wanted, condition = split_at_if(tokens)
+    if not condition:
+        return tokens
+    open_, close = Token("operator", "(", "("), Token("operator", ")", ")")
+    either, negation = Token("operator", "||", "||"), Token("operator", "!", "!")
+    return [*wanted[:2], open_, *wanted[2:], close, either, negation, open_, *condition, close]
+
+
+def option(statement: Statement, notes: list[str]) -> list[list[Token]]:
+    """`option env="NAME"` is a default with a reference; `option defconfig_list` is dropped."""
+    tokens = statement.tokens
+    if tokens[1].is_word("env") and len(tokens) == 4:
+        statement.note(notes, f"option env is a default here: $({tokens[3].text})")
+        return [[Token("word", "", "default"), Token("quoted", "", f'"$({tokens[3].text})"')]]
+    if tokens[1].is_word("defconfig_list"):
+        statement.note(notes, "option defconfig_list is dropped")
+        return [[]]
+    return [tokens]
+
+
+def named_choice(statement: Statement, names: dict[str, Place], notes: list[str]) -> list[list[Token]]:
+    """A choice loses its name. A second choice of the name adds to the first one, which kconf doesn't have."""
+    name = statement.tokens[1].text
+    if name in names:
+        raise statement.place.fault(f"the choice {name} goes on that began at {names[name].path}:{names[name].line}")
+    names[name] = statement.place
+    statement.note(notes, f"the choice loses its name {name}; where a condition names it, it is undefined")
+    return [statement.tokens[:1]]
+
+
+def rewrite_choices(statements: list[Statement], notes: list[str]) -> None:
+    """Turns choices with tristate members into plain symbols."""
+    begin = None
+    for at, statement in enumerate(statements):
+        if statement.begins("choice"):
+            begin = at
+        elif statement.begins("endchoice") and begin is not None:
+            rewrite_choice(statements[begin : at + 1], notes)
+            begin = None
+
+
+def rewrite_choice(choice: list[Statement], notes: list[str]) -> None:
+    """Turns a choice with tristate members into an `if` block of plain symbols.
+
+    kconf has choices of bool members alone. Where the mode of a tristate choice is m, each member can be n or m for
+    itself, as the plain symbols can; that one alone is y is lost.
+    """
+    end = next(at for at, line in enumerate(choice) if at and line.tokens and not line.begins(*ATTRIBUTES))
+    head, members = choice[1:end], choice[end:-1]
+    types = [line.tokens[0].text for line in head + members if line.begins("bool", "tristate")]
+    if not types or types[0] != "tristate":
+        return
+    conditions = [spelt(line.tokens[2:]) for line in head if line.begins("depends")]
+    conditions += [spelt(split_at_if(line.tokens)[1]) for line in head if line.begins("prompt", "tristate")]
+    joined = " && ".join(f"({condition})" for condition in conditions if condition)
+    choice[0].note(notes, "a choice with tristate members: they are plain symbols here, of which several can be y")
+    for line in head:
+        line.write("")
+    choice[0].write(f"if {joined or 'y'}")
+    choice[-1].write("endif")
