@@ -22,7 +22,7 @@ import shlex
 import sys
 from pathlib import Path, PurePosixPath
 
-from kconfig_lines import HELP, VARIABLE, Logical, Tokens, logical_lines
+from kconfig_lines import HELP, VARIABLE, Logical, Token, Tokens, logical_lines
 from kconfig_macros import Fault, Macros, Place
 from kconfig_rewrite import Statement, rewrite_choices, rewrite_statement
 
@@ -62,7 +62,8 @@ class Expander:
         self.open.append(path)
         statements = [self.expand_line(logical, Place(path, logical.line))
                       for logical in logical_lines(self.lines_of(path, place))]
-        rewrite_choices(statements, self.notes)
+        for statement in rewrite_choices(statements):
+            self.notes += statement.notes
         self.open.pop()
         text = "".join(statement.written + "\n" for statement in statements)
         return self.keep(path, text)
@@ -80,7 +81,6 @@ class Expander:
             number += 1
             name = f"{path}.{number}"
         self.written[name] = text
-        self.needed.update(re.findall(r"(?<!\\)\$\(([A-Za-z0-9_-]+)\)", text) if self.stays else [])
         return name
 
     def expand_line(self, logical: Logical, place: Place) -> Statement:
@@ -93,17 +93,23 @@ class Expander:
             if not self.macros.read_assignment(logical.text, place):
                 raise place.fault("no such statement")
             return Statement(place, [], logical.keep(""), logical)
-        tokens = Tokens(logical.text, place, self.macros, self.stays, self.notes).all()
+        reader = Tokens(logical.text, place, self.macros, self.stays)
+        tokens = reader.all()
+        statement = Statement(place, tokens, "", logical, reader.notes)
         if tokens and not tokens[0].has_reference and tokens[0].text in SOURCES and len(tokens) == 2:
-            return Statement(place, tokens, logical.keep(self.source(tokens, place)), logical)
-        if len(tokens) == 1 and tokens[0].kind == "word" and self.is_assignment_by_reference(logical, place):
-            return Statement(place, [], logical.keep(""), logical)
-        return rewrite_statement(Statement(place, tokens, "", logical), self.choice_names, self.notes)
+            statement.written = self.source(tokens, logical, place)
+        elif len(tokens) == 1 and self.is_assignment_by_reference(logical, place):
+            statement.write("")
+        else:
+            rewrite_statement(statement, self.choice_names)
+        self.needed |= reader.needed if "$(" in statement.written else set()
+        self.notes += statement.notes
+        return statement
 
     def is_assignment_by_reference(self, logical: Logical, place: Place) -> bool:
         return "$(" in logical.text and self.macros.read_assignment(logical.text, place)
 
-    def source(self, tokens: list, place: Place) -> str:
+    def source(self, tokens: list[Token], logical: Logical, place: Place) -> str:
         """The `source` line for a path, after the file is read."""
         word, path = tokens[0].text, tokens[1].text
         if word in ("rsource", "orsource"):
@@ -111,12 +117,15 @@ class Expander:
         path = self.inside(path, place)
         found = self.matches(path)
         if not found and word in ("osource", "orsource"):
-            return ""
+            return logical.keep("")
         if found != [path]:
-            return self.source_of_matches(path, found, place)
+            return logical.keep(self.source_of_matches(path, found, place))
         name = self.expand_file(path, place)
-        stays = word == "source" and name == tokens[1].text and tokens[1].kind == "quoted"
-        return f"source {tokens[1].written}" if stays else f'source "{name}"'
+        if word != "source" or name != tokens[1].text or tokens[1].kind != "quoted":
+            return logical.keep(f'source "{name}"')
+        if all(token.is_kept() for token in tokens):
+            return "\n".join(logical.lines)
+        return logical.keep(f"source {tokens[1].written}")
 
     def inside(self, path: str, place: Place) -> str:
         """The path relative to the root."""

@@ -21,6 +21,11 @@ class Token:
     text: str
     written: str
     has_reference: bool = False
+    raw: str = ""  # as it stands in the file
+
+    def is_kept(self) -> bool:
+        """Whether kconf reads the token as it stands in the file."""
+        return "$" not in self.raw or self.raw == self.written
 
     def is_word(self, *texts: str) -> bool:
         return self.kind == "word" and not self.has_reference and self.text in texts
@@ -32,12 +37,12 @@ class Logical:
 
     line: int
     text: str
-    count: int  # of lines in the file
+    lines: list[str]  # those of the file, which are joined
     is_help: bool = False  # a line of a help text, which is copied
 
     def keep(self, text: str) -> str:
         """The text, with empty lines behind it so that the numbers of all later lines remain."""
-        return text + "\n" * (self.count - 1)
+        return text + "\n" * (len(self.lines) - 1)
 
 
 def column(line: str) -> int:
@@ -69,9 +74,9 @@ def logical_lines(lines: list[str]) -> Iterator[Logical]:
             text = text[:-1] + (lines[at] if at < len(lines) else "")
             at += 1
         at = min(at, len(lines))
-        yield Logical(begin + 1, text, at - begin)
+        yield Logical(begin + 1, text, lines[begin:at])
         if HELP.fullmatch(text) and (end := help_end(lines, at)) > at:
-            yield Logical(at + 1, "\n".join(lines[at:end]), end - at, is_help=True)
+            yield Logical(at + 1, "\n".join(lines[at:end]), lines[at:end], is_help=True)
             at = end
 
 
@@ -83,12 +88,13 @@ def quote(text: str) -> str:
 class Tokens:
     """Cuts a logical line into tokens, as conf does, and notes what kconf would refuse."""
 
-    def __init__(self, line: str, place: Place, macros: Macros, stays: bool, notes: list[str]) -> None:
+    def __init__(self, line: str, place: Place, macros: Macros, stays: bool) -> None:
         self.line = line
         self.place = place
         self.macros = macros
         self.stays = stays  # whether references to words NAME=VALUE stay
-        self.notes = notes
+        self.notes: list[str] = []
+        self.needed: set[str] = set()  # the names of references that stay
         self.at = 0
 
     def note(self, text: str) -> None:
@@ -96,28 +102,34 @@ class Tokens:
 
     def all(self) -> list[Token]:
         tokens = []
-        while self.at < len(self.line):
-            character = self.line[self.at]
-            if character == "#":
-                break
-            if character in "\"'":
-                tokens.append(self.quoted())
-            elif character in WORD_CHARACTERS or character == "$":
-                tokens.append(self.word())
-            elif operator := next((o for o in OPERATORS if self.line.startswith(o, self.at)), None):
-                tokens.append(Token("operator", operator, operator))
-                self.at += len(operator)
-            else:
-                self.at += 1
-                if character not in " \t":
-                    self.note(f"`{character}` is dropped, as conf ignores it")
+        while self.at < len(self.line) and self.line[self.at] != "#":
+            begin = self.at
+            if token := self.next():
+                token.raw = self.line[begin : self.at]
+                tokens.append(token)
         return tokens
+
+    def next(self) -> Token | None:
+        """The token at this place. None: there is a blank, or a character that is dropped."""
+        character = self.line[self.at]
+        if character in "\"'":
+            return self.quoted()
+        if character in WORD_CHARACTERS or character == "$":
+            return self.word()
+        if operator := next((o for o in OPERATORS if self.line.startswith(o, self.at)), None):
+            self.at += len(operator)
+            return Token("operator", operator, operator)
+        self.at += 1
+        if character not in " \t":
+            self.note(f"`{character}` is dropped, as conf ignores it")
+        return None
 
     def reference(self) -> tuple[str, str]:
         """The text of the reference at this place, and how it is written: `$(NAME)` where it stays, else empty."""
         clause_end = end_of_reference(self.line, self.at + 2)
         name = self.line[self.at + 2 : clause_end]
         stays = self.stays and self.macros.is_passed(name)
+        self.needed.update([name] if stays else [])
         text, self.at = self.macros.expand_reference(self.line, self.at, self.place)
         return text, f"$({name})" if stays else ""
 
@@ -155,6 +167,7 @@ class Tokens:
             return "$", ""
         self.at = match.end()
         value = self.macros.passed[name]
+        self.needed.update([name] if self.stays else [])
         return value, f"$({name})" if self.stays else value
 
     def quoted(self) -> Token:

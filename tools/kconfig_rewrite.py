@@ -1,6 +1,7 @@
 """Rewrites statements that kconf does not read into ones that it reads, where that keeps their meaning."""
 
-from dataclasses import dataclass
+from dataclasses import dataclass, field
+from typing import Iterator
 
 from kconfig_lines import Logical, Token
 from kconfig_macros import Place
@@ -21,12 +22,13 @@ class Statement:
     tokens: list[Token]
     written: str
     logical: Logical
+    notes: list[str] = field(default_factory=list)  # of what is changed in its meaning, or could be
 
     def begins(self, *words: str) -> bool:
         return bool(self.tokens) and self.tokens[0].is_word(*words)
 
-    def note(self, notes: list[str], text: str) -> None:
-        notes.append(f"{self.place.path}:{self.place.line}: {text}")
+    def note(self, text: str) -> None:
+        self.notes.append(f"{self.place.path}:{self.place.line}: {text}")
 
     def write(self, text: str) -> None:
         self.written = self.logical.keep(text)
@@ -46,50 +48,31 @@ def split_at_if(tokens: list[Token]) -> tuple[list[Token], list[Token]]:
     return tokens[:at], tokens[at + 1 :]
 
 
-def is_unchanged(statement: Statement) -> bool:
-    """Whether kconf reads the line as it stands."""
-    text = statement.logical.text
-    return "$" not in text and statement.logical.count == 1 and text.isascii() and "'" not in text
-
-
-def rewrite_statement(statement: Statement, names: dict[str, Place], notes: list[str]) -> Statement:
-    """Writes a statement for kconf. The names are those of choices."""
+def rewrite_statement(statement: Statement, names: dict[str, Place]) -> None:
+    """Writes a statement for kconf. The names are those of the choices so far."""
     tokens = statement.tokens
-    if not tokens:
-        statement.write("" if statement.logical.count > 1 else statement.logical.text)
-        return statement
-    before = len(notes)
-    lines = [spelt(line) for line in rewritten(statement, names, notes)]
-    if lines == [spelt(tokens)] and len(notes) == before and is_plain(statement):
-        statement.written = "\n".join([statement.logical.text]) if is_unchanged(statement) else statement.logical.keep(
-            statement.indentation() + lines[0]
-        )
-        return statement
-    statement.write("\n".join(statement.indentation() + line for line in lines))
-    return statement
+    lines = rewritten(statement, names) if tokens else [[]]
+    if lines == [tokens] and not statement.notes and all(token.is_kept() for token in tokens):
+        statement.written = "\n".join(statement.logical.lines)
+    else:
+        statement.write("\n".join((statement.indentation() + spelt(line)).rstrip() for line in lines))
 
 
-def is_plain(statement: Statement) -> bool:
-    """Whether no character of the line was dropped."""
-    dropped = set("&|:@%^*+?;,~`{}[]")
-    return not (dropped & set("".join(t.text for t in statement.tokens if t.kind == "operator")) - set("&|"))
-
-
-def rewritten(statement: Statement, names: dict[str, Place], notes: list[str]) -> list[list[Token]]:
+def rewritten(statement: Statement, names: dict[str, Place]) -> list[list[Token]]:
     """The lines of tokens that stand for a statement."""
     tokens = statement.tokens
     first = tokens[0].text if tokens[0].kind == "word" else ""
     if first in TITLED and len(tokens) > 1 and tokens[1].kind == "word" and not tokens[1].is_word("if"):
-        statement.note(notes, f"{tokens[1].text} is put into quotes")
+        statement.note(f"{tokens[1].text} is put into quotes")
         return [[tokens[0], Token("quoted", tokens[1].text, f'"{tokens[1].text}"'), *tokens[2:]]]
     if first in DEFAULTS:
         return [[Token("word", "", DEFAULTS[first])], [Token("word", "", "default"), *tokens[1:]]]
     if first == "depends" and len(tokens) > 2:
         return [conditional_dependency(tokens)]
     if first == "option" and len(tokens) > 1:
-        return option(statement, notes)
+        return option(statement)
     if first == "choice" and len(tokens) == 2 and tokens[1].kind == "word":
-        return named_choice(statement, names, notes)
+        return named_choice(statement, names)
     return [tokens]
 
 
@@ -103,41 +86,42 @@ def conditional_dependency(tokens: list[Token]) -> list[Token]:
     return [*wanted[:2], open_, *wanted[2:], close, either, negation, open_, *condition, close]
 
 
-def option(statement: Statement, notes: list[str]) -> list[list[Token]]:
+def option(statement: Statement) -> list[list[Token]]:
     """`option env="NAME"` is a default with a reference; `option defconfig_list` is dropped."""
     tokens = statement.tokens
     if tokens[1].is_word("env") and len(tokens) == 4:
-        statement.note(notes, f"option env is a default here: $({tokens[3].text})")
+        statement.note(f"option env is a default here: $({tokens[3].text})")
         return [[Token("word", "", "default"), Token("quoted", "", f'"$({tokens[3].text})"')]]
     if tokens[1].is_word("defconfig_list"):
-        statement.note(notes, "option defconfig_list is dropped")
+        statement.note("option defconfig_list is dropped")
         return [[]]
     return [tokens]
 
 
-def named_choice(statement: Statement, names: dict[str, Place], notes: list[str]) -> list[list[Token]]:
+def named_choice(statement: Statement, names: dict[str, Place]) -> list[list[Token]]:
     """A choice loses its name. A second choice of the name adds to the first one, which kconf doesn't have."""
     name = statement.tokens[1].text
     if name in names:
         raise statement.place.fault(f"the choice {name} goes on that began at {names[name].path}:{names[name].line}")
     names[name] = statement.place
-    statement.note(notes, f"the choice loses its name {name}; where a condition names it, it is undefined")
+    statement.note(f"the choice loses its name {name}; where a condition names it, it is undefined")
     return [statement.tokens[:1]]
 
 
-def rewrite_choices(statements: list[Statement], notes: list[str]) -> None:
-    """Turns choices with tristate members into plain symbols."""
+def rewrite_choices(statements: list[Statement]) -> Iterator[Statement]:
+    """Turns choices with tristate members into plain symbols, and gives the `choice` lines of these."""
     begin = None
     for at, statement in enumerate(statements):
         if statement.begins("choice"):
             begin = at
         elif statement.begins("endchoice") and begin is not None:
-            rewrite_choice(statements[begin : at + 1], notes)
+            if rewrite_choice(statements[begin : at + 1]):
+                yield statements[begin]
             begin = None
 
 
-def rewrite_choice(choice: list[Statement], notes: list[str]) -> None:
-    """Turns a choice with tristate members into an `if` block of plain symbols.
+def rewrite_choice(choice: list[Statement]) -> bool:
+    """Turns a choice with tristate members into an `if` block of plain symbols. False: it has no such members.
 
     kconf has choices of bool members alone. Where the mode of a tristate choice is m, each member can be n or m for
     itself, as the plain symbols can; that one alone is y is lost.
@@ -146,12 +130,13 @@ def rewrite_choice(choice: list[Statement], notes: list[str]) -> None:
     head, members = choice[1:end], choice[end:-1]
     types = [line.tokens[0].text for line in head + members if line.begins("bool", "tristate")]
     if not types or types[0] != "tristate":
-        return
+        return False
     conditions = [spelt(line.tokens[2:]) for line in head if line.begins("depends")]
     conditions += [spelt(split_at_if(line.tokens)[1]) for line in head if line.begins("prompt", "tristate")]
     joined = " && ".join(f"({condition})" for condition in conditions if condition)
-    choice[0].note(notes, "a choice with tristate members: they are plain symbols here, of which several can be y")
+    choice[0].note("a choice with tristate members: they are plain symbols here, of which several can be y")
     for line in head:
         line.write("")
     choice[0].write(f"if {joined or 'y'}")
     choice[-1].write("endif")
+    return True

@@ -1,0 +1,164 @@
+#!/usr/bin/env python3
+"""Tests of tools/expand_kconfig.py. It is run by hand.
+
+Most of them are rows: the text of a Kconfig and what it is for kconf, as kconfig-macro-language.rst has it.
+"""
+
+import subprocess
+import sys
+import tempfile
+import unittest
+from pathlib import Path
+
+TOOL = Path(__file__).resolve().parent / "expand_kconfig.py"
+
+# A line, behind the lines of PRELUDE, and the line that is written for it.
+PRELUDE = """\
+comma := ,
+empty :=
+space := $(empty) $(empty)
+success = $(if-success,$(1),y,n)
+if-success = $(shell,{ $(1); } >/dev/null 2>&1 && echo "$(2)" || echo "$(3)")
+pair = $(2)-$(1)
+later = $(NAME)
+now := $(NAME)
+NAME := net
+more := a
+more += $(NAME)
+slow = a
+slow += $(late)
+late := z
+fresh += $(NAME)
+call = $(pair,$(1),$(comma))
+twice = $($(1))
+same-word = y
+"""
+LINES = [
+    ('default "$(NAME)"', 'default "net"'),  # a variable is put in place
+    ('default "$(now)"', 'default ""'),  # `:=` expands at its line, where NAME has no value yet
+    ('default "$(later)"', 'default "net"'),  # `=` expands at its use
+    ('default "$(more)"', 'default "a net"'),  # `+=` behind `:=`
+    ('default "$(slow)"', 'default "a z"'),  # `+=` behind `=` expands later
+    ('default "$(fresh)"', 'default "net"'),  # `+=` of a new name is `=`
+    ('default "$(pair,a,b)"', 'default "b-a"'),  # parameters
+    ('default "$(pair, a, b)"', 'default " b- a"'),  # blanks in arguments are kept
+    ('default "$(pair,a)"', 'default "-a"'),  # a parameter that is not given is empty
+    ('default "$(pair,(a,b),c)"', 'default "c-(a,b)"'),  # commas in parentheses do not separate
+    ('default "$(call,x)"', 'default ",-x"'),  # a comma that a variable gives does not separate
+    ('default "$(twice,NAME)"', 'default "net"'),  # a computed name
+    ('default "x$(space)y"', 'default "x y"'),
+    ('default "$(nothing)"', 'default ""'),
+    ("def_bool $(success,true)", "def_bool y"),
+    ("def_bool $(success,false)", "def_bool n"),
+    ("def_bool !$(success,false) && A", "def_bool ! n && A"),
+    ('default "$(shell,echo hello$(comma) world)"', 'default "hello, world"'),
+    ('default "$(shell,printf \'a\\nb\\n\\n\')"', 'default "a b"'),  # inner line ends are spaces
+    ('default "$(shell,echo $ARCH)"', 'default "x86"'),  # a word in the environment of the command
+    ('default "$(shell,echo \'a"b\')"', 'default "a\\"b"'),  # what is put in place is escaped
+    ('default "$(lineno)"', 'default "19"'),
+    ('default "$(filename)"', 'default "Kconfig"'),
+    ('default "$(ARCH)"', 'default "$(ARCH)"'),  # a word NAME=VALUE stays
+    ("default $(ARCH)", "default $(ARCH)"),
+    ('default "$ARCH-${ARCH}"', 'default "$(ARCH)-$(ARCH)"'),
+    ('default "\\$(ARCH)"', 'default "\\$(ARCH)"'),  # no reference
+    ('prompt "costs $5"', 'prompt "costs \\$5"'),
+    ("bool Network", 'bool "Network"'),
+    ("menu Network", 'menu "Network"'),
+    ("depends on A if B", "depends on ( A ) || ! ( B )"),
+    ("depends on A && @B", "depends on A && B"),
+    ('option env="ARCH"', 'default "$(ARCH)"'),
+    ("option defconfig_list", ""),
+    ("choice SPEED", "choice"),
+    ("$(NAME)-x := 1", ""),  # a name with a reference
+    ("$(info,hello)", ""),
+    ("depends on A = '$(NAME)'", 'depends on A = "net"'),
+    ("default A # $(shell,false)", "default A # $(shell,false)"),
+]
+FAULTS = [
+    "A = $(A)\nB := $(A)",  # a variable that its own expansion needs
+    "f = $(f,$(1))\nB := $(f,x)",  # a function without end
+    "$(error-if,y,no)",
+    'default "$(shell,a,b)"',  # too many arguments
+    'default "$(ARCH"',
+    "source nowhere",
+    'source "Kconfig"',
+    "$(NAME) y",
+    "default $(nothing)",  # a word without text
+]
+
+
+def run(files: dict[str, str], *words: str) -> tuple[int, dict[str, str], str, str]:
+    """The status, the files that are written, standard output and standard error."""
+    with tempfile.TemporaryDirectory() as folder:
+        root, out = Path(folder, "tree"), Path(folder, "out")
+        for path, text in files.items():
+            (root / path).parent.mkdir(parents=True, exist_ok=True)
+            (root / path).write_text(text)
+        command = [sys.executable, TOOL, "--root", root, *words[:1], "Kconfig", out, "ARCH=x86", *words[1:]]
+        done = subprocess.run([word for word in command if word], capture_output=True, text=True)
+        written = {str(path.relative_to(out)): path.read_text() for path in out.rglob("*") if path.is_file()}
+        return done.returncode, written, done.stdout, done.stderr
+
+
+class Expansion(unittest.TestCase):
+    def test_lines(self) -> None:
+        for line, wanted in LINES:
+            with self.subTest(line):
+                status, written, _, stderr = run({"Kconfig": PRELUDE + line + "\n"})
+                self.assertEqual(status, 0, stderr)
+                self.assertEqual(written["Kconfig"].split("\n")[-2], wanted)
+                self.assertEqual(written["Kconfig"].count("\n"), PRELUDE.count("\n") + 1)
+
+    def test_faults(self) -> None:
+        for text in FAULTS:
+            with self.subTest(text):
+                status, written, _, stderr = run({"Kconfig": text + "\n"})
+                self.assertEqual((status, written), (1, {}))
+                self.assertRegex(stderr, r"^Kconfig:[12]: ")
+
+    def test_help_texts_and_unchanged_lines_are_copied(self) -> None:
+        text = "config A\n\tbool 'a'   if  B\n\thelp\n\t  $(shell,date) source x\n\n\t  more\n\tdefault y\\\n\t if B\n"
+        _, written, _, _ = run({"Kconfig": text})
+        self.assertIn("\thelp\n\t  $(shell,date) source x\n\n\t  more\n", written["Kconfig"])
+        self.assertEqual(written["Kconfig"].count("\n"), text.count("\n"))
+
+    def test_sources(self) -> None:
+        files = {
+            "Kconfig": 'D := d\nsource $(D)/Kconfig\nosource "none"\nsource "$(ARCH)/*.k"\n',
+            "d/Kconfig": 'rsource "x"\n',
+            "d/x": "comment c\n",
+            "x86/a.k": "",
+            "x86/b.k": "",
+        }
+        status, written, stdout, stderr = run(files)
+        self.assertEqual(status, 0, stderr)
+        self.assertEqual(written["Kconfig"], '\nsource "d/Kconfig"\n\nsource "Kconfig.sources"\n')
+        self.assertEqual(written["Kconfig.sources"], 'source "x86/a.k"\nsource "x86/b.k"\n')
+        self.assertEqual((written["d/Kconfig"], written["d/x"]), ('source "d/x"\n', 'comment "c"\n'))
+        self.assertEqual(stdout, "\n")
+
+    def test_a_file_that_differs_where_it_is_sourced_again(self) -> None:
+        files = {"Kconfig": 'N := a\nsource "f"\nN := b\nsource "f"\nsource "f"\n', "f": 'comment "$(N)"\n'}
+        _, written, _, _ = run(files)
+        self.assertEqual(written["Kconfig"], '\nsource "f"\n\nsource "f.2"\nsource "f.2"\n')
+        self.assertEqual((written["f"], written["f.2"]), ('comment "a"\n', 'comment "b"\n'))
+
+    def test_words_that_kconf_needs(self) -> None:
+        files = {"Kconfig": 'source "$(ARCH)/k"\n# $(OTHER)\n', "x86/k": ""}
+        self.assertEqual(run(files, "", "OTHER=1")[2], "ARCH=x86\n")
+        status, written, stdout, _ = run(files, "--expand")
+        self.assertEqual((status, written["Kconfig"], stdout), (0, 'source "x86/k"\n# $(OTHER)\n', "\n"))
+
+    def test_a_choice_with_tristate_members(self) -> None:
+        text = 'choice\n\tprompt "c"\n\tdepends on A\n\tdefault X\nconfig X\n\ttristate "x"\nendchoice\n'
+        _, written, _, stderr = run({"Kconfig": text})
+        self.assertEqual(written["Kconfig"], 'if (A)\n\n\n\nconfig X\n\ttristate "x"\nendif\n')
+        self.assertRegex(stderr, r"^Kconfig:1: a choice with tristate members")
+
+    def test_def_int_is_two_lines(self) -> None:
+        _, written, _, _ = run({"Kconfig": "config N\n\tdef_int 5 if A\n"})
+        self.assertEqual(written["Kconfig"], "config N\n\tint\n\tdefault 5 if A\n")
+
+
+if __name__ == "__main__":
+    unittest.main()
