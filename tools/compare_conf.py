@@ -1,0 +1,224 @@
+#!/usr/bin/env python3
+"""Compares kconf with the kernel's conf on a tree that tools/expand_kconfig.py has written.
+
+    tools/compare_conf.py --kconf PROGRAM --conf PROGRAM [--edits 300] [--seeds 3] [--original FOLDER] [--lines 5]
+                          FOLDER KCONFIG [NAME=VALUE]...
+
+It is run by hand. Both read KCONFIG in FOLDER (conf in the folder of --original, where it is given), kconf with the
+words NAME=VALUE as variables, conf with them in its environment. conf is that of Debian's package linux-kbuild-6.1.
+
+Each target is run without a .config, and on one .config of random lines for each seed; allnoconfig and allyesconfig
+take none. For each target and kind of difference the number of differing lines is printed, with some of them. The status
+is 1 where a line differs and no kind explains it, else 0. docs/TREES.md says what the kinds are.
+"""
+
+import argparse
+import os
+import random
+import re
+import subprocess
+import sys
+import tempfile
+from collections import Counter, defaultdict
+from dataclasses import dataclass, field
+from pathlib import Path
+
+CONFIG_LINE = re.compile(r"(?:# )?CONFIG_(\w+)(?:=| is not set)(.*)")
+DEFINE_LINE = re.compile(r"#define CONFIG_(\w+?)(_MODULE)? (.*)")
+SHOW_LINE = re.compile(r"(\w+) type=(\w+) value=(.*) vis=(\w) can=(\S+) user=(.*)")
+TARGETS = ("olddefconfig", "savedefconfig", "listnewconfig", "genheader", "allnoconfig", "allyesconfig")
+FILELESS = ("allnoconfig", "allyesconfig")
+UNEXPLAINED = "unexplained"
+
+# The lines of a target, by symbol.
+Lines = dict[str, str]
+
+
+@dataclass(frozen=True)
+class Shown:
+    """What `list` of a session says of a symbol."""
+
+    type: str
+    value: str
+    visibility: str
+    assignable: str
+    user: str
+
+
+@dataclass
+class Tree:
+    """A tree, both programs, and what the text of the tree says of its symbols."""
+
+    kconf: Path
+    conf: Path
+    folder: Path
+    original: Path
+    kconfig: str
+    words: list[str]
+    implied: set[str] = field(default_factory=set)
+    ranged: set[str] = field(default_factory=set)
+    members: set[str] = field(default_factory=set)
+
+    def read_text(self) -> None:
+        """Finds the symbols that an `imply` names, those with a `range`, and the members of choices."""
+        for path in self.folder.rglob("*"):
+            if path.is_file():
+                self.read_file(path.read_text())
+
+    def read_file(self, text: str) -> None:
+        name, is_in_choice = "", False
+        for line in text.split("\n"):
+            words = line.split()
+            if words[:1] in (["choice"], ["endchoice"]) and len(words) == 1:
+                is_in_choice = words[0] == "choice"
+            elif len(words) > 1 and words[0] in ("config", "menuconfig"):
+                name = words[1]
+                self.members.update([name] if is_in_choice else [])
+            elif len(words) > 1 and words[0] == "imply":
+                self.implied.add(words[1])
+            elif words[:1] == ["range"]:
+                self.ranged.add(name)
+
+    def run_kconf(self, target: str, config: Path | None) -> str:
+        given = [] if target in FILELESS else [str(config or "-")]
+        command = [self.kconf, target, self.kconfig, *given, *self.words]
+        done = subprocess.run(command, cwd=self.folder, capture_output=True, text=True)
+        if done.returncode:
+            raise RuntimeError(f"kconf {target}: status {done.returncode}: {done.stderr[:500]}")
+        return done.stdout
+
+    def shown(self, config: Path | None, command: str = "") -> dict[str, Shown]:
+        """The show lines of all symbols."""
+        words = [self.kconf, "session", self.kconfig, str(config or "-"), *self.words]
+        done = subprocess.run(words, cwd=self.folder, input=f"{command}\nlist\n", capture_output=True, text=True)
+        matches = (SHOW_LINE.fullmatch(line) for line in done.stdout.split("\n"))
+        return {match[1]: Shown(*match.groups()[1:]) for match in matches if match}
+
+    def run_conf(self, target: str, config: Path | None, work: Path) -> str:
+        """What conf writes for a target, or prints for listnewconfig."""
+        path, saved, header = work / "config", work / "saved", work / "header.h"
+        path.unlink(missing_ok=True)
+        if config:
+            path.write_text(config.read_text())
+        elif target not in FILELESS:
+            path.write_text("")
+        option = {"savedefconfig": f"--savedefconfig={saved}", "genheader": "--syncconfig"}.get(target, f"--{target}")
+        output = {"savedefconfig": saved, "genheader": header}.get(target, path)
+        if target == "genheader":
+            self.call_conf("--olddefconfig", path, work)
+        done = self.call_conf(option, path, work)
+        return done if target == "listnewconfig" else output.read_text()
+
+    def call_conf(self, option: str, path: Path, work: Path) -> str:
+        passed = dict(word.split("=", 1) for word in self.words)
+        files = {"KCONFIG_CONFIG": path, "KCONFIG_AUTOHEADER": work / "header.h", "KCONFIG_AUTOCONFIG": work / "auto.conf"}
+        kept = {name: os.environ[name] for name in ("PATH", "HOME") if name in os.environ}
+        environment = {**kept, **passed, **{name: str(path) for name, path in files.items()}}
+        environment["KCONFIG_RUSTCCFG"] = str(work / "rustc_cfg")
+        done = subprocess.run(
+            [self.conf, option, self.kconfig], cwd=self.original, env=environment, capture_output=True, text=True
+        )
+        if done.returncode:
+            raise RuntimeError(f"conf {option}: status {done.returncode}: {done.stderr[:500]}")
+        return done.stdout
+
+
+def lines_of(target: str, text: str) -> Lines:
+    """The lines of a text that say something of a symbol."""
+    pattern = DEFINE_LINE if target == "genheader" else CONFIG_LINE
+    return {match[1]: line for line in text.split("\n") if (match := pattern.fullmatch(line))}
+
+
+def random_config(tree: Tree, edits: int, seed: int) -> str:
+    """A .config of some lines, for symbols that are visible without user values."""
+    chooser = random.Random(seed)
+    visible = sorted((name, shown) for name, shown in tree.shown(None).items() if shown.visibility != "n")
+    lines = (random_line(chooser, name, shown) for name, shown in chooser.sample(visible, min(edits, len(visible))))
+    return "".join(f"{line}\n" for line in lines)
+
+
+def random_line(chooser: random.Random, name: str, shown: Shown) -> str:
+    if shown.type in ("bool", "tristate"):
+        value = chooser.choice("ny" if shown.type == "bool" else "nmy")
+        return f"# CONFIG_{name} is not set" if value == "n" else f"CONFIG_{name}={value}"
+    text = {"int": str(chooser.randrange(0, 40)), "hex": hex(chooser.randrange(0, 4096)), "string": '"text"'}
+    return f"CONFIG_{name}={text[shown.type]}"
+
+
+def kind_of(tree: Tree, target: str, name: str, of_conf: str, of_kconf: str, shown: Shown | None) -> str:
+    """The kind of a line that differs. Empty texts stand for lines that are not there."""
+    if shown is None:
+        return UNEXPLAINED
+    not_set = f"# CONFIG_{name} is not set"
+    if of_conf == not_set and not of_kconf and name in tree.implied and shown.value == "n" and shown.visibility == "n":
+        return "imply: its symbol depends on what is n, and has no line"
+    if name in tree.ranged and shown.type in ("int", "hex"):
+        return "range: a user value outside of it does not count, where conf clamps it"
+    if name in tree.members and target == "savedefconfig":
+        return "default file: the member of a choice that is selected"
+    if target == "savedefconfig" and of_conf and not of_kconf:
+        return "default file: conf compares with the first default, kconf with the value without the user's own"
+    if target == "listnewconfig" and of_conf and not of_kconf:
+        return "new list: conf lists members, and symbols that can have one value only"
+    if target == "genheader" and not of_conf.rpartition(" ")[2] and not of_kconf:
+        return "header: an int or a hex without a value"
+    return UNEXPLAINED
+
+
+def compare(tree: Tree, target: str, config: Path | None, work: Path) -> list[tuple[str, str, str, str]]:
+    """The kind, the symbol, and the lines of conf and kconf, of each symbol for which they differ."""
+    of_conf = lines_of(target, tree.run_conf(target, config, work))
+    of_kconf = lines_of(target, tree.run_kconf(target, config))
+    names = [name for name in {**of_conf, **of_kconf} if of_conf.get(name, "") != of_kconf.get(name, "")]
+    edit = {"allnoconfig": "allno", "allyesconfig": "allyes"}.get(target, "")
+    shown = tree.shown(config, edit) if names else {}
+    print(f"{target}: {len(of_conf)} lines of conf, {len(of_kconf)} of kconf, {len(names)} differ")
+    pairs = ((name, of_conf.get(name, ""), of_kconf.get(name, "")) for name in names)
+    return [(kind_of(tree, target, name, conf, kconf, shown.get(name)), name, conf, kconf) for name, conf, kconf in pairs]
+
+
+def print_kinds(differences: list[tuple[str, str, str, str]], lines: int) -> Counter[str]:
+    examples = defaultdict(list)
+    for kind, name, of_conf, of_kconf in differences:
+        examples[kind].append(f"    {name}: conf `{of_conf}`, kconf `{of_kconf}`")
+    for kind, found in examples.items():
+        print(f"  {len(found)}: {kind}", *found[: len(found) if kind == UNEXPLAINED else lines], sep="\n")
+    return Counter({kind: len(found) for kind, found in examples.items()})
+
+
+def parse_words() -> argparse.Namespace:
+    parser = argparse.ArgumentParser(description=__doc__, formatter_class=argparse.RawDescriptionHelpFormatter)
+    parser.add_argument("--kconf", type=Path, required=True, metavar="PROGRAM")
+    parser.add_argument("--conf", type=Path, required=True, metavar="PROGRAM")
+    parser.add_argument("--edits", type=int, default=300, help="lines of a random .config")
+    parser.add_argument("--seeds", type=int, default=3, help="random .configs")
+    parser.add_argument("--original", type=Path, metavar="FOLDER", help="the tree that conf reads")
+    parser.add_argument("--lines", type=int, default=5, help="examples of each kind")
+    parser.add_argument("--targets", nargs="+", default=TARGETS, choices=TARGETS)
+    parser.add_argument("folder", type=Path, metavar="FOLDER")
+    parser.add_argument("kconfig", metavar="KCONFIG")
+    parser.add_argument("words", nargs="*", metavar="NAME=VALUE")
+    return parser.parse_args()
+
+
+def main() -> int:
+    given = parse_words()
+    kconf, conf = given.kconf.resolve(), given.conf.resolve()
+    tree = Tree(kconf, conf, given.folder, given.original or given.folder, given.kconfig, given.words)
+    tree.read_text()
+    counts: Counter[str] = Counter()
+    with tempfile.TemporaryDirectory() as folder:
+        configs: list[Path | None] = [None]
+        for seed in range(1, given.seeds + 1):
+            configs.append(Path(folder, f"random{seed}"))
+            configs[-1].write_text(random_config(tree, given.edits, seed))
+        for target in given.targets:
+            for config in configs[:1] if target in FILELESS else configs:
+                counts += print_kinds(compare(tree, target, config, Path(folder)), given.lines)
+    for kind, count in counts.most_common():
+        print(f"{count} {kind}")
+    return 1 if counts[UNEXPLAINED] else 0
+
+
+if __name__ == "__main__":
+    sys.exit(main())
