@@ -107,7 +107,7 @@ fn write_target<R: Read, W: Write>(
     flush(output)
 }
 
-/// Writes the text of a reply. Of those commands that targets have, only want of memory refuses one.
+/// Writes the text of a reply. The commands of targets are refused only where memory is.
 fn write_reply<W: Write>(reply: Reply, output: &mut W) -> Result<(), Fault> {
     let Reply::Done(text) = reply else {
         return Err(Fault::NoMemory);
