@@ -25,24 +25,12 @@ from pathlib import Path
 
 CONFIG_LINE = re.compile(r"(?:# )?CONFIG_(\w+)(?:=| is not set)(.*)")
 DEFINE_LINE = re.compile(r"#define CONFIG_(\w+?)(_MODULE)? (.*)")
-SHOW_LINE = re.compile(r"(\w+) type=(\w+) value=(.*) vis=(\w) can=(\S+) user=(.*)")
 TARGETS = ("olddefconfig", "savedefconfig", "listnewconfig", "genheader", "allnoconfig", "allyesconfig")
 FILELESS = ("allnoconfig", "allyesconfig")
 UNEXPLAINED = "unexplained"
 
 # The lines of a target, by symbol.
 Lines = dict[str, str]
-
-
-@dataclass(frozen=True)
-class Shown:
-    """What `list` of a session says of a symbol."""
-
-    type: str
-    value: str
-    visibility: str
-    assignable: str
-    user: str
 
 
 @dataclass
@@ -58,9 +46,10 @@ class Tree:
     implied: set[str] = field(default_factory=set)
     ranged: set[str] = field(default_factory=set)
     members: set[str] = field(default_factory=set)
+    tristates: set[str] = field(default_factory=set)
 
     def read_text(self) -> None:
-        """Finds the symbols that an `imply` names, those with a `range`, and the members of choices."""
+        """Finds the symbols that an `imply` names, those with a `range`, tristates, and members of choices."""
         for path in self.folder.rglob("*"):
             if path.is_file():
                 self.read_file(path.read_text())
@@ -78,6 +67,8 @@ class Tree:
                 self.implied.add(words[1])
             elif words[:1] == ["range"]:
                 self.ranged.add(name)
+            elif words[:1] in (["tristate"], ["def_tristate"]):
+                self.tristates.add(name)
 
     def run_kconf(self, target: str, config: Path | None) -> str:
         given = [] if target in FILELESS else [str(config or "-")]
@@ -86,13 +77,6 @@ class Tree:
         if done.returncode:
             raise RuntimeError(f"kconf {target}: status {done.returncode}: {done.stderr[:500]}")
         return done.stdout
-
-    def shown(self, config: Path | None, command: str = "") -> dict[str, Shown]:
-        """The show lines of all symbols."""
-        words = [self.kconf, "session", self.kconfig, str(config or "-"), *self.words]
-        done = subprocess.run(words, cwd=self.folder, input=f"{command}\nlist\n", capture_output=True, text=True)
-        matches = (SHOW_LINE.fullmatch(line) for line in done.stdout.split("\n"))
-        return {match[1]: Shown(*match.groups()[1:]) for match in matches if match}
 
     def run_conf(self, target: str, config: Path | None, work: Path) -> str:
         """What conf writes for a target, or prints for listnewconfig."""
@@ -129,37 +113,40 @@ def lines_of(target: str, text: str) -> Lines:
     return {match[1]: line for line in text.split("\n") if (match := pattern.fullmatch(line))}
 
 
-def random_config(tree: Tree, edits: int, seed: int) -> str:
-    """A .config of some lines, for symbols that are visible without user values."""
+def random_config(tree: Tree, edits: int, seed: int, work: Path) -> str:
+    """A .config of some lines, for symbols that conf lists as new ones where there is no line."""
     chooser = random.Random(seed)
-    visible = sorted((name, shown) for name, shown in tree.shown(None).items() if shown.visibility != "n")
-    lines = (random_line(chooser, name, shown) for name, shown in chooser.sample(visible, min(edits, len(visible))))
+    visible = sorted(lines_of("listnewconfig", tree.run_conf("listnewconfig", None, work)).items())
+    lines = (random_line(chooser, tree, name, line) for name, line in chooser.sample(visible, min(edits, len(visible))))
     return "".join(f"{line}\n" for line in lines)
 
 
-def random_line(chooser: random.Random, name: str, shown: Shown) -> str:
-    if shown.type in ("bool", "tristate"):
-        value = chooser.choice("ny" if shown.type == "bool" else "nmy")
+def random_line(chooser: random.Random, tree: Tree, name: str, line: str) -> str:
+    """A line that gives a symbol a random value of its type."""
+    value = line.partition("=")[2]
+    if value in ("n", "m", "y"):
+        value = chooser.choice("nmy" if name in tree.tristates else "ny")
         return f"# CONFIG_{name} is not set" if value == "n" else f"CONFIG_{name}={value}"
-    text = {"int": str(chooser.randrange(0, 40)), "hex": hex(chooser.randrange(0, 4096)), "string": '"text"'}
-    return f"CONFIG_{name}={text[shown.type]}"
+    if value.startswith('"'):
+        return f'CONFIG_{name}="text"'
+    return f"CONFIG_{name}={hex(chooser.randrange(4096)) if value.startswith('0x') else chooser.randrange(40)}"
 
 
-def kind_of(tree: Tree, target: str, name: str, of_conf: str, of_kconf: str, shown: Shown | None) -> str:
+def kind_of(tree: Tree, target: str, name: str, of_conf: str, of_kconf: str) -> str:
     """The kind of a line that differs. Empty texts stand for lines that are not there."""
-    if shown is None:
-        return UNEXPLAINED
-    not_set = f"# CONFIG_{name} is not set"
-    if of_conf == not_set and not of_kconf and name in tree.implied and shown.value == "n" and shown.visibility == "n":
-        return "imply: its symbol depends on what is n, and has no line"
-    if name in tree.ranged and shown.type in ("int", "hex"):
-        return "range: a user value outside of it does not count, where conf clamps it"
-    if name in tree.members and target == "savedefconfig":
-        return "default file: the member of a choice that is selected"
-    if target == "savedefconfig" and of_conf and not of_kconf:
-        return "default file: conf compares with the first default, kconf with the value without the user's own"
+    is_without_line = of_conf == f"# CONFIG_{name} is not set" and not of_kconf
+    if is_without_line and name in tree.implied and target != "savedefconfig":
+        return "an imply whose symbol depends on what is n: no line"
+    if target == "savedefconfig" and name in tree.members:
+        return "default file: which lines a choice has"
+    if target == "savedefconfig" and not (of_conf and of_kconf):
+        return "default file: conf compares with the symbol's default, kconf with the value without the user's own"
+    if target == "listnewconfig" and name in tree.members:
+        return "new list: of a choice kconf lists the selected member, while none is chosen; conf lists each without a line"
+    if target == "listnewconfig" and of_conf and not of_kconf and name in tree.ranged:
+        return "new list: conf lists a number whose value is outside of its range"
     if target == "listnewconfig" and of_conf and not of_kconf:
-        return "new list: conf lists members, and symbols that can have one value only"
+        return "new list: conf lists a symbol that can have one value only"
     if target == "genheader" and not of_conf.rpartition(" ")[2] and not of_kconf:
         return "header: an int or a hex without a value"
     return UNEXPLAINED
@@ -170,11 +157,10 @@ def compare(tree: Tree, target: str, config: Path | None, work: Path) -> list[tu
     of_conf = lines_of(target, tree.run_conf(target, config, work))
     of_kconf = lines_of(target, tree.run_kconf(target, config))
     names = [name for name in {**of_conf, **of_kconf} if of_conf.get(name, "") != of_kconf.get(name, "")]
-    edit = {"allnoconfig": "allno", "allyesconfig": "allyes"}.get(target, "")
-    shown = tree.shown(config, edit) if names else {}
-    print(f"{target}: {len(of_conf)} lines of conf, {len(of_kconf)} of kconf, {len(names)} differ")
+    given = config.name if config else "no .config"
+    print(f"{target}, {given}: {len(of_conf)} lines of conf, {len(of_kconf)} of kconf, {len(names)} differ", flush=True)
     pairs = ((name, of_conf.get(name, ""), of_kconf.get(name, "")) for name in names)
-    return [(kind_of(tree, target, name, conf, kconf, shown.get(name)), name, conf, kconf) for name, conf, kconf in pairs]
+    return [(kind_of(tree, target, name, conf, kconf), name, conf, kconf) for name, conf, kconf in pairs]
 
 
 def print_kinds(differences: list[tuple[str, str, str, str]], lines: int) -> Counter[str]:
@@ -211,7 +197,7 @@ def main() -> int:
         configs: list[Path | None] = [None]
         for seed in range(1, given.seeds + 1):
             configs.append(Path(folder, f"random{seed}"))
-            configs[-1].write_text(random_config(tree, given.edits, seed))
+            configs[-1].write_text(random_config(tree, given.edits, seed, Path(folder)))
         for target in given.targets:
             for config in configs[:1] if target in FILELESS else configs:
                 counts += print_kinds(compare(tree, target, config, Path(folder)), given.lines)

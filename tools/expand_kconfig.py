@@ -22,7 +22,7 @@ import shlex
 import sys
 from pathlib import Path, PurePosixPath
 
-from kconfig_lines import HELP, VARIABLE, Logical, Token, Tokens, logical_lines
+from kconfig_lines import ASSIGNS, HELP, Logical, Token, Tokens, logical_lines
 from kconfig_macros import Fault, Macros, Place
 from kconfig_rewrite import Statement, rewrite_choices, rewrite_statement
 
@@ -89,7 +89,7 @@ class Expander:
             return Statement(place, [], logical.text, logical)
         if match:
             return Statement(place, [], "help", logical)
-        if VARIABLE.match(logical.text) or logical.text.lstrip(" \t").startswith("$"):
+        if ASSIGNS.match(logical.text):
             if not self.macros.read_assignment(logical.text, place):
                 raise place.fault("no such statement")
             return Statement(place, [], logical.keep(""), logical)
@@ -98,16 +98,11 @@ class Expander:
         statement = Statement(place, tokens, "", logical, reader.notes)
         if tokens and not tokens[0].has_reference and tokens[0].text in SOURCES and len(tokens) == 2:
             statement.written = self.source(tokens, logical, place)
-        elif len(tokens) == 1 and self.is_assignment_by_reference(logical, place):
-            statement.write("")
         else:
             rewrite_statement(statement, self.choice_names)
         self.needed |= reader.needed if "$(" in statement.written else set()
         self.notes += statement.notes
         return statement
-
-    def is_assignment_by_reference(self, logical: Logical, place: Place) -> bool:
-        return "$(" in logical.text and self.macros.read_assignment(logical.text, place)
 
     def source(self, tokens: list[Token], logical: Logical, place: Place) -> str:
         """The `source` line for a path, after the file is read."""

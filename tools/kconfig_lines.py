@@ -9,7 +9,8 @@ from kconfig_macros import Macros, Place, end_of_reference
 WORD_CHARACTERS = frozenset("ABCDEFGHIJKLMNOPQRSTUVWXYZabcdefghijklmnopqrstuvwxyz0123456789_./-")
 OPERATORS = ("&&", "||", "!=", "<=", ">=", "!", "=", "<", ">", "(", ")")
 HELP = re.compile(r"[ \t]*(-*help-*)[ \t]*(#.*)?")
-VARIABLE = re.compile(r"[ \t]*[A-Za-z0-9_-]+[ \t]*(=|:=|\+=)")
+# A line that assigns a variable, or begins with a reference, so that it assigns one or has no effect but that of functions.
+ASSIGNS = re.compile(r"[ \t]*([A-Za-z0-9_-]+[ \t]*(=|:=|\+=)|[A-Za-z0-9_-]*\$\()")
 ENVIRONMENT_NAME = re.compile(r"[A-Za-z_][A-Za-z0-9_]*|\{[A-Za-z_][A-Za-z0-9_]*\}")
 
 

@@ -70,6 +70,7 @@ LINES = [
     ("option defconfig_list", ""),
     ("choice SPEED", "choice"),
     ("$(NAME)-x := 1", ""),  # a name with a reference
+    ("x-$(NAME) := 1", ""),
     ("$(info,hello)", ""),
     ("depends on A = '$(NAME)'", 'depends on A = "net"'),
     ("default A # $(shell,false)", "default A # $(shell,false)"),
