@@ -4,7 +4,7 @@
 ghost use Rattle.std.specs.Prelude.{◌≡◌, ◌≤◌, ◌<◌, ◌^◌, IfErr, IfOk, OnOk, None, All, count_by, filter, length, map, slice_get};
 ghost use Rattle.std.specs.Option.{option_copied};
 ghost use Rattle.kc_statement.specs.Keywords.{is_choice};
-ghost use Rattle.kc_outline.specs.TreeValue.{choice_title};
+ghost use Rattle.kc_outline.specs.TreeValue.{choice_title, modules_symbol};
 ghost use Rattle.kc_tree.specs.Nodes.{node_in, node_name};
 ghost use Rattle.kc_tree.specs.NodeGraph.{IsGraphOf};
 ghost use Rattle.kc_tree.specs.Accepted.{IsAccepted};
@@ -25,7 +25,7 @@ use crate::tree::Tree;
 use crate::uses::used_rows;
 use kc_graph::{Graph, OrderFault};
 use kc_outline::{ChoiceId, Outline};
-use kc_statement::{Keyword, read_keyword};
+use kc_statement::{Keyword, SymId, read_keyword};
 use kc_text::{Line, Text};
 use std::alloc::{AllocError, Global};
 
@@ -68,6 +68,15 @@ fn named_nodes(
         nodes.push(NamedNode { node, name })?;
     }
     Ok(nodes)
+}
+
+/// The symbol `MODULES`, if it is defined.
+pub(crate) fn modules_symbol(outline: &Outline) -> Option<SymId>
+    requires named { length outline.now.names ≤ MOST_SYMBOLS }
+    ensures { result ≡ modules_symbol outline.now }
+{
+    let number = outline.names().find("MODULES")?;
+    Some(SymId(number as u32))
 }
 
 /// The nodes in an order in which each comes after all that it uses.
@@ -180,12 +189,14 @@ pub(crate) fn link(alloc: Global, lines: &[Line<'_>], outline: Outline) -> Resul
 {
     check_outline(alloc, lines, &outline)?;
     let symbols = outline.symbols().len();
+    let modules = modules_symbol(&outline);
     let used = used_rows(alloc, &outline)?;
     let graph = Graph::of(&used);
     let order = node_order(alloc, &outline, &graph)?;
     let users = graph.users(alloc)?;
     Ok(Tree {
         outline,
+        modules,
         order,
         uses: NodeRows::of(alloc, symbols, used)?,
         used_by: NodeRows::of(alloc, symbols, users)?,

@@ -23,6 +23,7 @@ use std::marker::Model;
 #[derive(Drop)]
 pub struct Tree {
     pub(crate) outline: Outline,
+    pub(crate) modules: Option<SymId>,
     pub(crate) order: Vec<Node>,
     pub(crate) uses: NodeRows,
     pub(crate) used_by: NodeRows,
@@ -149,7 +150,7 @@ impl Tree {
     pub fn modules(&self) -> Option<SymId>
         ensures { result ≡ modules_symbol self.now }
     {
-        self.find("MODULES")
+        self.modules
     }
 
     /// The entries in the order of their lines.

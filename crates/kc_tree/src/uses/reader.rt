@@ -6,6 +6,7 @@ ghost use Rattle.kc_tree.specs.Uses.{symbol_nodes, term_nodes, value_nodes, modu
 ghost use Rattle.kc_tree.specs.Collected.{Adds, source_nodes};
 ghost use Rattle.kc_statement.specs.declared.limits.TheConstants.{MOST_SYMBOLS};
 
+use crate::link::modules_symbol;
 use crate::node::Node;
 use kc_outline::{ChoiceDefault, ChoiceId, Outline, Reverse};
 use kc_statement::{DefaultValue, Expr, Range, SymId, Term};
@@ -30,11 +31,10 @@ impl<'a> Reader<'a> {
         requires named { length outline.now.names ≤ MOST_SYMBOLS }
         ensures { result.outline ≡ outline.entry }
     {
-        let modules = match outline.names().find("MODULES") {
-            Some(number) => Some(SymId(number as u32)),
-            None => None,
-        };
-        Reader { outline, modules }
+        Reader {
+            outline,
+            modules: modules_symbol(outline),
+        }
     }
 
     /// How many symbols there are.

@@ -14,7 +14,7 @@ of-graph-requires c = record { closed = closed_graph c.args.outline c.in_ok-used
 pub invariant_of-result : goal.invariant_of-result
 invariant_of-result c =
     let t = c.args.outline in
-    let fields : TreeValue → Inside = λ o. record { outline = o; order = c.in_ok-order.order; uses = c.in_ok-of.field-0; used_by = c.in_ok-of-2.field-0 } in
+    let fields : TreeValue → Inside = λ o. record { outline = o; modules = c.modules_symbol-modules.result; order = c.in_ok-order.order; uses = c.in_ok-of.field-0; used_by = c.in_ok-of-2.field-0 } in
     let count : length c.symbols-symbols.result.now ≡ length t.symbols = ap length c.symbols-symbols.ensures in
     let nodes = λ (g : List (List ℕ)). ap (λ (n : ℕ). map (map (node_in n)) g) count in
     let sound : IsSoundOutline t = record {
@@ -29,7 +29,7 @@ invariant_of-result c =
       faultless = c.in_ok-check_outline.ensures.faultless;
     } in
     subst (λ (o : TreeValue). IsWellMade (fields o)) (sym c.outline.view_is)
-    (well_made (fields t) c.in_ok-used.used c.in_ok-users.users sound
+    (well_made (fields t) c.in_ok-used.used c.in_ok-users.users sound c.modules_symbol-modules.ensures
     c.in_ok-used.ensures c.in_ok-order.ensures.order
     (subst (λ (g : List (List ℕ)). IsConverse g c.in_ok-users.users) c.of-graph.ensures c.in_ok-users.ensures.converse)
     (c.in_ok-of.ensures ∙ nodes c.in_ok-used.used)
