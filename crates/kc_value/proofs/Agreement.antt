@@ -1,5 +1,5 @@
--- A rule reads the nodes that its node uses, and no others.
-use Rattle.std.proofs.Common.{◌≡◌, ◌<◌, ◌⊎◌, inl, inr, Bool, true, false, cond, not, List, [], ◌∷◌, ◌++◌, map, Option, Some, None, find, slice_get, option_map, unwrap_or, refl, sym, ap, subst, ◌∙◌, arith, length, ◌||◌, ◌&&◌, true≢false, ℕ, ℤ, if◌then◌else◌}
+-- A rule reads the nodes that its node uses, and no others, and of the user values only what changes its node.
+use Rattle.std.proofs.Common.{◌≡◌, ◌<◌, Bool, true, false, cond, not, List, [], ◌∷◌, ◌++◌, map, Option, Some, None, find, slice_get, option_map, unwrap_or, refl, sym, ap, subst, ◌∙◌, arith, length, ◌||◌, ◌&&◌, true≢false, ℕ, ℤ, if◌then◌else◌}
 use Rattle.std.specs.Prelude.{option_and_then, is_some}
 use Rattle.std.specs.List.{Contains, AllByRecursion, flat_map, filter_map, cons_option}
 use Rattle.std.specs.Option.{option_map_or, option_or}
@@ -39,11 +39,14 @@ use Rattle.kc_statement.proofs.FormulaLaws.{formula_term, formula_group}
 use Rattle.kc_value.specs.Assignment.{Assignment, as_tri, as_text, as_member, tri_letter}
 use Rattle.kc_value.specs.UserValues.{UserValues, user_value, chosen_in}
 use Rattle.kc_value.specs.ExprValue.{symbol_tri, modules_value, term_tri, term_text, tri_number, number_in_type, term_number, is_string_term, number_or_text_order, text_order, term_order, is_related, yes_if, formula_value, expr_value, conditions_value, own_condition}
-use Rattle.kc_value.specs.Conditions.{blocks_depend, blocks_visible, dependency, prompt_value, mode_around}
+use Rattle.kc_value.specs.Conditions.{blocks_depend, blocks_visible, dependency, prompt_value, mode_around, choice_prompt_value}
+use Rattle.kc_value.specs.ChangedValue.{same_mark, same_member}
+use Rattle.kc_value.specs.Dirty.{same_given, is_changed}
 use Rattle.kc_value.specs.Defaults.{default_condition, is_active}
 use Rattle.kc_value.specs.TextRule.{value_text, definition_text, default_text, number_or_zero, is_range_active, bounds_in, definition_bounds, is_number_type, bounds_of, user_text, clamped, text_rule}
 use Rattle.kc_value.specs.ChoiceRule.{mode, is_visible, is_symbol, visible_if, default_member, selection, selected_in, member_rule}
 use Rattle.kc_value.specs.Rule.{rule, in_type, has_modules, visibility, definition_default, default_value, reverse_value, reverse_values, direct, user_part, tri_rule, free_rule, symbol_rule}
+use Rattle.kc_value.proofs.SameLaws.{mark_is, given_is, member_is}
 
 module _ (a b : Assignment) where
   -- both give each of the nodes the same value
@@ -489,16 +492,42 @@ rule_agrees t u a b (Val s) h = val_agrees a b t s (user_value u s) (slice_get t
 rule_agrees t u a b (Mode c) h = of_mode_agrees a b t (chosen_in u c) (slice_get t.choices c.0) (Agree-from_contains a b (used_nodes t (Mode c)) h)
 rule_agrees t u a b (Sel c) h = of_selection_agrees a b t c (chosen_in u c) (slice_get t.choices c.0) refl (Agree-from_contains a b (used_nodes t (Sel c)) h)
 
--- user values enter at the value of their symbol alone, and a chosen member at the mode and the selection of its choice
-pub rule_user : (t : TreeValue) (u w : UserValues) (a : Assignment) (n : Node)
-    → ((s : SymId) → n ≡ Val s → user_value u s ≡ user_value w s)
-    → ((c : ChoiceId) → (n ≡ Mode c) ⊎ (n ≡ Sel c) → chosen_in u c ≡ chosen_in w c)
-    → rule t u a n ≡ rule t w a n
+-- ---- user values
+not_false : (x : Bool) → not x ≡ false → x ≡ true
+not_false true e = refl
+not_false false e = absurd (true≢false e)
+
+module _ (t : TreeValue) (a : Assignment) where
+  -- the user value of a member of a choice is read by nothing
+  user_value_in : (s : SymId) (v w : Option UserVal) (x : SymbolValue) (o : Option ChoiceId) → (not (is_some o) && not (same_given v w)) ≡ false
+      → option_map_or (λ c. member_rule t a c s (as_tri (a (Vis s)))) o (free_rule t a x (as_tri (a (Vis s))) v)
+      ≡ option_map_or (λ c. member_rule t a c s (as_tri (a (Vis s)))) o (free_rule t a x (as_tri (a (Vis s))) w)
+  user_value_in s v w x None e = ap (free_rule t a x (as_tri (a (Vis s)))) (given_is v w (not_false (same_given v w) e))
+  user_value_in s v w x (Some c) e = refl
+
+  value_in : (s : SymId) (v w : Option UserVal) (o : Option SymbolValue) → (not (is_some (option_and_then (λ x. x.choice) o)) && not (same_given v w)) ≡ false
+      → option_map_or (λ x. symbol_rule t a s x (as_tri (a (Vis s))) v) o (Level No) ≡ option_map_or (λ x. symbol_rule t a s x (as_tri (a (Vis s))) w) o (Level No)
+  value_in s v w None e = refl
+  value_in s v w (Some x) e = user_value_in s v w x x.choice e
+
+  -- the mode of an optional choice reads whether a member is chosen, and that of another nothing
+  chosen_read : (optional m n : Bool) → (optional && not (same_mark m n)) ≡ false → (not optional || m) ≡ (not optional || n)
+  chosen_read true m n e = mark_is m n (not_false (same_mark m n) e)
+  chosen_read false m n e = refl
+
+  mode_in : (m n : Option SymId) (o : Option ChoiceValue) → (option_map_or (λ x. x.is_optional) o false && not (same_mark (is_some m) (is_some n))) ≡ false
+      → option_map_or (λ x. Level (mode t a x m)) o (Level No) ≡ option_map_or (λ x. Level (mode t a x n)) o (Level No)
+  mode_in m n None e = refl
+  mode_in m n (Some x) e =
+      ap (λ r. Level (yes_if (not (is_no (choice_prompt_value t a x)) && r))) (chosen_read x.is_optional (is_some m) (is_some n) e)
+
+-- user values enter at the nodes alone that change with them: a symbol's value, if it is no member of a choice, the
+-- selection of a choice, and the mode of one that is optional
+pub rule_user : (t : TreeValue) (u w : UserValues) (a : Assignment) (n : Node) → is_changed t u w n ≡ false → rule t u a n ≡ rule t w a n
 unfolding rule
-rule_user t u w a (Vis s) values chosen = refl
-rule_user t u w a (Val s) values chosen =
-    ap (λ v. option_map_or (λ x. symbol_rule t a s x (as_tri (a (Vis s))) v) (slice_get t.symbols s.0) (Level No)) (values s refl)
-rule_user t u w a (Mode c) values chosen =
-    ap (λ m. option_map_or (λ x. Level (mode t a x m)) (slice_get t.choices c.0) (Level No)) (chosen c (inl refl))
-rule_user t u w a (Sel c) values chosen =
-    ap (λ m. option_map_or (λ x. Member (selection t a c x m)) (slice_get t.choices c.0) (Level No)) (chosen c (inr refl))
+rule_user t u w a (Vis s) e = refl
+rule_user t u w a (Val s) e = value_in t a s (user_value u s) (user_value w s) (slice_get t.symbols s.0) e
+rule_user t u w a (Mode c) e = mode_in t a (chosen_in u c) (chosen_in w c) (slice_get t.choices c.0) e
+rule_user t u w a (Sel c) e =
+    ap (λ m. option_map_or (λ x. Member (selection t a c x m)) (slice_get t.choices c.0) (Level No))
+    (member_is (chosen_in u c) (chosen_in w c) (not_false (same_member (chosen_in u c) (chosen_in w c)) e))

@@ -145,7 +145,20 @@ visible_values t t₁ t₂ u u₁ s env lent items e₁ f₁ e₂ g sized right 
     ∙ shown_agrees t u (assignment_of t env) (solution t u) s same
     ∙ sym (ap (λ b. if b then [] else (if is_some (choice_of t s) then Yes ∷ [] else all)) seen ∙ ap (λ b. if b then Yes ∷ [] else all) alone)
 
--- the same of what was shown over the values of all nodes
+-- the same where the list has the values of the used nodes
+pub used_values : (t : TreeValue) (u : UserValues) (s : SymId) (values : List (Option Value)) (items : List Tri)
+    → ((n : Node) → Uses t (Val s) n → assignment_of t values n ≡ solution t u n)
+    → items ≡ filter (is_shown_with_some t u (assignment_of t values) s) (No ∷ Module ∷ Yes ∷ [])
+    → is_no (as_tri (solution t u (Vis s))) ≡ false
+    → is_some (choice_of t s) ≡ false
+    → items ≡ assignable_in t u (solution t u) s
+used_values t u s values items right shown seen alone =
+    let all = filter (is_shown_with_some t u (solution t u) s) (No ∷ Module ∷ Yes ∷ []) in
+    shown
+    ∙ shown_agrees t u (assignment_of t values) (solution t u) s right
+    ∙ sym (ap (λ b. if b then [] else (if is_some (choice_of t s) then Yes ∷ [] else all)) seen ∙ ap (λ b. if b then Yes ∷ [] else all) alone)
+
+-- and where it has the values of all nodes
 pub solved_values : (t : TreeValue) (u : UserValues) (s : SymId) (values : List (Option Value)) (items : List Tri)
     → IsAccepted t → IsNodeOf t (Val s) → AreSolved t u values
     → items ≡ filter (is_shown_with_some t u (assignment_of t values) s) (No ∷ Module ∷ Yes ∷ [])
@@ -153,10 +166,7 @@ pub solved_values : (t : TreeValue) (u : UserValues) (s : SymId) (values : List 
     → is_some (choice_of t s) ≡ false
     → items ≡ assignable_in t u (solution t u) s
 solved_values t u s values items accepted node solved shown seen alone =
-    let all = filter (is_shown_with_some t u (solution t u) s) (No ∷ Module ∷ Yes ∷ []) in
-    shown
-    ∙ shown_agrees t u (assignment_of t values) (solution t u) s (λ n uses. solved n (accepted.within (Val s) n node uses))
-    ∙ sym (ap (λ b. if b then [] else (if is_some (choice_of t s) then Yes ∷ [] else all)) seen ∙ ap (λ b. if b then Yes ∷ [] else all) alone)
+    used_values t u s values items (λ n uses. solved n (accepted.within (Val s) n node uses)) shown seen alone
 
 -- y alone can be given to a visible member
 pub member_values : (t : TreeValue) (u : UserValues) (s : SymId) (items : List Tri) → items ≡ Yes ∷ [] → is_no (as_tri (solution t u (Vis s))) ≡ false → is_some (choice_of t s) ≡ true

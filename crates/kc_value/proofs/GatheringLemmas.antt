@@ -1,7 +1,8 @@
 -- Asking nodes one after another, and keeping what they give.
-use Rattle.std.proofs.Common.{◌≡◌, ◌↔◌, ℕ, ◌+◌, ◌<◌, ◌≤◌, ◌-◌, List, [], ◌∷◌, ◌++◌, map, length, get_or, take, drop, Option, Some, None, unwrap_or, refl, sym, ap, ◌∙◌, subst, ⊎_elim, arith}
+use Rattle.std.proofs.Common.{◌≡◌, ◌↔◌, ℕ, ◌+◌, ◌<◌, ◌≤◌, ◌-◌, List, [], ◌∷◌, ◌++◌, map, length, get_or, take, drop, Option, Some, None, unwrap_or, refl, sym, ap, ◌∙◌, set, subst, ⊎_elim, get_or-set_same, get_or-set_other, arith}
 use Rattle.std.specs.List.{Contains, range_with_len}
-use Rattle.std.proofs.lemmas.List.{take_all, drop_more, length-drop}
+use Rattle.std.proofs.lemmas.Bool.{cases_eq}
+use Rattle.std.proofs.lemmas.List.{take_all, take_more, drop_more, length-drop}
 use Rattle.std.proofs.lemmas.List.Elements.{Contains-push_cases, Contains-get_or}
 use Rattle.std.proofs.lemmas.List.FromFn.{get_or-map-range_with_len, length-map-range_with_len, map-range_with_len_more}
 use Rattle.kc_tree.specs.declared.node.Node.{Node}
@@ -11,12 +12,13 @@ use Rattle.kc_tree.specs.Nodes.{IsNodeOf, node_count, number_of, node_at, all_no
 use Rattle.kc_tree.specs.Accepted.{IsAccepted}
 use Rattle.kc_tree.specs.Uses.{Uses}
 use Rattle.kc_tree.specs.Reached.{Reached, Leads, step}
-use Rattle.kc_tree.proofs.NodeNumbers.{node_at-number_of, number_below}
+use Rattle.kc_tree.proofs.NodeNumbers.{node_at-number_of, number_below, same_node}
 use Rattle.kc_value.specs.declared.value.Value.{Value}
 use Rattle.kc_value.specs.declared.value.Value.TheVariants.{Tri as Level}
 use Rattle.kc_value.specs.Assignment.{assignment_of}
 use Rattle.kc_value.specs.UserValues.{UserValues}
 use Rattle.kc_value.specs.Solution.{solution}
+use Rattle.kc_value.proofs.PartLemmas.{Contains-from_take}
 
 -- all nodes and one of them once more reach no more than all nodes do
 pub once_more_in_all : (t : TreeValue) (k : ℕ) → k < node_count t → (n : Node) → Reached t (all_nodes t ++ node_at t k ∷ []) n → Reached t (all_nodes t) n
@@ -106,3 +108,30 @@ pub used_are_nodes : (t s : TreeValue) (n : Node) (used nodes items : List Node)
 used_are_nodes t s n used nodes items tree accepted inside exact copied lent m c =
     let uses : Uses s n m = (exact m).0 (subst (λ xs. Contains xs m) (lent ∙ copied) c) in
     used_is_node t s n m tree accepted inside (subst (λ x. Uses x n m) tree uses)
+
+-- the values of the first nodes of a list are right, and one more
+module _ (t : TreeValue) (u : UserValues) (nodes : List Node) (i : ℕ) (d : Node) (within : i < length nodes) (inside : IsNodeOf t (get_or nodes i d)) where
+  abbrev added : Node
+  added = get_or nodes i d
+
+  pub one_more_right : ((m : Node) → Contains nodes m → IsNodeOf t m) → (env : List (Option Value)) (v : Value) → length env ≡ node_count t → v ≡ solution t u added
+      → ((m : Node) → Contains (take i nodes) m → assignment_of t env m ≡ solution t u m)
+      → (m : Node) → Contains (take (i + 1) nodes) m → assignment_of t (set env (number_of t added) (Some v)) m ≡ solution t u m
+  one_more_right nodes_in env v long is right m c =
+      ⊎_elim same other (cases_eq (number_of t m) (number_of t added))
+    where
+      room : number_of t added < length env
+      room = subst (λ k. number_of t added < k) (sym long) (number_below t added inside)
+
+      same : number_of t m ≡ number_of t added → assignment_of t (set env (number_of t added) (Some v)) m ≡ solution t u m
+      same e =
+          let one : m ≡ added = same_node t m added (nodes_in m (Contains-from_take (i + 1) nodes (omega (arith, within)) m c)) inside e in
+          ap (λ k. unwrap_or (get_or (set env (number_of t added) (Some v)) k None) (Level No)) e
+          ∙ ap (λ o. unwrap_or o (Level No)) (get_or-set_same env (number_of t added) (Some v) None room)
+          ∙ is ∙ ap (solution t u) (sym one)
+
+      other : (number_of t m ≡ number_of t added → ⊥) → assignment_of t (set env (number_of t added) (Some v)) m ≡ solution t u m
+      other differs =
+          ap (λ o. unwrap_or o (Level No)) (get_or-set_other env (number_of t added) (number_of t m) (Some v) None differs)
+          ∙ ⊎_elim (λ before. right m before) (λ here. absurd (differs (ap (number_of t) (sym here))))
+          (Contains-push_cases (take i nodes) added m (subst (λ xs. Contains xs m) (take_more nodes i d within) c))

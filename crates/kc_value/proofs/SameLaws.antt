@@ -11,6 +11,7 @@ use Rattle.kc_value.specs.declared.value.Value.{Value}
 use Rattle.kc_value.specs.declared.value.Value.TheVariants.{Tri as Level, Shown, Member}
 use Rattle.kc_value.specs.Assignable.{same_tri}
 use Rattle.kc_value.specs.ChangedValue.{same_mark, same_user_value, same_member, same_value}
+use Rattle.kc_value.specs.Dirty.{same_given}
 
 same_tri_refl : (v : Tri) → same_tri v v ≡ true
 same_tri_refl No = refl
@@ -28,7 +29,7 @@ tri_is Yes No e = absurd (true≢false (sym e))
 tri_is Yes Module e = absurd (true≢false (sym e))
 tri_is Yes Yes e = refl
 
-mark_is : (m n : Bool) → same_mark m n ≡ true → m ≡ n
+pub mark_is : (m n : Bool) → same_mark m n ≡ true → m ≡ n
 mark_is true true e = refl
 mark_is true false e = sym e
 mark_is false true e = e
@@ -43,7 +44,7 @@ user_value_is (Text v) (Text w) e = ap Text ((bytes_eq-Decides v w).0 e)
 abbrev numbered : ℕ → Option SymId
 numbered n = let m : SymId = record { 0 = n } in Some m
 
-member_is : (r s : Option SymId) → same_member r s ≡ true → r ≡ s
+pub member_is : (r s : Option SymId) → same_member r s ≡ true → r ≡ s
 member_is None None e = refl
 member_is None (Some s) e = absurd (true≢false (sym e))
 member_is (Some r) None e = absurd (true≢false (sym e))
@@ -70,7 +71,7 @@ user_value_refl : (x : UserVal) → same_user_value x x ≡ true
 user_value_refl (TriVal v) = same_tri_refl v
 user_value_refl (Text w) = (bytes_eq-Decides w w).1 refl
 
-mark_refl : (m : Bool) → same_mark m m ≡ true
+pub mark_refl : (m : Bool) → same_mark m m ≡ true
 mark_refl true = refl
 mark_refl false = refl
 
@@ -79,6 +80,21 @@ value_refl (Level v) = same_tri_refl v
 value_refl (Shown x m) = ap (λ b. b && same_mark m m) (user_value_refl x) ∙ mark_refl m
 value_refl (Member None) = refl
 value_refl (Member (Some s)) = eq-eqb s.0 s.0 refl
+
+-- ---- what a user gave and chose
+pub given_is : (v w : Option UserVal) → same_given v w ≡ true → v ≡ w
+given_is None None e = refl
+given_is None (Some w) e = absurd (true≢false (sym e))
+given_is (Some v) None e = absurd (true≢false (sym e))
+given_is (Some v) (Some w) e = ap Some (user_value_is v w e)
+
+pub given_refl : (v : Option UserVal) → same_given v v ≡ true
+given_refl None = refl
+given_refl (Some v) = user_value_refl v
+
+pub member_refl : (m : Option SymId) → same_member m m ≡ true
+member_refl None = refl
+member_refl (Some s) = eq-eqb s.0 s.0 refl
 
 -- the values are the same where the test says so, and nowhere else
 pub same_is : (v w : Value) → (same_value v w ≡ true) ↔ (v ≡ w)

@@ -61,7 +61,7 @@ module _ (t : TreeValue) (u : UserValues) where
         ∙ sym (sb n node))
         (Contains-push_cases (take i order) (get_or order i n) n in_more)
 
-    whole : (n : Node) → IsNodeOf t n → Contains (take (length order) order) n
+    pub whole : (n : Node) → IsNodeOf t n → Contains (take (length order) order) n
     whole n h = subst (λ xs. Contains xs n) (sym (take_all (length order) order (omega arith))) (ok.all n h)
 
     solves : IsSolution t u (solution t u)

@@ -6,9 +6,11 @@ pub mod ChoiceRule
 pub mod Conditions
 pub mod Counting
 pub mod Defaults
+pub mod Dirty
+pub mod DropWalk
 pub mod ExprValue
 pub mod Fresh
-pub mod Marks
+pub mod Kept
 pub mod Numerals
 pub mod Replay
 pub mod Rule

@@ -1,6 +1,7 @@
 //! The values that a user can give a symbol with an effect.
 
 ghost use Rattle.std.specs.Prelude.{◌≡◌, [], ◌∷◌, ◌++◌, ◌||◌, ◌&&◌, false, Some, IfOk, OnOk, if◌then◌else◌, filter, is_some};
+ghost use Rattle.kc_tree.specs.declared.node.Node.{Node};
 ghost use Rattle.kc_tree.specs.declared.node.Node.TheVariants.{Vis, Val};
 ghost use Rattle.kc_statement.specs.declared.symbol_type.SymbolType.TheVariants.{Tristate};
 ghost use Rattle.kc_tree.specs.declared.user_value.UserVal.TheVariants.{Tri as TriVal};
@@ -8,12 +9,13 @@ ghost use Rattle.kc_statement.specs.declared.tri.Tri.TheVariants.{No, Module, Ye
 ghost use Rattle.kc_tree.specs.Accepted.{IsAccepted};
 ghost use Rattle.kc_tree.specs.Nodes.{IsNodeOf};
 ghost use Rattle.kc_tree.specs.SymbolFaults.{is_tri_type};
+ghost use Rattle.kc_tree.specs.Uses.{Uses};
 ghost use Rattle.kc_outline.specs.TreeOf.{same_type};
 ghost use Rattle.kc_outline.specs.TreeValue.{choice_of};
 ghost use Rattle.kc_value.specs.Assignable.{same_tri, is_shown_with_some, assignable_values};
 ghost use Rattle.kc_value.specs.Assignment.{as_tri, assignment_of};
 ghost use Rattle.kc_value.specs.Rule.{tri_rule};
-ghost use Rattle.kc_value.specs.Solution.{AreSolved};
+ghost use Rattle.kc_value.specs.Solution.{solution, AreSolved};
 ghost use Rattle.kc_value.specs.UserValues.{UserValues, IsUserFor};
 
 use crate::expr_value::node_tri;
@@ -156,7 +158,8 @@ pub fn assignable<R: Resolver>(
     Ok(values)
 }
 
-/// The values that a user can give a symbol with an effect, as [`assignable`] has them, over the values of all nodes.
+/// The values that a user can give a symbol with an effect, as [`assignable`] has them, over the values of all nodes, or
+/// of those that the value of the symbol is computed from.
 ///
 /// The error comes where memory is refused.
 pub fn assignable_among(
@@ -166,7 +169,10 @@ pub fn assignable_among(
     symbol: SymId,
 ) -> Result<Vec<Tri>, AllocError>
     requires { IsNodeOf tree.now (Vis symbol) }
-    ensures { (u : UserValues) → IsUserFor tree.now u → AreSolved tree.now u values.now
+    ensures solved { (u : UserValues) → IsUserFor tree.now u → AreSolved tree.now u values.now
+        → IfOk result (λ v. v.items ≡ assignable_values tree.now u symbol) }
+    ensures used { (u : UserValues) → IsUserFor tree.now u
+        → ((n : Node) → Uses tree.now (Val symbol) n → assignment_of tree.now values.now n ≡ solution tree.now u n)
         → IfOk result (λ v. v.items ≡ assignable_values tree.now u symbol) }
 {
     if node_tri(tree, values, Node::Vis(symbol)).is_no() {

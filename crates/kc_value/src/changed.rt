@@ -16,7 +16,7 @@ use kc_tree::{Node, SymId, Tree, Tri, UserVal};
 use std::alloc::{AllocError, Global};
 
 /// Whether two user values are the same; texts are so as they are spelt.
-fn is_same_user_value(left: &UserVal, right: &UserVal) -> bool
+pub(crate) fn is_same_user_value(left: &UserVal, right: &UserVal) -> bool
     ensures { result ≡ same_user_value left.now right.now }
 {
     match (left, right) {
@@ -27,7 +27,7 @@ fn is_same_user_value(left: &UserVal, right: &UserVal) -> bool
 }
 
 /// Whether the same member, or none, is selected.
-fn is_same_member(left: Option<SymId>, right: Option<SymId>) -> bool
+pub(crate) fn is_same_member(left: Option<SymId>, right: Option<SymId>) -> bool
     ensures { result ≡ same_member left right }
 {
     match (left, right) {

@@ -66,7 +66,7 @@ fn selection(tree: &Tree, user: &User, env: &[Option<Value>], id: ChoiceId) -> V
 
 /// What the rule of a node gives over the values of the nodes that it uses, which stand in `env` by number; n for a
 /// node that the tree doesn't have. The error comes where memory is refused for a text.
-pub(crate) fn apply_rule(
+fn apply_rule(
     alloc: Global,
     tree: &Tree,
     user: &User,

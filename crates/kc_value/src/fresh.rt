@@ -3,41 +3,28 @@ ghost use Rattle.kc_tree.specs.Nodes.{IsNodeOf};
 ghost use Rattle.kc_value.specs.Solution.{solution, IsOnlySolution};
 ghost use Rattle.kc_value.specs.UserValues.{IsUserFor};
 
-use crate::evaluation::apply_rule;
-use crate::marking::marked_nodes;
+use crate::kept_values::KeptValues;
 use crate::resolver::Resolver;
-use crate::slots::empty_slots;
 use crate::user::User;
 use crate::value::Value;
 use kc_tree::{Node, Tree, Tri};
 use std::alloc::{AllocError, Global};
 
 /// The value of a node in the only solution: the assignment in which each node of the tree has the value
-/// that its rule gives. Only the node and those that it is computed from are evaluated, in the tree's
-/// order, and nothing is kept.
+/// that its rule gives. Only the node and those that it is computed from are evaluated, each once and after
+/// all that it uses, and nothing is kept.
 ///
 /// That there is a solution, and no other, holds whatever the call returns. The error comes where memory is refused
-/// for a place for each node, or for a text.
+/// for a place for each node, for the path to a node, or for a text.
 pub fn solve(alloc: Global, tree: &Tree, user: &User, node: Node) -> Result<Value, AllocError>
     requires { IsNodeOf tree.now node }
     ensures value { IfOk result (λ v. v ≡ solution tree.now user.now node) }
     ensures solved { IsOnlySolution tree.now user.now (solution tree.now user.now) }
 {
-    let count = tree.node_count();
-    let marks = marked_nodes(alloc, tree, node)?;
-    let mut env = empty_slots(alloc, count)?;
-    for next in tree.order() {
-        let number = tree.number(*next);
-        if !marks[number] {
-            continue;
-        }
-        let value = apply_rule(alloc, tree, user, env.as_slice(), *next)?;
-        if number == tree.number(node) {
-            return Ok(value);
-        }
-        env[number] = Some(value);
-    }
-    unreachable!()
+    let number = tree.number(node);
+    let mut kept = KeptValues::new(alloc, tree)?;
+    kept.fill(alloc, tree, user, node)?;
+    Ok(kept.into_value(number))
 }
 
 /// A resolver that keeps nothing from one call to the next: each `node` is a [`solve`].

@@ -7,6 +7,7 @@ ghost use Rattle.kc_value.specs.UserValues.{UserValues, IsUserFor, no_values, wi
 ghost use Rattle.kc_value.specs.Solution.{solution, IsOnlySolution};
 
 use crate::slots::{clear_slots, empty_slots};
+use kc_text::Text;
 use kc_tree::{ChoiceId, SymId, Tree, UserVal};
 use std::alloc::{AllocError, Global};
 use std::marker::Model;
@@ -109,4 +110,42 @@ impl User {
             Some(None) | None => None,
         }
     }
+
+    /// A copy. The error comes where memory is refused.
+    pub fn copy(&self, alloc: Global) -> Result<User, AllocError>
+        ensures { IfOk result (λ u. u ≡ self.now) }
+    {
+        Ok(User {
+            values: copy_values(alloc, self.values.as_slice())?,
+            chosen: Vec::from_slice(alloc, self.chosen.as_slice())?,
+        })
+    }
+}
+
+/// A copy of a user value. The error comes where memory is refused for a text.
+fn copy_value(alloc: Global, value: &UserVal) -> Result<UserVal, AllocError>
+    ensures { IfOk result (λ v. v ≡ value.now) }
+{
+    match value {
+        UserVal::Tri(tri) => Ok(UserVal::Tri(*tri)),
+        UserVal::Text(text) => Ok(UserVal::Text(Text::copy_of(alloc, text.as_str())?)),
+    }
+}
+
+/// A copy of the user values of all symbols. The error comes where memory is refused.
+fn copy_values(
+    alloc: Global,
+    values: &[Option<UserVal>],
+) -> Result<Vec<Option<UserVal>>, AllocError>
+    ensures { IfOk result (λ v. v.items ≡ values.now) }
+{
+    let mut copies = Vec::with_capacity(alloc, values.len())?;
+    for value in values {
+        let copy = match value {
+            Some(value) => Some(copy_value(alloc, value)?),
+            None => None,
+        };
+        copies.push(copy)?;
+    }
+    Ok(copies)
 }

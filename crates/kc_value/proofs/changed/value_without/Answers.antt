@@ -1,7 +1,7 @@
-use Rattle.std.proofs.Common.{◌≡◌, true, false, refl, sym, ap, ◌∙◌, subst}
+use Rattle.std.proofs.Common.{◌≡◌, sym, ◌∙◌, subst}
 use Rattle.std.proofs.lemmas.Result.{IfOk-weaker}
 use Rattle.kc_tree.specs.declared.node.Node.{Node}
-use Rattle.kc_tree.specs.declared.node.Node.TheVariants.{Val, Sel}
+use Rattle.kc_tree.specs.declared.node.Node.TheVariants.{Val}
 use Rattle.kc_value.specs.Assignment.{assignment_of}
 use Rattle.kc_value.specs.Rule.{rule}
 use Rattle.kc_value.specs.Without.{user_without, value_without}

@@ -8,8 +8,7 @@ use Rattle.kc_tree.specs.Uses.{Uses}
 use Rattle.kc_tree.proofs.NodeNumbers.{number_below}
 use Rattle.kc_value.specs.Assignment.{assignment_of}
 use Rattle.kc_value.specs.Solution.{solution}
-use Rattle.kc_value.proofs.FillLemmas.{one_more_right}
-use Rattle.kc_value.proofs.GatheringLemmas.{used_in_one, used_at, used_in_all, used_is_node, used_are_nodes}
+use Rattle.kc_value.proofs.GatheringLemmas.{used_in_one, used_at, used_in_all, used_is_node, used_are_nodes, one_more_right}
 use Rattle.kc_value.proofs.gathering.used_values.Goals as goal
 
 abbrev any : Node

@@ -1,0 +1,144 @@
+//! Dropping what an edit of the user values can change, before the edit: exactly what is computed from a node that changes.
+
+ghost use Rattle.std.specs.Prelude.{◌≡◌, ◌&&◌, [], ◌∷◌, not, is_some};
+ghost use Rattle.std.specs.Option.{option_copied};
+ghost use Rattle.kc_outline.specs.TreeValue.{choice_of};
+ghost use Rattle.kc_tree.specs.declared.node.Node.TheVariants.{Val, Sel};
+ghost use Rattle.kc_tree.specs.Accepted.{IsAccepted};
+ghost use Rattle.kc_tree.specs.Nodes.{IsNodeOf};
+ghost use Rattle.kc_tree.specs.Uses.{nodes_if};
+ghost use Rattle.kc_value.specs.ChangedValue.{same_mark};
+ghost use Rattle.kc_value.specs.Dirty.{same_given, is_changed, Drops, Edits};
+ghost use Rattle.kc_value.specs.Kept.{AreKept, IsClosed};
+ghost use Rattle.kc_value.specs.UserValues.{IsUserFor, with_value, with_chosen};
+ghost use Rattle.kc_value.specs.Without.{is_optional_choice};
+
+use crate::changed::{is_same_member, is_same_user_value};
+use crate::kept_values::KeptValues;
+use crate::user::User;
+use kc_tree::{ChoiceId, Node, SymId, Tree, UserVal};
+
+/// Whether a user value, or none, is the same as another; texts are so as they are spelt.
+fn is_same_given(left: Option<&UserVal>, right: Option<&UserVal>) -> bool
+    ensures { result ≡ same_given (option_copied left.entry) (option_copied right.entry) }
+{
+    match (left, right) {
+        (None, None) => true,
+        (Some(left), Some(right)) => is_same_user_value(left, right),
+        (None, Some(_)) | (Some(_), None) => false,
+    }
+}
+
+/// Whether the value of a symbol changes where its user value becomes another: that of a member of a choice does not.
+fn is_value_changed(
+    tree: &Tree,
+    symbol: SymId,
+    from: Option<&UserVal>,
+    to: Option<&UserVal>,
+) -> bool
+    ensures change { result ≡ (not (is_some (choice_of tree.now symbol))
+        && not (same_given (option_copied from.entry) (option_copied to.entry))) }
+    ensures accepted { IsAccepted tree.now }
+{
+    let is_member = match tree.symbols().get(symbol.0 as usize) {
+        Some(found) => found.choice().is_some(),
+        None => false,
+    };
+    !is_member && !is_same_given(from, to)
+}
+
+/// Whether the mode of a choice changes where its chosen member becomes another: only an optional choice reads whether
+/// there is one.
+fn is_mode_changed(tree: &Tree, choice: ChoiceId, from: Option<SymId>, to: Option<SymId>) -> bool
+    ensures change { result ≡ (is_optional_choice tree.now choice && not (same_mark (is_some from) (is_some to))) }
+    ensures accepted { IsAccepted tree.now }
+{
+    let is_optional = match tree.choices().get(choice.0 as usize) {
+        Some(found) => found.is_optional(),
+        None => false,
+    };
+    is_optional && from.is_some() != to.is_some()
+}
+
+/// Whether a node changes where the user values become others.
+fn is_node_changed(tree: &Tree, user: &User, next: &User, node: Node) -> bool
+    ensures { result ≡ is_changed tree.now user.now next.now node }
+{
+    match node {
+        Node::Vis(_) => false,
+        Node::Val(symbol) => is_value_changed(tree, symbol, user.get(symbol), next.get(symbol)),
+        Node::Mode(choice) => {
+            is_mode_changed(tree, choice, user.chosen(choice), next.chosen(choice))
+        }
+        Node::Sel(choice) => !is_same_member(user.chosen(choice), next.chosen(choice)),
+    }
+}
+
+impl KeptValues {
+    /// Drops what is computed from a node, if that changes, and else nothing.
+    #[tactic(auto, using(crate::proofs::EditLemmas::nothing_dropped))]
+    fn drop_if(&mut self, tree: &Tree, changes: bool, node: Node)
+        requires inside { IsNodeOf tree.now node }
+        requires closed { IsClosed tree.now self.old.values }
+        ensures closed { IsClosed tree.now self.new.values }
+        ensures drops { Drops tree.now (nodes_if changes (node ∷ [])) self.old.values self.new.values }
+        ensures evals { self.new.evals ≡ self.old.evals }
+    {
+        if changes {
+            self.drop_node(tree, node);
+        }
+    }
+
+    /// Drops what changes where a symbol is given a user value, or none, in place of the one that it has. This takes no
+    /// memory.
+    pub fn drop_for_value(
+        &mut self,
+        tree: &Tree,
+        user: &User,
+        symbol: SymId,
+        value: Option<&UserVal>,
+    )
+        requires inside { IsNodeOf tree.now (Val symbol) }
+        requires user { IsUserFor tree.now user.now }
+        requires kept { AreKept tree.now user.now self.old.values }
+        ensures kept { AreKept tree.now (with_value user.now symbol (option_copied value.entry)) self.new.values }
+        ensures edits { Edits tree.now user.now (with_value user.now symbol (option_copied value.entry)) self.old self.new }
+    {
+        let changes = is_value_changed(tree, symbol, user.get(symbol), value);
+        self.drop_if(tree, changes, Node::Val(symbol));
+    }
+
+    /// Drops what changes where a member of a choice is chosen, or none, in place of the one that is chosen. This takes
+    /// no memory.
+    pub fn drop_for_chosen(
+        &mut self,
+        tree: &Tree,
+        user: &User,
+        choice: ChoiceId,
+        member: Option<SymId>,
+    )
+        requires inside { IsNodeOf tree.now (Sel choice) }
+        requires user { IsUserFor tree.now user.now }
+        requires kept { AreKept tree.now user.now self.old.values }
+        ensures kept { AreKept tree.now (with_chosen user.now choice member) self.new.values }
+        ensures edits { Edits tree.now user.now (with_chosen user.now choice member) self.old self.new }
+    {
+        let chosen = user.chosen(choice);
+        let mode_changes = is_mode_changed(tree, choice, chosen, member);
+        self.drop_if(tree, mode_changes, Node::Mode(choice));
+        let selection_changes = !is_same_member(chosen, member);
+        self.drop_if(tree, selection_changes, Node::Sel(choice));
+    }
+
+    /// Drops what changes where all user values are replaced. This takes no memory.
+    pub fn drop_for_user(&mut self, tree: &Tree, user: &User, next: &User)
+        requires kept { AreKept tree.now user.now self.old.values }
+        ensures kept { AreKept tree.now next.now self.new.values }
+        ensures edits { Edits tree.now user.now next.now self.old self.new }
+    {
+        for node in tree.order() {
+            let changes = is_node_changed(tree, user, next, *node);
+            self.drop_if(tree, changes, *node);
+        }
+    }
+}

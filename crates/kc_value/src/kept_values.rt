@@ -1,0 +1,135 @@
+//! The values of nodes that are kept from one question to the next, and the count of evaluations.
+
+ghost use Rattle.std.specs.Prelude.{◌≡◌, ◌↔◌, [], ◌∷◌, Some, None, IfOk, OnOk, OnErr, IsOk, is_some, true, length, slice_index_or, slice_set, replicate};
+ghost use Rattle.kc_tree.specs.Nodes.{IsNodeOf, node_count, number_of};
+ghost use Rattle.kc_value.specs.Assignment.{assignment_of, value_at};
+ghost use Rattle.kc_value.specs.Counting.{raised};
+ghost use Rattle.kc_value.specs.Kept.{KeptValue, nothing_kept, is_kept, IsKept};
+ghost use Rattle.kc_value.specs.Rule.{rule};
+
+use crate::evaluation::eval;
+use crate::meter::Meter;
+use crate::slots::empty_slots;
+use crate::user::User;
+use crate::value::Value;
+use kc_tree::{Node, Tree};
+use std::alloc::{AllocError, Global};
+use std::marker::Model;
+
+/// The values that are kept of a tree's nodes, and how many evaluations there were. Contracts see a value or none for
+/// each node, by number, and the count.
+#[derive(Drop)]
+pub struct KeptValues {
+    pub(crate) values: Vec<Option<Value>>,
+    /// The nodes whose users are still to be dropped, which takes no memory: there is room for all nodes.
+    pub(crate) dropped: Vec<Node>,
+    meter: Meter,
+}
+
+impl Model for KeptValues {
+    ghost use Rattle.std.specs.Prelude.{◌≤◌, length, vec_capacity};
+    ghost use Rattle.kc_value.specs.Kept.{KeptValue};
+
+    ghost Value = { KeptValue };
+
+    ghost view = { λ k. record { values = k.values.items; evals = k.meter } };
+
+    ghost invariant = { λ k. length k.values.items ≤ vec_capacity k.dropped };
+}
+
+impl KeptValues {
+    /// Nothing is kept, and there is room for a value for each node of the tree.
+    ///
+    /// The error comes where memory is refused for that room.
+    pub fn new(alloc: Global, tree: &Tree) -> Result<KeptValues, AllocError>
+        ensures { IfOk result (λ k. k ≡ nothing_kept tree.now) }
+    {
+        let count = tree.node_count();
+        Ok(KeptValues {
+            values: empty_slots(alloc, count)?,
+            dropped: Vec::with_capacity(alloc, count)?,
+            meter: Meter::new(),
+        })
+    }
+
+    /// How many evaluations there were; from 2^64 - 1 on the count stays.
+    pub fn evals(&self) -> u64
+        ensures { result ≡ self.now.evals }
+    {
+        self.meter.count()
+    }
+
+    /// The values by number, with nothing for a node that is not kept.
+    pub fn values(&self) -> &[Option<Value>]
+        ensures { result.now ≡ self.now.values }
+    {
+        self.values.as_slice()
+    }
+
+    /// Whether the value of a node is kept.
+    pub fn is_kept(&self, tree: &Tree, node: Node) -> bool
+        ensures { result ≡ is_kept tree.now self.now.values node }
+    {
+        match self.values.get(tree.number(node)) {
+            Some(Some(_)) => true,
+            Some(None) | None => false,
+        }
+    }
+
+    /// The value of a node that is kept.
+    pub fn value(&self, tree: &Tree, node: Node) -> &Value
+        requires { IsKept tree.now self.now.values node }
+        ensures { value_at tree.now self.now.values node ≡ Some result.now }
+    {
+        match self.values.get(tree.number(node)) {
+            Some(Some(value)) => value,
+            Some(None) | None => unreachable!(),
+        }
+    }
+
+    /// Evaluates a node over the values that are kept, and keeps what it gives.
+    ///
+    /// The error comes where memory is refused for a text; nothing is kept or counted then.
+    pub(crate) fn evaluate(
+        &mut self,
+        alloc: Global,
+        tree: &Tree,
+        user: &User,
+        node: Node,
+    ) -> Result<(), AllocError>
+        requires inside { IsNodeOf tree.now node }
+        requires whole { length self.old.values ≡ node_count tree.now }
+        ensures value { OnOk result (self.new.values
+            ≡ slice_set self.old.values (number_of tree.now node) (Some (rule tree.now user.now (assignment_of tree.now self.old.values) node))) }
+        ensures counted { OnOk result (self.new.evals ≡ raised self.old.evals 1) }
+        ensures stays { OnErr result (self.new ≡ self.old) }
+    {
+        let value = eval(
+            alloc,
+            tree,
+            user,
+            self.values.as_slice(),
+            node,
+            &mut self.meter,
+        )?;
+        let number = tree.number(node);
+        self.values[number] = Some(value);
+        Ok(())
+    }
+
+    /// The value of the node of a number, which is kept.
+    pub(crate) fn into_value(self, number: usize) -> Value
+        requires { is_some (slice_index_or self.values number None) ≡ true }
+        ensures { slice_index_or self.values number None ≡ Some result }
+    {
+        let KeptValues {
+            mut values,
+            dropped: _,
+            meter: _,
+        } = self;
+        match values[number].take() {
+            Some(value) => value,
+            None => unreachable!(),
+        }
+    }
+}
