@@ -1,9 +1,11 @@
 pub mod AllValueLaws
 pub mod Appending
+pub mod AskedLaws
 pub mod BodyHolding
 pub mod BodyLines
 pub mod BodyMeaning
 pub mod Cutting
+pub mod EvaluationLaws
 mod Examples
 mod ReplyExamples
 pub mod Holding

@@ -1,5 +1,5 @@
 -- What an edit did, with or without its memory.
-use Rattle.std.proofs.Common.{◌≡◌, ◌≤◌, Bool, true, false, not, if◌then◌else◌, ℕ, List, [], length, Option, Some, None, is_some, IsTrue, sym, ap, ◌∙◌, subst, arith, replicate}
+use Rattle.std.proofs.Common.{◌≡◌, ◌≤◌, Bool, true, false, not, if◌then◌else◌, ℕ, List, [], length, Option, Some, None, is_some, IsTrue, refl, sym, ap, ◌∙◌, subst, arith, replicate}
 use Rattle.std.proofs.lemmas.Bool.{false≢true}
 use Rattle.std.proofs.lemmas.List.{set_past}
 use Rattle.std.specs.Option.{option_map_or}
@@ -17,6 +17,8 @@ use Rattle.kc_session.specs.declared.command.Refusal.{Refusal}
 use Rattle.kc_session.specs.declared.command.Refusal.TheVariants.{UnknownCommand, UndefinedSymbol, BadValue, BadMemberValue, BadLineCount, TooLong, NoMemory}
 use Rattle.kc_session.specs.declared.command.Reply.{Reply}
 use Rattle.kc_session.specs.declared.command.Reply.TheVariants.{Done, Refused}
+use Rattle.kc_value.proofs.KeptLaws.{edits_nothing}
+use Rattle.kc_session.specs.KeptResolver.{Edited, ResolverState}
 use Rattle.kc_session.specs.Session.{SessionValue, with_user}
 use Rattle.kc_session.specs.Values.{value_of}
 use Rattle.kc_session.specs.Effect.{Outcome, IsOutcome, IsApplied, perform, keeps_text, refuse, give_value, set_member, set_value, set_symbol, set_outcome, loaded, load_outcome}
@@ -133,6 +135,12 @@ load_done s load body text assigns u r n fits warnings counted user replied sess
 pub chosen_outside : (t : TreeValue) (u : UserValues) (c : ChoiceId) (m : Option SymId) → IsUserFor t u → length t.choices ≤ c.0 → with_chosen u c m ≡ u
 chosen_outside t u c m sized out =
     ap (λ x. record { values = u.values; chosen = x }) (set_past u.chosen c.0 m (omega (arith, sized.chosen, out)))
+
+-- .. so that nothing is dropped
+pub edited_outside : (r : ResolverState) (c : ChoiceId) (m : Option SymId) → IsUserFor r.tree r.user → length r.tree.choices ≤ c.0 → Edited r (with_chosen r.user c m) r
+edited_outside r c m sized out =
+    subst (λ u. Edited r u r) (sym (chosen_outside r.tree r.user c m sized out))
+    (record { tree = refl; user_is = refl; edits = edits_nothing r.tree r.user r.kept })
 
 -- all places are empty
 pub all_taken : (t : TreeValue) (old new : UserValues) → IsUserFor t old → new.values ≡ replicate (length old.values) None

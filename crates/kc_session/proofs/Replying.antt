@@ -13,6 +13,7 @@ use Rattle.kc_session.specs.declared.command_line.Request.TheVariants.{Whole, Wi
 use Rattle.kc_session.specs.Bodies.{fits_body}
 use Rattle.kc_session.specs.Commands.{request_of, request_of_text, load_command, lines_asked}
 use Rattle.kc_session.specs.Effect.{Outcome, IsOutcome, refuse, perform, loaded}
+use Rattle.kc_session.specs.EvaluationBound.{IsBounded}
 use Rattle.kc_session.specs.HeldBody.{HeldBody, GivesBody, body_held, joined, fit_lines}
 use Rattle.std.specs.Io.KnownBytes.{Appends}
 use Rattle.kc_session.specs.Held.{HeldLine, text_held}
@@ -20,7 +21,7 @@ use Rattle.kc_session.specs.NextCommand.{HoldsCommand}
 use Rattle.kc_session.specs.Output.{WritesPart}
 use Rattle.kc_session.specs.Replies.{body_outcome, request_outcome, outcome, reply_bytes}
 use Rattle.kc_session.specs.Serving.{AnswersCommand, StopsInReply}
-use Rattle.kc_session.specs.Session.{SessionValue, with_user}
+use Rattle.kc_session.specs.Session.{SessionState, SessionValue, with_user}
 use Rattle.kc_session.specs.Stream.{lines_of, text_if_fits}
 use Rattle.kc_session.specs.StreamCommands.{StreamCommand, lines_taken}
 use Rattle.kc_session.proofs.BodyHolding.{fits_body-joined}
@@ -117,14 +118,28 @@ module _ (s : SessionValue) (held : HeldBody) (text : Option (List ℕ)) (r : Re
       (loads k c.body (subst (λ m. GivesBody (body_held held) m c.body) (asked_lines c load k text is asked_is) gives) are)
 
 -- ---- the reply and its bytes
-pub answers_held : (s n : SessionValue) (line : HeldLine) (held : HeldBody) (text : Option (List ℕ)) (r : Reply) (w0 w1 : Option (List ℕ)) → text ≡ text_held line
-    → IsReplyToHeld s held text r n → Appends w0 w1 (reply_bytes r) → (c : StreamCommand) → HoldsCommand line held c → AnswersCommand c w0 w1 s n
-answers_held s n line held text r w0 w1 is replies wrote c h =
+pub answers_held : (s n : SessionState) (line : HeldLine) (held : HeldBody) (text : Option (List ℕ)) (r : Reply) (w0 w1 : Option (List ℕ)) → text ≡ text_held line
+    → IsReplyToHeld s.session held text r n.session → IsBounded s n → Appends w0 w1 (reply_bytes r) → (c : StreamCommand) → HoldsCommand line held c
+    → AnswersCommand c w0 w1 s n
+answers_held s n line held text r w0 w1 is replies bounded wrote c h =
     let o = replies c (is ∙ h.text) h.gives h.are_lines in
-    record { starved = o.starved; may = o.may; output = subst (λ x. Appends w0 w1 (reply_bytes x)) o.replied wrote; session_is = o.session }
+    record {
+      starved = o.starved;
+      may = o.may;
+      output = subst (λ x. Appends w0 w1 (reply_bytes x)) o.replied wrote;
+      session_is = o.session;
+      bounded = bounded;
+    }
 
-pub stops_held : (s n : SessionValue) (line : HeldLine) (held : HeldBody) (text : Option (List ℕ)) (r : Reply) (w0 w1 : Option (List ℕ)) → text ≡ text_held line
-    → IsReplyToHeld s held text r n → WritesPart w0 w1 (reply_bytes r) → (c : StreamCommand) → HoldsCommand line held c → StopsInReply c w0 w1 s n
-stops_held s n line held text r w0 w1 is replies wrote c h =
+pub stops_held : (s n : SessionState) (line : HeldLine) (held : HeldBody) (text : Option (List ℕ)) (r : Reply) (w0 w1 : Option (List ℕ)) → text ≡ text_held line
+    → IsReplyToHeld s.session held text r n.session → IsBounded s n → WritesPart w0 w1 (reply_bytes r) → (c : StreamCommand) → HoldsCommand line held c
+    → StopsInReply c w0 w1 s n
+stops_held s n line held text r w0 w1 is replies bounded wrote c h =
     let o = replies c (is ∙ h.text) h.gives h.are_lines in
-    record { starved = o.starved; may = o.may; output = subst (λ x. WritesPart w0 w1 (reply_bytes x)) o.replied wrote; session_is = o.session }
+    record {
+      starved = o.starved;
+      may = o.may;
+      output = subst (λ x. WritesPart w0 w1 (reply_bytes x)) o.replied wrote;
+      session_is = o.session;
+      bounded = bounded;
+    }

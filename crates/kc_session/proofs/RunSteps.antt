@@ -10,14 +10,14 @@ use Rattle.kc_session.specs.HeldBody.{HeldBody}
 use Rattle.kc_session.specs.NextLine.{TakesNothing}
 use Rattle.kc_session.specs.NextCommand.{HoldsCommand, IsWholeCommand, TakesWholeCommand, TakesLastCommand, StopsInCommand}
 use Rattle.kc_session.specs.Serving.{Answers, AnswersCommand, StopsInReply, ServesAll, StopsReading, StopsWriting, Serves}
-use Rattle.kc_session.specs.Session.{SessionValue}
+use Rattle.kc_session.specs.Session.{SessionState}
 use Rattle.kc_session.specs.StreamCommands.{StreamCommand, commands_of}
 use Rattle.kc_session.proofs.Cutting.{IsCutAfter, IsCutAfter-nil, IsCutAfter-more, commands_of-cut, commands_of-last, complete_commands_of-part}
 use Rattle.kc_session.proofs.Answered.{Answers-nil, Answers-push}
 use Rattle.kc_session.proofs.Unread.{Consumes-used_up, Consumes-at_end}
 
 -- what was read, written and done so far: whole commands
-pub record HasServed (from left : Option (List ℕ)) (written wrote : Option (List ℕ)) (s t : SessionValue) : Type 0 where
+pub record HasServed (from left : Option (List ℕ)) (written wrote : Option (List ℕ)) (s t : SessionState) : Type 0 where
   pub front : List ℕ
   pub done : List StreamCommand
   pub read : Consumes from left front
@@ -28,19 +28,19 @@ starts : (from : Option (List ℕ)) (unread : List ℕ) → unread ≡ [] → Co
 starts None unread none = tt
 starts (Some xs) unread none = sym (ap (λ bytes. bytes ++ xs) none)
 
-pub HasServed-nil : (from : Option (List ℕ)) (unread : List ℕ) (written : Option (List ℕ)) (s : SessionValue) → unread ≡ []
+pub HasServed-nil : (from : Option (List ℕ)) (unread : List ℕ) (written : Option (List ℕ)) (s : SessionState) → unread ≡ []
     → HasServed from (prepend_known unread from) written written s s
 HasServed-nil from unread written s none =
     record { front = []; done = []; read = starts from unread none; cut = IsCutAfter-nil; answered = Answers-nil written s }
 
 -- what answering a command gives, whichever command the buffers hold
-abbrev pub AnswersHeld : HeldLine → HeldBody → Option (List ℕ) → Option (List ℕ) → SessionValue → SessionValue → Type 0
+abbrev pub AnswersHeld : HeldLine → HeldBody → Option (List ℕ) → Option (List ℕ) → SessionState → SessionState → Type 0
 AnswersHeld line body written wrote s t = (c : StreamCommand) → HoldsCommand line body c → AnswersCommand c written wrote s t
 
-abbrev pub StopsInHeld : HeldLine → HeldBody → Option (List ℕ) → Option (List ℕ) → SessionValue → SessionValue → Type 0
+abbrev pub StopsInHeld : HeldLine → HeldBody → Option (List ℕ) → Option (List ℕ) → SessionState → SessionState → Type 0
 StopsInHeld line body written wrote s t = (c : StreamCommand) → HoldsCommand line body c → StopsInReply c written wrote s t
 
-pub HasServed-more : (from left after w0 w1 w2 : Option (List ℕ)) (line : HeldLine) (body : HeldBody) (s t v : SessionValue)
+pub HasServed-more : (from left after w0 w1 w2 : Option (List ℕ)) (line : HeldLine) (body : HeldBody) (s t v : SessionState)
     → HasServed from left w0 w1 s t → TakesWholeCommand left after line body → AnswersHeld line body w1 w2 t v → HasServed from after w0 w2 s v
 HasServed-more from left after w0 w1 w2 line body s t v so_far takes answers =
     record {
@@ -52,7 +52,7 @@ HasServed-more from left after w0 w1 w2 line body s t v so_far takes answers =
     }
 
 -- the stream has ended
-pub ServesAll-nothing : (from left rest w0 w1 : Option (List ℕ)) (unread : List ℕ) (s t : SessionValue)
+pub ServesAll-nothing : (from left rest w0 w1 : Option (List ℕ)) (unread : List ℕ) (s t : SessionState)
     → HasServed from left w0 w1 s t → TakesNothing left (prepend_known unread rest) → ServesAll from rest w0 w1 s t
 ServesAll-nothing from left rest w0 w1 unread s t so_far takes =
     let whole : Consumes from (prepend_known unread rest) so_far.front =
@@ -66,7 +66,7 @@ ServesAll-nothing from left rest w0 w1 unread s t so_far takes =
     }
 
 -- the stream has ended with its last command
-pub ServesAll-last : (from left rest w0 w1 w2 : Option (List ℕ)) (unread : List ℕ) (line : HeldLine) (body : HeldBody) (s t v : SessionValue)
+pub ServesAll-last : (from left rest w0 w1 w2 : Option (List ℕ)) (unread : List ℕ) (line : HeldLine) (body : HeldBody) (s t v : SessionState)
     → HasServed from left w0 w1 s t → TakesLastCommand left (prepend_known unread rest) line body → AnswersHeld line body w1 w2 t v → ServesAll from rest w0 w2 s v
 ServesAll-last from left rest w0 w1 w2 unread line body s t v so_far takes answers =
     let end = Consumes-at_end from rest unread (so_far.front ++ takes.bytes) (Consumes-trans from left (prepend_known unread rest) so_far.front takes.bytes so_far.read takes.taken) takes.end in
@@ -79,7 +79,7 @@ ServesAll-last from left rest w0 w1 w2 unread line body s t v so_far takes answe
     }
 
 -- reading failed within a command
-pub StopsReading-part : (from left rest w0 w1 : Option (List ℕ)) (unread : List ℕ) (s t : SessionValue)
+pub StopsReading-part : (from left rest w0 w1 : Option (List ℕ)) (unread : List ℕ) (s t : SessionState)
     → HasServed from left w0 w1 s t → StopsInCommand left (prepend_known unread rest) → unread ≡ [] → StopsReading from rest w0 w1 s t
 StopsReading-part from left rest w0 w1 unread s t so_far stops none =
     record {
@@ -106,7 +106,7 @@ commands_last (Some xs) (Some ys) (Some zs) front bytes done command p q end cut
     ap commands_of (p ∙ ap (λ rest. front ++ rest) all) ∙ commands_of-last front bytes done command cut only
 
 -- writing failed in the reply to a command behind which more may come
-pub StopsWriting-whole : (from left after w0 w1 w2 : Option (List ℕ)) (line : HeldLine) (body : HeldBody) (s t v : SessionValue)
+pub StopsWriting-whole : (from left after w0 w1 w2 : Option (List ℕ)) (line : HeldLine) (body : HeldBody) (s t v : SessionState)
     → HasServed from left w0 w1 s t → TakesWholeCommand left after line body → StopsInHeld line body w1 w2 t v → StopsWriting from w0 w2 s v
 StopsWriting-whole from left after w0 w1 w2 line body s t v so_far takes stops =
     record {
@@ -121,7 +121,7 @@ StopsWriting-whole from left after w0 w1 w2 line body s t v so_far takes stops =
     }
 
 -- writing failed in the reply to the last command
-pub StopsWriting-last : (from left after w0 w1 w2 : Option (List ℕ)) (line : HeldLine) (body : HeldBody) (s t v : SessionValue)
+pub StopsWriting-last : (from left after w0 w1 w2 : Option (List ℕ)) (line : HeldLine) (body : HeldBody) (s t v : SessionState)
     → HasServed from left w0 w1 s t → TakesLastCommand left after line body → StopsInHeld line body w1 w2 t v → StopsWriting from w0 w2 s v
 StopsWriting-last from left after w0 w1 w2 line body s t v so_far takes stops =
     record {
@@ -136,7 +136,7 @@ StopsWriting-last from left after w0 w1 w2 line body s t v so_far takes stops =
     }
 
 -- how serving ends with the reply to the last command
-pub Serves-last : (r : Result (Unit {0}) IoFault) (from left rest w0 w1 w2 : Option (List ℕ)) (unread : List ℕ) (line : HeldLine) (body : HeldBody) (s t v : SessionValue)
+pub Serves-last : (r : Result (Unit {0}) IoFault) (from left rest w0 w1 w2 : Option (List ℕ)) (unread : List ℕ) (line : HeldLine) (body : HeldBody) (s t v : SessionState)
     → HasServed from left w0 w1 s t → TakesLastCommand left (prepend_known unread rest) line body
     → OnOk r (AnswersHeld line body w1 w2 t v) → OnErr r (StopsInHeld line body w1 w2 t v) → IfErr r (λ e. e ≡ Write) → Serves r from rest w0 w2 s v
 Serves-last (Ok u) from left rest w0 w1 w2 unread line body s t v so_far takes ok err fault =

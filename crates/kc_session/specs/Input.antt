@@ -9,10 +9,12 @@ read_limit = 2 ^ 63
 abbrev pub chunk_length : ℕ
 chunk_length = 4096
 
--- The bytes of the chunk that are not yet taken, and a number that no step raises and each byte that is taken lowers.
+-- The bytes of the chunk that are not yet taken, a number that no step raises and each byte that is taken lowers, and how
+-- many reads were made.
 pub record Unread : Type 0 where
   pub bytes : List ℕ
   pub budget : ℕ
+  pub reads : ℕ
 
 -- a read costs more than all the bytes that it gives
 abbrev pub budget_of : ℕ → ℕ → ℕ

@@ -3,11 +3,15 @@ pub mod AllValueSteps
 pub mod Bodies
 pub mod Commands
 pub mod Effect
+pub mod EvaluationBound
 pub mod Held
 pub mod HeldBody
 pub mod Input
 pub mod Opened
 pub mod Output
+pub mod Keeping
+pub mod KeptResolver
+pub mod KeptResolverInside
 pub mod NextCommand
 pub mod NextLine
 pub mod Replies

@@ -1,6 +1,7 @@
 -- This project's own: a session as contracts see it.
 use Rattle.std.specs.Prelude.{ℕ, List}
 use Rattle.kc_outline.specs.TreeValue.{TreeValue}
+use Rattle.kc_value.specs.Kept.{KeptValue, nothing_kept}
 use Rattle.kc_value.specs.UserValues.{UserValues, no_values}
 
 -- the tree, the user values, and the prefix of the names in files
@@ -16,3 +17,12 @@ new_session t prefix = record { tree = t; user = no_values t; prefix = prefix }
 -- the same but for the user values
 abbrev pub with_user : SessionValue → UserValues → SessionValue
 with_user s u = record { tree = s.tree; user = u; prefix = s.prefix }
+
+-- with the values that it keeps, and the count of evaluations
+pub record SessionState : Type 0 where
+  pub session : SessionValue
+  pub kept : KeptValue
+
+-- a session that keeps nothing yet
+abbrev pub new_state : SessionValue → SessionState
+new_state s = record { session = s; kept = nothing_kept s.tree }

@@ -1,15 +1,18 @@
 //! The lines of the command `choices`.
 ghost use Rattle.std.specs.Prelude.{◌≡◌, ◌++◌, length, codes, decimal, IfOk, OnOk};
 ghost use Rattle.std.specs.String.{string_bytes};
-ghost use Rattle.kc_tree.specs.declared.node.Node.TheVariants.{Mode};
+ghost use Rattle.kc_outline.specs.declared.id.ChoiceId.{ChoiceId};
+ghost use Rattle.kc_tree.specs.declared.node.Node.TheVariants.{Mode, Sel};
 ghost use Rattle.kc_tree.specs.Nodes.{IsNodeOf};
 ghost use Rattle.kc_outline.specs.TreeValue.{choice_title};
+ghost use Rattle.kc_value.specs.Kept.{IsKept, AreKept};
 ghost use Rattle.kc_files.specs.Quoting.{quoted};
 ghost use Rattle.kc_session.specs.ChoiceLine.{choice_line_of, choices_text_of, member_text};
 
+use crate::kept::kept_value;
 use kc_files::push_quoted;
 use kc_tree::{ChoiceId, Node, SymId, Tree};
-use kc_value::{Resolver, tri_letter};
+use kc_value::{User, Value, tri_letter};
 use std::alloc::{AllocError, Global};
 
 /// The prompt of a choice, empty where it has none.
@@ -46,54 +49,59 @@ fn line_start(alloc: Global, tree: &Tree, choice: ChoiceId) -> Result<String, Al
     Ok(text)
 }
 
-/// The line about a choice.
+/// The line about a choice whose selection is kept, and with it its mode.
+///
+/// The error comes where memory is refused.
 #[tactic(auto, unfolding(crate::specs::ChoiceLine::choice_line_of))]
-fn choice_line<R: Resolver>(
+fn choice_line(
     alloc: Global,
-    resolver: &mut R,
+    tree: &Tree,
+    user: &User,
+    values: &[Option<Value>],
     choice: ChoiceId,
 ) -> Result<String, AllocError>
-    requires inside { IsNodeOf (R.tree_of resolver.old) (Mode choice) }
-    ensures text { IfOk result
-        (λ text. string_bytes text ≡ choice_line_of (R.tree_of resolver.old) (R.user_of resolver.old) choice) }
-    ensures tree { R.tree_of resolver.new ≡ R.tree_of resolver.old }
-    ensures user { R.user_of resolver.new ≡ R.user_of resolver.old }
+    requires inside { IsNodeOf tree.now (Mode choice) }
+    requires kept { AreKept tree.now user.now values.now }
+    requires asked { IsKept tree.now values.now (Sel choice) }
+    ensures { IfOk result (λ text. string_bytes text ≡ choice_line_of tree.now user.now choice) }
 {
-    let mode = resolver.node(Node::Mode(choice))?.as_tri();
-    let selected = resolver.node(Node::Sel(choice))?.as_member();
-    let (tree, chosen) = (resolver.tree(), resolver.user().chosen(choice));
+    let mode = kept_value(tree, values, Node::Mode(choice)).as_tri();
+    let selected = kept_value(tree, values, Node::Sel(choice)).as_member();
     let mut text = line_start(alloc, tree, choice)?;
     text.push_str(" mode=")?;
     text.push_str(tri_letter(mode))?;
     text.push_str(" sel=")?;
     text.push_str(member_name(tree, selected))?;
     text.push_str(" user=")?;
-    text.push_str(member_name(tree, chosen))?;
+    text.push_str(member_name(tree, user.chosen(choice)))?;
     text.push_str("\n")?;
     Ok(text)
 }
 
 /// How many choices there are.
-fn choice_count(tree: &Tree) -> u32
+pub(crate) fn choice_count(tree: &Tree) -> u32
     ensures { result ≡ length tree.now.choices }
 {
     tree.choices().len() as u32
 }
 
-/// The lines about all choices, by number.
+/// The lines about all choices, by number. The selections of all choices are kept.
+///
+/// The error comes where memory is refused.
 #[tactic(auto, unfolding(crate::specs::ChoiceLine::choices_text_of))]
-pub(crate) fn choices_text<R: Resolver>(
+pub(crate) fn choices_text(
     alloc: Global,
-    resolver: &mut R,
+    tree: &Tree,
+    user: &User,
+    values: &[Option<Value>],
 ) -> Result<String, AllocError>
-    ensures text { IfOk result
-        (λ text. string_bytes text ≡ choices_text_of (R.tree_of resolver.old) (R.user_of resolver.old)) }
-    ensures tree { R.tree_of resolver.new ≡ R.tree_of resolver.old }
-    ensures user { R.user_of resolver.new ≡ R.user_of resolver.old }
+    requires kept { AreKept tree.now user.now values.now }
+    requires asked { (c : ChoiceId) → IsNodeOf tree.now (Sel c) → IsKept tree.now values.now (Sel c) }
+    ensures { IfOk result (λ text. string_bytes text ≡ choices_text_of tree.now user.now) }
 {
     let mut text = String::new(alloc);
-    for number in 0..choice_count(resolver.tree()) {
-        let line = choice_line(alloc, resolver, ChoiceId(number))?;
+    for number in 0..choice_count(tree) {
+        let line = choice_line(alloc, tree, user, values, ChoiceId(number))?;
         text.push_str(line.as_str())?;
     }
     Ok(text)

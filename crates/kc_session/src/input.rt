@@ -1,5 +1,6 @@
 //! The bytes of a stream, one at a time, read in chunks.
-ghost use Rattle.std.specs.Prelude.{◌≡◌, ◌<◌, ◌≤◌, [], ◌++◌, option_to_list, IsSome, IsNone, IfOk, IfErr, OnErr, OnOk, OnSome};
+ghost use Rattle.kc_session.specs.Input.{read_limit};
+ghost use Rattle.std.specs.Prelude.{◌≡◌, ◌⊎◌, ◌+◌, ◌<◌, ◌≤◌, [], ◌++◌, option_to_list, IsSome, IsNone, IfOk, IfErr, OnErr, OnOk, OnSome};
 ghost use Rattle.std.specs.Io.KnownBytes.{prepend_known, Consumes, IsAtEnd};
 
 use crate::fault::IoFault;
@@ -14,7 +15,7 @@ pub(crate) const CHUNK_LENGTH: usize = 4096;
 
 /// The bytes that were read from a stream and not yet taken.
 ///
-/// To contracts it is those bytes, and a number that falls with each byte that is taken.
+/// To contracts it is those bytes, a number that falls with each byte that is taken, and how many reads were made.
 #[derive(Drop)]
 pub(crate) struct Input {
     chunk: [u8; CHUNK_LENGTH],
@@ -32,6 +33,7 @@ impl Model for Input {
     ghost view = { λ input. record {
       bytes = slice_range input.chunk input.start input.end;
       budget = budget_of input.reads (input.end - input.start);
+      reads = input.reads;
     } };
 
     ghost invariant = { λ input. (input.start ≤ input.end) × (input.end ≤ chunk_length) × (input.reads ≤ read_limit) };
@@ -75,7 +77,8 @@ impl Input {
         Ok(self.pop())
     }
 
-    // Reads the next chunk where the last one is used up.
+    // Reads the next chunk where the last one is used up. The error comes after a read, which is counted, or where as
+    // many were counted as there may be.
     fn refill<R: Read>(&mut self, reader: &mut R) -> Result<(), IoFault>
         ensures kept { Consumes
             (prepend_known self.old.bytes (R.remaining reader.old))
@@ -85,6 +88,7 @@ impl Input {
         ensures used_up { OnErr result (self.new.bytes ≡ []) }
         ensures fault { IfErr result (λ fault. fault ≡ IoFault.Read) }
         ensures budget { self.new.budget ≤ self.old.budget }
+        ensures counted { OnErr result ((self.old.reads ≡ read_limit) ⊎ (self.new.reads ≡ self.old.reads + 1)) }
     {
         if self.start < self.end {
             return Ok(());

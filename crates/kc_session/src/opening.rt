@@ -4,12 +4,14 @@ ghost use Rattle.kc_text.specs.Expansion.{texts_in};
 ghost use Rattle.kc_text.specs.Reading.{logical_lines_of};
 ghost use Rattle.kc_tree.specs.Parsed.{IsTreeOf, IsFaultOf};
 ghost use Rattle.kc_value.specs.Solution.{solution, IsOnlySolution};
+ghost use Rattle.kc_value.specs.Kept.{nothing_kept};
 ghost use Rattle.kc_value.specs.UserValues.{UserValues, IsUserFor};
 ghost use Rattle.kc_files.specs.LineReading.{IsAssignFor};
 ghost use Rattle.kc_session.specs.Bodies.{fits_body, assigns_in, warnings_in};
 ghost use Rattle.kc_session.specs.Opened.{IsOpened, IsOpenFault, IsTextFaultOf, IsTreeFaultOf, IsConfigFault, user_of_config};
 
 use crate::command::Refusal;
+use crate::kept_resolver::KeptResolver;
 use crate::load::read_body;
 use crate::session::Session;
 use bumpalo::Bump;
@@ -125,9 +127,10 @@ pub fn open(
     prefix: &Prefix,
     config: &[u8],
 ) -> Result<(Session, Vec<Warning>), OpenFault>
-    ensures opened { IfOk result (λ r. IsOpened sources.now vars.now top.now prefix.now config.now r.0) }
-    ensures warnings { IfOk result (λ r. r.1.items ≡ warnings_in r.0.tree prefix.now config.now) }
-    ensures solved { IfOk result (λ r. IsOnlySolution r.0.tree r.0.user (solution r.0.tree r.0.user)) }
+    ensures opened { IfOk result (λ r. IsOpened sources.now vars.now top.now prefix.now config.now r.0.session) }
+    ensures warnings { IfOk result (λ r. r.1.items ≡ warnings_in r.0.session.tree prefix.now config.now) }
+    ensures nothing_kept { IfOk result (λ r. r.0.kept ≡ nothing_kept r.0.session.tree) }
+    ensures solved { IfOk result (λ r. IsOnlySolution r.0.session.tree r.0.session.user (solution r.0.session.tree r.0.session.user)) }
     ensures fault { IfErr result (IsOpenFault sources.now vars.now top.now config.now) }
 {
     let arena = Bump::new(alloc);
@@ -137,5 +140,8 @@ pub fn open(
     let Ok(prefix) = prefix.copy(alloc) else {
         return Err(OpenFault::NoMemory);
     };
-    Ok((Session::of(alloc, tree, user, prefix), warnings))
+    let Ok(resolver) = KeptResolver::with_user(alloc, tree, user) else {
+        return Err(OpenFault::NoMemory);
+    };
+    Ok((Session::of(alloc, resolver, prefix), warnings))
 }

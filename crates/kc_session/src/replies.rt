@@ -4,6 +4,7 @@ ghost use Rattle.std.specs.Io.KnownBytes.{Appends};
 ghost use Rattle.std.specs.Option.{option_copied};
 ghost use Rattle.kc_session.specs.Output.{WritesPart};
 ghost use Rattle.kc_session.specs.Effect.{IsOutcome};
+ghost use Rattle.kc_session.specs.EvaluationBound.{IsBounded};
 ghost use Rattle.kc_session.specs.HeldBody.{GivesBody, body_held, joined};
 ghost use Rattle.kc_session.specs.NextCommand.{HoldsCommand};
 ghost use Rattle.kc_session.specs.Replies.{body_outcome, outcome, reply_bytes};
@@ -22,10 +23,11 @@ use kc_files::Load;
 use std::io::Write;
 
 /// Does a command of the stream, from the text of its line, which is `None` where the line is too long, and from its body.
-#[tactic(auto, using(crate::proofs::Replying::no_text_reply, crate::proofs::Replying::refused_reply, crate::proofs::Replying::whole_reply, crate::proofs::Replying::load_reply))]
+#[tactic(auto, using(crate::proofs::Replying::no_text_reply, crate::proofs::Replying::refused_reply, crate::proofs::Replying::whole_reply, crate::proofs::Replying::load_reply, crate::proofs::EvaluationLaws::unchanged_bounded))]
 fn reply_to_command(text: Option<&[u8]>, body: &BodyBuffer, session: &mut Session) -> Reply
-    ensures { (c : StreamCommand) → option_copied text.entry ≡ text_if_fits c.line → GivesBody (body_held body.now) (lines_taken c.line) c.body
-        → lines_of (joined c.body) ≡ c.body → IsOutcome session.old (outcome session.old c) result session.new }
+    ensures outcome { (c : StreamCommand) → option_copied text.entry ≡ text_if_fits c.line → GivesBody (body_held body.now) (lines_taken c.line) c.body
+        → lines_of (joined c.body) ≡ c.body → IsOutcome session.old.session (outcome session.old.session c) result session.new.session }
+    ensures bounded { IsBounded session.old session.new }
 {
     let Some(text) = text else {
         return Reply::Refused(Refusal::TooLong);
@@ -38,10 +40,11 @@ fn reply_to_command(text: Option<&[u8]>, body: &BodyBuffer, session: &mut Sessio
 }
 
 /// Loads a body, if it can be.
-#[tactic(auto, using(crate::proofs::Replying::load_refused_reply, crate::proofs::Replying::load_done_reply))]
+#[tactic(auto, using(crate::proofs::Replying::load_refused_reply, crate::proofs::Replying::load_done_reply, crate::proofs::EvaluationLaws::unchanged_bounded))]
 fn reply_to_load(load: Load, body: &BodyBuffer, session: &mut Session) -> Reply
-    ensures { (k : ℕ) (lines : List (List ℕ)) → GivesBody (body_held body.now) k lines → lines_of (joined lines) ≡ lines
-        → IsOutcome session.old (body_outcome session.old load k lines) result session.new }
+    ensures outcome { (k : ℕ) (lines : List (List ℕ)) → GivesBody (body_held body.now) k lines → lines_of (joined lines) ≡ lines
+        → IsOutcome session.old.session (body_outcome session.old.session load k lines) result session.new.session }
+    ensures bounded { IsBounded session.old session.new }
 {
     match body.content() {
         Ok(bytes) => session.apply(load_command(load, bytes)),

@@ -1,56 +1,51 @@
 //! A session: a tree, user values, and the commands that read and change them.
-ghost use Rattle.std.specs.Prelude.{◌≡◌, [], true, None, All, IfSome, IfOk, IfErr, OnErr};
+ghost use Rattle.std.specs.Prelude.{◌≡◌, ◌⊎◌, [], true, None, All, IfSome, IfOk, IfErr, OnErr};
 ghost use Rattle.std.specs.String.{string_bytes};
 ghost use Rattle.kc_value.specs.Solution.{solution, IsOnlySolution};
 ghost use Rattle.kc_value.specs.UserValues.{chosen_in};
 ghost use Rattle.kc_value.specs.ChoiceRule.{is_symbol};
 
-use crate::all_values::{AllValue, give_all};
-use crate::choices::choices_text;
+use crate::all_values::AllValue;
 use crate::command::{Command, Refusal, Reply};
+use crate::kept_resolver::KeptResolver;
 use crate::load::{read_body, warnings_text};
-use crate::show::{list_text, show_line};
 use crate::values::{choice_of, type_of, value_of};
-use kc_files::{Assign, Load, Prefix, apply, config_text, defconfig_text, header_text, new_text};
+use kc_files::{Assign, Load, Prefix};
 use kc_text::Text;
-use kc_tree::{ChoiceId, Node, SymId, Tree, Tri};
-use kc_value::{Fresh, Resolver, User, Value, solve};
+use kc_tree::{ChoiceId, Node, SymId, Tree};
+use kc_value::{Resolver, User, Value};
 use std::alloc::{AllocError, Global};
 use std::marker::Model;
 
-/// A tree with user values. It answers with the values of the one solution, and keeps nothing from one
-/// question to the next. Contracts see the tree, the user values and the prefix.
+/// A tree with user values. It answers with the values of the one solution. What it has evaluated it keeps, until an
+/// edit can change it. Contracts see the tree, the user values and the prefix, and what is kept.
 #[derive(Drop)]
 pub struct Session {
     alloc: Global,
-    tree: Tree,
-    user: User,
+    resolver: KeptResolver,
     prefix: Prefix,
-    answer: Value,
 }
 
 impl Model for Session {
-    ghost use Rattle.kc_session.specs.Session.{SessionValue};
+    ghost use Rattle.kc_session.specs.Session.{SessionState};
     ghost use Rattle.kc_statement.specs.contracts.expr.Expr as expr;
     ghost use Rattle.std.specs.Coded.{codes};
 
-    ghost Value = { SessionValue };
+    ghost Value = { SessionState };
 
     ghost coded = { Prim.hlevel (codes, expr.the_row.coded) };
 
-    ghost use Rattle.kc_value.specs.UserValues.{IsUserFor};
-
-    ghost view = { λ s. record { tree = s.tree; user = s.user; prefix = s.prefix } };
-
-    ghost invariant = { λ s. IsUserFor s.tree s.user };
+    ghost view = { λ s. record { session = record { tree = s.resolver.tree; user = s.resolver.user; prefix = s.prefix }; kept = s.resolver.kept } };
 }
 
 impl Session {
-    ghost use Rattle.kc_session.specs.Session.{new_session, with_user};
+    ghost use Rattle.kc_session.specs.Keeping.{Asks, EditsKept, Keeps, KeepsRight, shown_nodes, symbol_nodes, choice_nodes};
+    ghost use Rattle.kc_session.specs.Session.{new_session, new_state, with_user};
     ghost use Rattle.kc_tree.specs.declared.node.Node.TheVariants.{Vis};
-    ghost use Rattle.kc_tree.specs.Nodes.{IsNodeOf};
+    ghost use Rattle.kc_tree.specs.Nodes.{IsNodeOf, all_nodes};
     ghost use Rattle.kc_outline.specs.TreeValue.{symbol_named, choice_of};
-    ghost use Rattle.kc_value.specs.UserValues.{IsUserFor, with_chosen};
+    ghost use Rattle.kc_value.specs.Kept.{is_kept};
+    ghost use Rattle.kc_value.specs.UserValues.{with_chosen};
     ghost use Rattle.kc_files.specs.ConfigText.{type_of};
     ghost use Rattle.kc_files.specs.LineReading.{IsAssignFor};
     ghost use Rattle.kc_files.specs.Loading.{user_after};
@@ -59,7 +54,7 @@ impl Session {
     ghost use Rattle.kc_session.specs.Effect.{IsApplied, IsOutcome, IsReplyTo, set_member, set_value, set_symbol, unset_outcome, unset_symbol, unchosen, reset_outcome, load_outcome, show_outcome, list_outcome, choices_outcome, config_outcome, header_outcome, defconfig_outcome, new_outcome};
 
     /// A session of a tree, without user values, with the prefix of the names in files. Its values are those of the only
-    /// solution.
+    /// solution, and none is kept yet.
     ///
     /// # Errors
     ///
@@ -69,35 +64,74 @@ impl Session {
         tree: Tree,
         prefix: Prefix,
     ) -> Result<Session, (Tree, Prefix, AllocError)>
-        ensures ok { IfOk result (λ s. s ≡ new_session tree prefix) }
-        ensures solved { IfOk result (λ s. IsOnlySolution s.tree s.user (solution s.tree s.user)) }
+        ensures ok { IfOk result (λ s. s ≡ new_state (new_session tree prefix)) }
+        ensures solved { IfOk result (λ s. IsOnlySolution s.session.tree s.session.user (solution s.session.tree s.session.user)) }
         ensures err { IfErr result (λ e. (e.0 ≡ tree) × (e.1 ≡ prefix)) }
     {
-        match User::empty(alloc, &tree) {
-            Ok(user) => Ok(Session::of(alloc, tree, user, prefix)),
-            Err(fault) => Err((tree, prefix, fault)),
+        match KeptResolver::new(alloc, tree) {
+            Ok(resolver) => Ok(Session {
+                alloc,
+                resolver,
+                prefix,
+            }),
+            Err((tree, fault)) => Err((tree, prefix, fault)),
         }
     }
 
-    /// A session of a tree with user values for it.
-    pub(crate) fn of(alloc: Global, tree: Tree, user: User, prefix: Prefix) -> Session
-        requires { IsUserFor tree user }
-        ensures { result ≡ record { tree = tree; user = user; prefix = prefix } }
+    /// A session of a resolver.
+    pub(crate) fn of(alloc: Global, resolver: KeptResolver, prefix: Prefix) -> Session
+        ensures { result ≡ record { session = record { tree = resolver.tree; user = resolver.user; prefix = prefix }; kept = resolver.kept } }
     {
         Session {
             alloc,
-            tree,
-            user,
+            resolver,
             prefix,
-            answer: Value::Tri(Tri::No),
         }
+    }
+
+    /// Whether the value of a node is kept: it is the solution's then, and a query of it evaluates nothing.
+    pub fn is_kept(&self, node: Node) -> bool
+        ensures { result ≡ is_kept self.now.session.tree self.now.kept.values node }
+    {
+        self.resolver.is_kept(node)
+    }
+
+    /// How many nodes were evaluated since the session began; from 2^64 - 1 on the count stays.
+    pub fn evals(&self) -> u64
+        ensures { result ≡ self.now.kept.evals }
+    {
+        self.resolver.evals()
+    }
+
+    /// What is kept is right, whatever was done before.
+    fn check(&self)
+        ensures { KeepsRight self.now }
+    {
+        let _ = self.resolver.values();
     }
 
     /// Does one command. A refusal changes nothing, and only a query, a load and an edit that keeps a text can be refused
     /// their memory.
-    #[tactic(auto, unfolding(crate::specs::Effect::perform))]
+    ///
+    /// An edit drops exactly the values that it can change, and evaluates nothing. A query evaluates each node once that
+    /// its answer is computed from and that is not kept, and keeps the values, also where it is refused its memory.
     pub fn apply(&mut self, command: Command<'_>) -> Reply
-        ensures { IsApplied self.old command.entry result self.new }
+        ensures applied { IsApplied self.old.session command.entry result self.new.session }
+        ensures keeps { Keeps self.old command.entry result self.new }
+        ensures right_before { KeepsRight self.old }
+        ensures right { KeepsRight self.new }
+    {
+        self.check();
+        let reply = self.perform(command);
+        self.check();
+        reply
+    }
+
+    /// Does one command.
+    #[tactic(auto, unfolding(crate::specs::Effect::perform, crate::specs::Keeping::Keeps))]
+    fn perform(&mut self, command: Command<'_>) -> Reply
+        ensures applied { IsApplied self.old.session command.entry result self.new.session }
+        ensures keeps { Keeps self.old command.entry result self.new }
     {
         match command {
             Command::Set(name, value) => self.set(name.as_str(), value.as_str()),
@@ -119,15 +153,16 @@ impl Session {
 
     /// The symbol of a name.
     fn find(&self, name: &str) -> Option<SymId>
-        ensures symbol { result ≡ symbol_named self.now.tree name.now }
-        ensures inside { IfSome result (λ s. IsNodeOf self.now.tree (Vis s)) }
+        ensures symbol { result ≡ symbol_named self.now.session.tree name.now }
+        ensures inside { IfSome result (λ s. IsNodeOf self.now.session.tree (Vis s)) }
     {
-        self.tree.find(name)
+        self.resolver.tree().find(name)
     }
 
-    #[tactic(auto, using(crate::proofs::Outcomes::unknown_applied, crate::proofs::Outcomes::symbol_applied))]
+    #[tactic(auto, using(crate::proofs::Outcomes::unknown_applied, crate::proofs::Outcomes::symbol_applied, kc_value::proofs::KeptLaws::edits_nothing))]
     fn set(&mut self, name: &str, value: &str) -> Reply
-        ensures { IsApplied self.old (Command.Set name.now value.now) result self.new }
+        ensures applied { IsApplied self.old.session (Command.Set name.now value.now) result self.new.session }
+        ensures edits { EditsKept self.old self.new }
     {
         match self.find(name) {
             Some(symbol) => self.set_symbol(symbol, value),
@@ -138,48 +173,42 @@ impl Session {
     /// Gives a symbol a value, or makes it the chosen member of its choice.
     #[tactic(auto, using(crate::proofs::Outcomes::member_outcome, crate::proofs::Outcomes::free_outcome))]
     fn set_symbol(&mut self, symbol: SymId, value: &str) -> Reply
-        requires { IsNodeOf self.old.tree (Vis symbol) }
-        ensures { IsOutcome self.old (set_symbol self.old value.now symbol) result self.new }
+        requires { IsNodeOf self.old.session.tree (Vis symbol) }
+        ensures outcome { IsOutcome self.old.session (set_symbol self.old.session value.now symbol) result self.new.session }
+        ensures edits { EditsKept self.old self.new }
     {
-        match choice_of(&self.tree, symbol) {
+        match choice_of(self.resolver.tree(), symbol) {
             Some(choice) => self.set_member(symbol, choice, value),
             None => self.set_value(symbol, value),
         }
     }
 
     /// Makes a member of a choice the chosen one.
+    #[tactic(auto, using(kc_value::proofs::KeptLaws::edits_nothing))]
     fn set_member(&mut self, member: SymId, choice: ChoiceId, value: &str) -> Reply
-        ensures reply { result ≡ (set_member self.old member choice value.now).reply }
-        ensures session { self.new ≡ with_user self.old (set_member self.old member choice value.now).user }
+        ensures reply { result ≡ (set_member self.old.session member choice value.now).reply }
+        ensures session { self.new.session ≡ with_user self.old.session (set_member self.old.session member choice value.now).user }
+        ensures edits { EditsKept self.old self.new }
     {
         if value == "y" {
-            self.choose(choice, Some(member));
+            self.resolver.choose(choice, Some(member));
             done(self.alloc)
         } else {
             Reply::Refused(Refusal::BadMemberValue)
         }
     }
 
-    /// Chooses a member of a choice, or none; nothing changes for a choice that the tree doesn't have.
-    #[tactic(auto, using(crate::proofs::Outcomes::chosen_outside))]
-    fn choose(&mut self, choice: ChoiceId, member: Option<SymId>)
-        ensures { self.new ≡ with_user self.old (with_chosen self.old.user choice member) }
-    {
-        if (choice.0 as usize) < self.tree.choices().len() {
-            self.user.choose(choice, member);
-        }
-    }
-
     /// Gives a symbol that is no member a value.
-    #[tactic(auto, using(crate::proofs::Outcomes::value_refused, crate::proofs::Outcomes::value_kept, crate::proofs::Outcomes::value_starved, crate::proofs::Spelling::spelled_fits))]
+    #[tactic(auto, using(crate::proofs::Outcomes::value_refused, crate::proofs::Outcomes::value_kept, crate::proofs::Outcomes::value_starved, crate::proofs::Spelling::spelled_fits, kc_value::proofs::KeptLaws::edits_nothing))]
     fn set_value(&mut self, symbol: SymId, value: &str) -> Reply
-        requires inside { IsNodeOf self.old.tree (Vis symbol) }
-        requires alone { choice_of self.old.tree symbol ≡ None }
-        ensures { IsOutcome self.old (set_value self.old symbol value.now) result self.new }
+        requires inside { IsNodeOf self.old.session.tree (Vis symbol) }
+        requires alone { choice_of self.old.session.tree symbol ≡ None }
+        ensures outcome { IsOutcome self.old.session (set_value self.old.session symbol value.now) result self.new.session }
+        ensures edits { EditsKept self.old self.new }
     {
-        match value_of(self.alloc, type_of(&self.tree, symbol), value) {
+        match value_of(self.alloc, type_of(self.resolver.tree(), symbol), value) {
             Ok(Some(value)) => {
-                self.user.set(symbol, value);
+                self.resolver.set(symbol, value);
                 done(self.alloc)
             }
             Ok(None) => Reply::Refused(Refusal::BadValue),
@@ -187,9 +216,11 @@ impl Session {
         }
     }
 
+    #[tactic(auto, using(kc_value::proofs::KeptLaws::edits_nothing))]
     fn unset(&mut self, name: &str) -> Reply
-        ensures reply { result ≡ (unset_outcome self.old name.now).reply }
-        ensures session { self.new ≡ with_user self.old (unset_outcome self.old name.now).user }
+        ensures reply { result ≡ (unset_outcome self.old.session name.now).reply }
+        ensures session { self.new.session ≡ with_user self.old.session (unset_outcome self.old.session name.now).user }
+        ensures edits { EditsKept self.old self.new }
     {
         match self.find(name) {
             Some(symbol) => self.unset_symbol(symbol),
@@ -199,50 +230,68 @@ impl Session {
 
     /// Removes the value of a symbol, or leaves its choice without a chosen member where that is this one.
     fn unset_symbol(&mut self, symbol: SymId) -> Reply
-        requires { IsNodeOf self.old.tree (Vis symbol) }
-        ensures reply { result ≡ (unset_symbol self.old symbol).reply }
-        ensures session { self.new ≡ with_user self.old (unset_symbol self.old symbol).user }
+        requires { IsNodeOf self.old.session.tree (Vis symbol) }
+        ensures reply { result ≡ (unset_symbol self.old.session symbol).reply }
+        ensures session { self.new.session ≡ with_user self.old.session (unset_symbol self.old.session symbol).user }
+        ensures edits { EditsKept self.old self.new }
     {
-        match choice_of(&self.tree, symbol) {
+        match choice_of(self.resolver.tree(), symbol) {
             Some(choice) => self.unset_member(symbol, choice),
             None => {
-                self.user.unset(symbol);
+                self.resolver.unset(symbol);
                 done(self.alloc)
             }
         }
     }
 
     /// Leaves a choice without a chosen member, where this one is chosen.
+    #[tactic(auto, using(kc_value::proofs::KeptLaws::edits_nothing))]
     fn unset_member(&mut self, member: SymId, choice: ChoiceId) -> Reply
         ensures reply { result ≡ Reply.Done [] }
-        ensures session { self.new ≡ with_user self.old (unchosen self.old.user member choice) }
+        ensures session { self.new.session ≡ with_user self.old.session (unchosen self.old.session.user member choice) }
+        ensures edits { EditsKept self.old self.new }
     {
-        if is_chosen(&self.user, member, choice) {
-            self.choose(choice, None);
+        if !is_chosen(self.resolver.user(), member, choice) {
+            return done(self.alloc);
         }
+        self.resolver.choose(choice, None);
         done(self.alloc)
     }
 
     #[tactic(auto, using(crate::proofs::Outcomes::all_taken))]
     fn reset(&mut self) -> Reply
-        ensures reply { result ≡ (reset_outcome self.old).reply }
-        ensures session { self.new ≡ with_user self.old (reset_outcome self.old).user }
+        ensures reply { result ≡ (reset_outcome self.old.session).reply }
+        ensures session { self.new.session ≡ with_user self.old.session (reset_outcome self.old.session).user }
+        ensures edits { EditsKept self.old self.new }
     {
-        self.user.reset();
+        self.resolver.reset();
         done(self.alloc)
     }
 
     /// Loads a body: what its lines mean, and the lines about its warnings. Both are there before anything changes.
-    #[tactic(auto, using(crate::proofs::Outcomes::load_refused, crate::proofs::Outcomes::load_done))]
+    #[tactic(auto, using(crate::proofs::Outcomes::load_refused, crate::proofs::Outcomes::load_done, kc_value::proofs::KeptLaws::edits_nothing))]
     fn load(&mut self, load: Load, body: &[u8]) -> Reply
-        ensures { IsOutcome self.old (load_outcome self.old load body.now) result self.new }
+        ensures outcome { IsOutcome self.old.session (load_outcome self.old.session load body.now) result self.new.session }
+        ensures edits { EditsKept self.old self.new }
     {
         match self.read(body) {
-            Ok((assigns, warnings)) => {
-                apply(&self.tree, &mut self.user, assigns, load);
-                Reply::Done(Text::new(warnings))
-            }
+            Ok((assigns, warnings)) => self.load_read(load, assigns, warnings),
             Err(refusal) => Reply::Refused(refusal),
+        }
+    }
+
+    /// Loads what was read of a body.
+    fn load_read(&mut self, load: Load, assigns: Vec<Assign>, warnings: String) -> Reply
+        requires { All (IsAssignFor self.old.session.tree) assigns.items }
+        ensures reply { (result ≡ Reply.Done (string_bytes warnings)) ⊎ (result ≡ Reply.Refused Refusal.NoMemory) }
+        ensures done { result ≡ Reply.Done (string_bytes warnings)
+            → self.new.session ≡ with_user self.old.session (user_after self.old.session.tree self.old.session.user load assigns.items) }
+        ensures refused { result ≡ Reply.Refused Refusal.NoMemory → self.new ≡ self.old }
+        ensures edits { EditsKept self.old self.new }
+    {
+        match self.resolver.load(load, assigns) {
+            Ok(()) => Reply::Done(Text::new(warnings)),
+            Err(_) => Reply::Refused(Refusal::NoMemory),
         }
     }
 
@@ -251,12 +300,12 @@ impl Session {
     /// The error comes where the body is too long, or memory was refused.
     fn read(&self, body: &[u8]) -> Result<(Vec<Assign>, String), Refusal>
         ensures fits { IfOk result (λ r. fits_body body.now ≡ true) }
-        ensures assigns { IfOk result (λ r. r.0.items ≡ assigns_in self.now.tree self.now.prefix body.now) }
-        ensures fitting { IfOk result (λ r. All (IsAssignFor self.now.tree) r.0.items) }
-        ensures warnings { IfOk result (λ r. string_bytes r.1 ≡ warnings_text_of self.now.tree self.now.prefix body.now) }
+        ensures assigns { IfOk result (λ r. r.0.items ≡ assigns_in self.now.session.tree self.now.session.prefix body.now) }
+        ensures fitting { IfOk result (λ r. All (IsAssignFor self.now.session.tree) r.0.items) }
+        ensures warnings { IfOk result (λ r. string_bytes r.1 ≡ warnings_text_of self.now.session.tree self.now.session.prefix body.now) }
         ensures refusal { IfErr result (IsReadRefusal body.now) }
     {
-        let (assigns, warnings) = read_body(self.alloc, &self.tree, &self.prefix, body)?;
+        let (assigns, warnings) = read_body(self.alloc, self.resolver.tree(), &self.prefix, body)?;
         match warnings_text(self.alloc, warnings.as_slice()) {
             Ok(text) => Ok((assigns, text)),
             Err(_) => Err(Refusal::NoMemory),
@@ -265,62 +314,70 @@ impl Session {
 
     fn give_all(&mut self, all: AllValue) -> Reply
         ensures reply { result ≡ Reply.Done [] }
-        ensures session { self.new ≡ with_user self.old (all_given self.old.tree all) }
+        ensures session { self.new.session ≡ with_user self.old.session (all_given self.old.session.tree all) }
+        ensures edits { EditsKept self.old self.new }
     {
-        give_all(&self.tree, &mut self.user, all);
+        self.resolver.give_all(all);
         done(self.alloc)
     }
 
-    fn show(&self, name: &str) -> Reply
-        ensures { IsReplyTo result (show_outcome self.now name.now) }
+    fn show(&mut self, name: &str) -> Reply
+        ensures reply { IsReplyTo result (show_outcome self.old.session name.now) }
+        ensures session { self.new.session ≡ self.old.session }
+        ensures asks { Asks (shown_nodes self.old.session.tree name.now) self.old result self.new }
     {
-        let Some(symbol) = self.find(name) else {
-            return Reply::Refused(Refusal::UndefinedSymbol);
-        };
-        let mut resolver = Fresh::new(self.alloc, &self.tree, &self.user);
-        text_reply(show_line(self.alloc, &mut resolver, symbol))
+        match self.find(name) {
+            Some(symbol) => text_reply(self.resolver.show(self.alloc, symbol)),
+            None => Reply::Refused(Refusal::UndefinedSymbol),
+        }
     }
 
-    fn list(&self) -> Reply
-        ensures { IsReplyTo result (list_outcome self.now) }
+    fn list(&mut self) -> Reply
+        ensures reply { IsReplyTo result (list_outcome self.old.session) }
+        ensures session { self.new.session ≡ self.old.session }
+        ensures asks { Asks (symbol_nodes self.old.session.tree) self.old result self.new }
     {
-        let mut resolver = Fresh::new(self.alloc, &self.tree, &self.user);
-        text_reply(list_text(self.alloc, &mut resolver))
+        text_reply(self.resolver.list(self.alloc))
     }
 
-    fn choices(&self) -> Reply
-        ensures { IsReplyTo result (choices_outcome self.now) }
+    fn choices(&mut self) -> Reply
+        ensures reply { IsReplyTo result (choices_outcome self.old.session) }
+        ensures session { self.new.session ≡ self.old.session }
+        ensures asks { Asks (choice_nodes self.old.session.tree) self.old result self.new }
     {
-        let mut resolver = Fresh::new(self.alloc, &self.tree, &self.user);
-        text_reply(choices_text(self.alloc, &mut resolver))
+        text_reply(self.resolver.choices(self.alloc))
     }
 
-    fn config(&self) -> Reply
-        ensures { IsReplyTo result (config_outcome self.now) }
+    fn config(&mut self) -> Reply
+        ensures reply { IsReplyTo result (config_outcome self.old.session) }
+        ensures session { self.new.session ≡ self.old.session }
+        ensures asks { Asks (all_nodes self.old.session.tree) self.old result self.new }
     {
-        let mut resolver = Fresh::new(self.alloc, &self.tree, &self.user);
-        text_reply(config_text(self.alloc, &mut resolver, &self.prefix, ""))
+        text_reply(self.resolver.config(self.alloc, &self.prefix))
     }
 
-    fn header(&self) -> Reply
-        ensures { IsReplyTo result (header_outcome self.now) }
+    fn header(&mut self) -> Reply
+        ensures reply { IsReplyTo result (header_outcome self.old.session) }
+        ensures session { self.new.session ≡ self.old.session }
+        ensures asks { Asks (all_nodes self.old.session.tree) self.old result self.new }
     {
-        let mut resolver = Fresh::new(self.alloc, &self.tree, &self.user);
-        text_reply(header_text(self.alloc, &mut resolver, &self.prefix))
+        text_reply(self.resolver.header(self.alloc, &self.prefix))
     }
 
-    fn defconfig(&self) -> Reply
-        ensures { IsReplyTo result (defconfig_outcome self.now) }
+    fn defconfig(&mut self) -> Reply
+        ensures reply { IsReplyTo result (defconfig_outcome self.old.session) }
+        ensures session { self.new.session ≡ self.old.session }
+        ensures asks { Asks (all_nodes self.old.session.tree) self.old result self.new }
     {
-        let mut resolver = Fresh::new(self.alloc, &self.tree, &self.user);
-        text_reply(defconfig_text(self.alloc, &mut resolver, &self.prefix))
+        text_reply(self.resolver.defconfig(self.alloc, &self.prefix))
     }
 
-    fn new_list(&self) -> Reply
-        ensures { IsReplyTo result (new_outcome self.now) }
+    fn new_list(&mut self) -> Reply
+        ensures reply { IsReplyTo result (new_outcome self.old.session) }
+        ensures session { self.new.session ≡ self.old.session }
+        ensures asks { Asks (all_nodes self.old.session.tree) self.old result self.new }
     {
-        let mut resolver = Fresh::new(self.alloc, &self.tree, &self.user);
-        text_reply(new_text(self.alloc, &mut resolver, &self.prefix))
+        text_reply(self.resolver.new_list(self.alloc, &self.prefix))
     }
 }
 
@@ -350,35 +407,59 @@ fn text_reply(text: Result<String, AllocError>) -> Reply
 }
 
 impl Resolver for Session {
-    ghost use Rattle.std.specs.Prelude.{◌≡◌};
-    ghost use Rattle.std.proofs.Common.{refl, ◌∙◌};
+    ghost use Rattle.kc_session.specs.Keeping.{Grew};
+    ghost use Rattle.kc_value.specs.Kept.{IsKept};
+    ghost use Rattle.std.specs.Borrow.{sem};
+    ghost use Rattle.std.specs.Io.BufRead.{Rests};
+    ghost use Rattle.std.specs.Prelude.{◌∷◌, IsOk, OnOk};
+    ghost use Rattle.std.proofs.Common.{refl, ap, ◌∙◌};
+    ghost use Rattle.kc_tree.specs.Nodes.{IsNodeOf};
+    ghost use Rattle.kc_value.specs.UserValues.{IsUserFor};
+    ghost use Rattle.kc_session.specs.contracts.session.Session.{the_row};
+    ghost use Rattle.kc_session.specs.Session.{SessionValue};
+    ghost use Rattle.kc_value.proofs.KeptLaws.{fills_nothing, fills_then, fills_wider, kept_after};
 
-    ghost tree_of = { λ s. s.tree };
+    ghost tree_of = { λ s. s.session.tree };
 
-    ghost user_of = { λ s. s.user };
+    ghost user_of = { λ s. s.session.user };
 
-    ghost grew = { λ old new asked. new.prefix ≡ old.prefix };
+    ghost grew = { λ old new asked. Grew asked old new };
 
-    ghost knows = { λ s n. Unit {0} };
+    ghost knows = { λ s n. IsKept s.session.tree s.kept.values n };
 
-    ghost grew_nothing = { λ r. refl };
+    ghost grew_nothing = { λ r. record { session = refl; fills = fills_nothing r.session.tree r.kept } };
 
-    ghost grew_then = { λ r s t p q first second. second ∙ first };
+    ghost grew_then = { λ r s t p q g h. record {
+      session = h.session ∙ g.session;
+      fills = fills_then r.session.tree s.session.tree p q r.kept s.kept t.kept (ap (λ (x : SessionValue). x.tree) g.session) g.fills h.fills;
+    } };
 
-    ghost grew_wider = { λ r s p q wider g. g };
+    ghost grew_wider = { λ r s p q wider g. record {
+      session = g.session;
+      fills = fills_wider r.session.tree p q r.kept s.kept wider g.fills;
+    } };
 
-    ghost knows_after = { λ r s p n inside k g. tt };
+    ghost knows_after = { λ r s p n inside known g.
+        kept_after r.session.tree s.session.tree p r.kept s.kept n (ap (λ (x : SessionValue). x.tree) g.session) inside known g.fills };
 
     fn tree(&self) -> &Tree {
-        &self.tree
+        self.resolver.tree()
     }
 
     fn user(&self) -> &User {
-        &self.user
+        self.resolver.user()
     }
 
-    fn node(&mut self, node: Node) -> Result<&Value, AllocError> {
-        self.answer = solve(self.alloc, &self.tree, &self.user, node)?;
-        Ok(&self.answer)
+    fn node(&mut self, node: Node) -> Result<&Value, AllocError>
+        requires { IsNodeOf self.old.session.tree node }
+        ensures value { IfOk result (λ v. v.now ≡ solution self.old.session.tree self.old.session.user node) }
+        ensures solved { IsOnlySolution self.old.session.tree self.old.session.user (solution self.old.session.tree self.old.session.user) }
+        ensures fitting { IsUserFor self.old.session.tree self.old.session.user }
+        ensures kept_before { IsKept self.old.session.tree self.old.kept.values node → IsOk result }
+        ensures* after_borrow { sem 𝓛 (Rests the_row self.entry (λ new.
+            (new.session.tree ≡ self.old.session.tree) × (new.session.user ≡ self.old.session.user)
+            × Grew (node ∷ []) self.old new × OnOk result (IsKept new.session.tree new.kept.values node))) }
+    {
+        self.resolver.node(node)
     }
 }

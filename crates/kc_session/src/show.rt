@@ -1,94 +1,73 @@
 //! The line of the command `show`, and those of `list`.
-ghost use Rattle.std.specs.Prelude.{◌≡◌, [], ◌∷◌, ◌++◌, length, codes, IfOk, OnOk};
+ghost use Rattle.std.specs.Prelude.{◌≡◌, ◌++◌, length, codes, IfOk, OnOk};
 ghost use Rattle.std.specs.String.{string_bytes};
 ghost use Rattle.std.specs.Option.{option_copied};
+ghost use Rattle.kc_statement.specs.declared.id.SymId.{SymId};
 ghost use Rattle.kc_tree.specs.declared.node.Node.TheVariants.{Vis, Val};
 ghost use Rattle.kc_tree.specs.Nodes.{IsNodeOf};
 ghost use Rattle.kc_outline.specs.TreeValue.{name_of};
-ghost use Rattle.kc_value.specs.Solution.{solution};
+ghost use Rattle.kc_value.specs.Kept.{IsKept, AreKept};
+ghost use Rattle.kc_value.specs.UserValues.{IsUserFor};
 ghost use Rattle.kc_files.specs.ConfigText.{type_of};
-ghost use Rattle.kc_session.specs.ShowLine.{show_line_of, list_text_of, line_text, shown_text, type_text, tri_text, values_text, user_part, given_text};
+ghost use Rattle.kc_session.specs.ShowLine.{show_line_of, list_text_of, line_text, type_text, tri_text, values_text, user_part, given_text};
 
+use crate::kept::kept_value;
 use crate::values::{choice_of, type_of};
 use kc_files::push_text_in;
 use kc_tree::{Node, SymId, SymbolType, Tree, Tri, UserVal};
-use kc_value::{Resolver, User, Value, assignable, tri_letter};
+use kc_value::{User, Value, assignable_among, tri_letter};
 use std::alloc::{AllocError, Global};
 
-/// The line of `show` about a symbol.
+/// The line of `show` about a symbol whose value is kept. What it is computed from, as its visibility, is kept with it.
+///
+/// The error comes where memory is refused.
 #[tactic(auto, unfolding(crate::specs::ShowLine::show_line_of))]
-pub(crate) fn show_line<R: Resolver>(
+pub(crate) fn show_line(
     alloc: Global,
-    resolver: &mut R,
+    tree: &Tree,
+    user: &User,
+    values: &[Option<Value>],
     symbol: SymId,
 ) -> Result<String, AllocError>
-    requires { IsNodeOf (R.tree_of resolver.old) (Vis symbol) }
-    ensures text { IfOk result
-        (λ text. string_bytes text ≡ show_line_of (R.tree_of resolver.old) (R.user_of resolver.old) symbol) }
-    ensures tree { R.tree_of resolver.new ≡ R.tree_of resolver.old }
-    ensures user { R.user_of resolver.new ≡ R.user_of resolver.old }
-    ensures grew { R.grew resolver.old resolver.new (Vis symbol ∷ Val symbol ∷ []) }
+    requires inside { IsNodeOf tree.now (Vis symbol) }
+    requires user { IsUserFor tree.now user.now }
+    requires kept { AreKept tree.now user.now values.now }
+    requires asked { IsKept tree.now values.now (Val symbol) }
+    ensures { IfOk result (λ text. string_bytes text ≡ show_line_of tree.now user.now symbol) }
 {
-    let value = shown_text(alloc, resolver, symbol)?;
-    let visibility = resolver.node(Node::Vis(symbol))?.as_tri();
-    let values = assignable(alloc, resolver, symbol)?;
+    let value = kept_value(tree, values, Node::Val(symbol));
+    let visibility = kept_value(tree, values, Node::Vis(symbol)).as_tri();
+    let assignable = assignable_among(alloc, tree, values, symbol)?;
     line_of(
         alloc,
-        resolver.tree(),
-        resolver.user(),
+        tree,
+        user,
         symbol,
-        value.as_str(),
+        value,
         visibility,
-        values.as_slice(),
+        assignable.as_slice(),
     )
 }
 
-/// The text of the value that a symbol shows, by its type.
-fn shown_text<R: Resolver>(
-    alloc: Global,
-    resolver: &mut R,
-    symbol: SymId,
-) -> Result<String, AllocError>
-    requires { IsNodeOf (R.tree_of resolver.old) (Vis symbol) }
-    ensures text { IfOk result (λ text. string_bytes text
-        ≡ shown_text (type_of (R.tree_of resolver.old) symbol)
-        (solution (R.tree_of resolver.old) (R.user_of resolver.old) (Val symbol))) }
-    ensures tree { R.tree_of resolver.new ≡ R.tree_of resolver.old }
-    ensures user { R.user_of resolver.new ≡ R.user_of resolver.old }
-    ensures grew { R.grew resolver.old resolver.new (Val symbol ∷ []) }
-{
-    let kind = type_of(resolver.tree(), symbol);
-    text_of(alloc, kind, resolver.node(Node::Val(symbol))?)
-}
-
-/// The text of a value, by the type of its symbol.
-fn text_of(alloc: Global, kind: SymbolType, value: &Value) -> Result<String, AllocError>
-    ensures { IfOk result (λ text. string_bytes text ≡ shown_text kind value.now) }
-{
-    let mut text = String::new(alloc);
-    push_text_in(&mut text, kind, value.as_text())?;
-    Ok(text)
-}
-
-/// The line about a symbol of a tree, from the text of its value, its visibility and the values that it can be given.
+/// The line about a symbol of a tree, from its value, its visibility and the values that it can be given.
 #[tactic(auto, unfolding(crate::specs::ShowLine::line_text))]
 fn line_of(
     alloc: Global,
     tree: &Tree,
     user: &User,
     symbol: SymId,
-    value: &str,
+    value: &Value,
     visibility: Tri,
     values: &[Tri],
 ) -> Result<String, AllocError>
     requires { IsNodeOf tree.now (Vis symbol) }
-    ensures { IfOk result (λ text. (shown : _) → value.now ≡ shown_text (type_of tree.now symbol) shown
-        → string_bytes text ≡ line_text (name_of tree.now symbol) (type_of tree.now symbol) shown visibility values.now
-        (user_part tree.now user.now symbol)) }
+    ensures { IfOk result (λ text. string_bytes text ≡ line_text (name_of tree.now symbol) (type_of tree.now symbol)
+        value.now visibility values.now (user_part tree.now user.now symbol)) }
 {
     let user = user_part(alloc, tree, user, symbol)?;
-    let mut line = line_start(alloc, tree.name(symbol), type_of(tree, symbol))?;
-    line.push_str(value)?;
+    let kind = type_of(tree, symbol);
+    let mut line = line_start(alloc, tree.name(symbol), kind)?;
+    push_text_in(&mut line, kind, value.as_text())?;
     push_rest(&mut line, visibility, values, user.as_str())?;
     Ok(line)
 }
@@ -162,17 +141,24 @@ pub(crate) fn symbol_count(tree: &Tree) -> u32
     tree.symbols().len() as u32
 }
 
-/// The lines of `list`: one about each symbol, by number.
+/// The lines of `list`: one about each symbol, by number. The values of all symbols are kept.
+///
+/// The error comes where memory is refused.
 #[tactic(auto, unfolding(crate::specs::ShowLine::list_text_of))]
-pub(crate) fn list_text<R: Resolver>(alloc: Global, resolver: &mut R) -> Result<String, AllocError>
-    ensures text { IfOk result
-        (λ text. string_bytes text ≡ list_text_of (R.tree_of resolver.old) (R.user_of resolver.old)) }
-    ensures tree { R.tree_of resolver.new ≡ R.tree_of resolver.old }
-    ensures user { R.user_of resolver.new ≡ R.user_of resolver.old }
+pub(crate) fn list_text(
+    alloc: Global,
+    tree: &Tree,
+    user: &User,
+    values: &[Option<Value>],
+) -> Result<String, AllocError>
+    requires user { IsUserFor tree.now user.now }
+    requires kept { AreKept tree.now user.now values.now }
+    requires asked { (s : SymId) → IsNodeOf tree.now (Val s) → IsKept tree.now values.now (Val s) }
+    ensures { IfOk result (λ text. string_bytes text ≡ list_text_of tree.now user.now) }
 {
     let mut text = String::new(alloc);
-    for number in 0..symbol_count(resolver.tree()) {
-        let line = show_line(alloc, resolver, SymId(number))?;
+    for number in 0..symbol_count(tree) {
+        let line = show_line(alloc, tree, user, values, SymId(number))?;
         text.push_str(line.as_str())?;
     }
     Ok(text)

@@ -67,6 +67,25 @@ fn a_failed_read_leaves_the_replies_to_whole_lines(rt: HostRuntime) -> Result<()
 }
 
 #[test]
+fn a_read_that_fails_within_a_body_loads_nothing(rt: HostRuntime) -> Result<(), Fail> {
+    let line = "load 2\n";
+    let stream = "load 2\n# CONFIG_A is not set\n# CONFIG_B is not set\n";
+    for call in line.len()..stream.len() {
+        let reader = FailingReader::new(stream.as_bytes(), 1, call as u64);
+        let writer = FailingWriter::new(rt.alloc(), 7, NEVER, NEVER);
+        let served = serve(rt.alloc(), TWO_BOOLS, reader, writer, "show A\n")?;
+        assert_eq!(rt; served.result, Err(IoFault::Read), "at call {call}");
+        assert_eq!(rt; served.taken.as_slice(), b"".as_slice(), "at call {call}");
+        assert_eq!(rt;
+            served.replies_after.as_str(),
+            "A type=bool value=y vis=y can=n,y user=-\nok\n",
+            "at call {call}"
+        );
+    }
+    Ok(())
+}
+
+#[test]
 fn a_failed_write_leaves_a_beginning(rt: HostRuntime) -> Result<(), Fail> {
     let stream = all_commands(rt.alloc())?;
     let whole = first_replies(rt.alloc(), COUNT)?;

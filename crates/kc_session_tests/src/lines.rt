@@ -31,6 +31,20 @@ fn lines_are_cut_at_line_feeds_in_pieces_of_any_size(rt: HostRuntime) -> Result<
     Ok(())
 }
 
+#[test]
+fn many_small_reads_serve_the_whole_stream(rt: HostRuntime) -> Result<(), Fail> {
+    let alloc = rt.alloc();
+    let stream = repeated(alloc, "reset\n", 12_000)?;
+    let reader = FailingReader::new(stream.as_bytes(), 1, NEVER);
+    let writer = FailingWriter::new(alloc, 4096, NEVER, NEVER);
+    let served = serve(alloc, TWO_STRINGS, reader, writer, "set S a\n")?;
+    assert_eq!(rt; served.result, Ok(()));
+    assert_eq!(rt; served.reads, 72_001);
+    assert_eq!(rt; served.taken.as_slice(), repeated(alloc, "ok\n", 12_000)?.as_bytes());
+    assert_eq!(rt; served.replies_after.as_str(), "ok\n");
+    Ok(())
+}
+
 /// A line `set S ..` of so many bytes, with this line end, the line `config` behind it, and their replies where the first
 /// is a command.
 fn long_line(alloc: Global, bytes: usize, end: &str) -> Result<(String, String), AllocError> {

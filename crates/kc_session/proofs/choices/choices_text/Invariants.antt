@@ -4,9 +4,7 @@ use Rattle.std.specs.String.{string_bytes}
 use Rattle.kc_session.specs.ChoiceLine.{choice_line_of}
 use Rattle.kc_session.proofs.choices.choices_text.Given as goal
 
--- the lines so far, of the tree and the user values as they were
+-- the lines so far
 abbrev pub invariant-loop-number : goal.invariant-loop-number
-invariant-loop-number g l =
-    (string_bytes l.text ≡ flat_map (λ k. choice_line_of (g.R.Resolver.tree_of l.fn.resolver) (g.R.Resolver.user_of l.fn.resolver) (record { 0 = k })) (range_with_len 0 l.number))
-    × (g.R.Resolver.tree_of l.resolver ≡ g.R.Resolver.tree_of l.fn.resolver)
-    × (g.R.Resolver.user_of l.resolver ≡ g.R.Resolver.user_of l.fn.resolver)
+invariant-loop-number l =
+    string_bytes l.text ≡ flat_map (λ k. choice_line_of l.fn.tree l.fn.user (record { 0 = k })) (range_with_len 0 l.number)

@@ -4,8 +4,8 @@ use Rattle.kc_session.proofs.replies.answer_command.Goals as goal
 
 pub returns-clause-ok : goal.returns-clause-ok
 returns-clause-ok g c =
-    on_ok_weaker c.write_reply.result (answers_held _ _ _ _ _ _ _ _ c.text.ensures c.reply_to_command-reply.ensures) c.write_reply.ensures.ok
+    on_ok_weaker c.write_reply.result (answers_held _ _ _ _ _ _ _ _ c.text.ensures c.reply_to_command-reply.ensures.outcome c.reply_to_command-reply.ensures.bounded) c.write_reply.ensures.ok
 
 pub returns-clause-err : goal.returns-clause-err
 returns-clause-err g c =
-    on_err_weaker c.write_reply.result (stops_held _ _ _ _ _ _ _ _ c.text.ensures c.reply_to_command-reply.ensures) c.write_reply.ensures.err
+    on_err_weaker c.write_reply.result (stops_held _ _ _ _ _ _ _ _ c.text.ensures c.reply_to_command-reply.ensures.outcome c.reply_to_command-reply.ensures.bounded) c.write_reply.ensures.err

@@ -1,52 +1,40 @@
-use Rattle.std.proofs.Common.{[], ◌∷◌, ◌++◌, List, ⊎_elim}
-use Rattle.std.specs.List.{Contains}
-use Rattle.std.proofs.lemmas.List.Elements.{Contains-append_left, Contains-append_right, Contains-append_cases}
-use Rattle.kc_statement.specs.declared.id.SymId.{SymId}
-use Rattle.kc_tree.specs.declared.node.Node.{Node}
+use Rattle.std.proofs.Common.{◌≡◌, ap, ◌∙◌}
+use Rattle.std.specs.String.{string_bytes}
+use Rattle.std.proofs.lemmas.Result.{IfOk-weaker}
+use Rattle.kc_outline.specs.TreeValue.{name_of}
 use Rattle.kc_tree.specs.declared.node.Node.TheVariants.{Vis, Val}
-use Rattle.kc_tree.proofs.ReachedLaws.{Reached-wider}
+use Rattle.kc_value.specs.Assignable.{assignable_values}
+use Rattle.kc_value.specs.Assignment.{as_tri}
+use Rattle.kc_value.specs.Solution.{solution}
+use Rattle.kc_value.proofs.KeptReading.{visibility_used, used_right}
+use Rattle.kc_files.specs.ConfigText.{type_of}
+use Rattle.kc_session.specs.ShowLine.{show_line_of, line_text, user_part}
 use Rattle.kc_session.proofs.show.show_line.Goals as goal
 
-abbrev both : SymId → List Node
-both s = Vis s ∷ Val s ∷ []
-
-in_first : (s : SymId) (n : Node) → Contains (Vis s ∷ []) n → Contains (both s) n
-in_first s n c = Contains-append_left (Vis s ∷ []) (Val s ∷ []) n c
-
-in_second : (s : SymId) (n : Node) → Contains (Val s ∷ []) n → Contains (both s) n
-in_second s n c = Contains-append_right (Vis s ∷ []) (Val s ∷ []) n c
-
-in_both : (s : SymId) (n : Node) → Contains (both s ++ both s) n → Contains (both s) n
-in_both s n c = ⊎_elim (λ h. h) (λ h. h) (Contains-append_cases (both s) (both s) n c)
-
-pub returns-in_err-node-clause-grew : goal.returns-in_err-node-clause-grew
-returns-in_err-node-clause-grew g c =
-    let laws = g.met.R.Resolver in
+pub kept_value-requires-clause-kept : goal.kept_value-requires-clause-kept
+kept_value-requires-clause-kept c =
+    let t = c.args.tree.now in
     let s = c.args.symbol in
-    let first = laws.grew_wider _ _ (Val s ∷ []) (both s) (Reached-wider _ (Val s ∷ []) (both s) (in_second s)) c.shown_text.ensures.grew in
-    let second = laws.grew_wider _ _ (Vis s ∷ []) (both s) (Reached-wider _ (Vis s ∷ []) (both s) (in_first s)) c.node.follows.holds-at-none.2 in
-    laws.grew_wider _ _ (both s ++ both s) (both s) (Reached-wider _ (both s ++ both s) (both s) (in_both s)) (laws.grew_then _ _ _ (both s) (both s) first second)
+    c.requires.kept.closed.closed (Val s) (Vis s) c.requires.inside c.requires.asked (visibility_used t s c.requires.inside)
 
-pub returns-in_err-value-clause-grew : goal.returns-in_err-value-clause-grew
-returns-in_err-value-clause-grew g c =
-    let laws = g.met.R.Resolver in
+pub returns : goal.returns
+unfolding show_line_of
+returns c =
+    let t = c.args.tree.now in
+    let u = c.args.user.now in
     let s = c.args.symbol in
-    laws.grew_wider _ _ (Val s ∷ []) (both s) (Reached-wider _ (Val s ∷ []) (both s) (in_second s)) c.shown_text.ensures.grew
-
-pub returns-in_err-values-clause-grew : goal.returns-in_err-values-clause-grew
-returns-in_err-values-clause-grew g c =
-    let laws = g.met.R.Resolver in
-    let s = c.args.symbol in
-    let first = laws.grew_wider _ _ (Val s ∷ []) (both s) (Reached-wider _ (Val s ∷ []) (both s) (in_second s)) c.shown_text.ensures.grew in
-    let second = laws.grew_wider _ _ (Vis s ∷ []) (both s) (Reached-wider _ (Vis s ∷ []) (both s) (in_first s)) c.node.follows.holds-at-none.2 in
-    let two = laws.grew_wider _ _ (both s ++ both s) (both s) (Reached-wider _ (both s ++ both s) (both s) (in_both s)) (laws.grew_then _ _ _ (both s) (both s) first second) in
-    laws.grew_wider _ _ (both s ++ both s) (both s) (Reached-wider _ (both s ++ both s) (both s) (in_both s)) (laws.grew_then _ _ _ (both s) (both s) two c.assignable.ensures.grew)
-
-pub returns-clause-grew : goal.returns-clause-grew
-returns-clause-grew g c =
-    let laws = g.met.R.Resolver in
-    let s = c.args.symbol in
-    let first = laws.grew_wider _ _ (Val s ∷ []) (both s) (Reached-wider _ (Val s ∷ []) (both s) (in_second s)) c.shown_text.ensures.grew in
-    let second = laws.grew_wider _ _ (Vis s ∷ []) (both s) (Reached-wider _ (Vis s ∷ []) (both s) (in_first s)) c.node.follows.holds-at-none.2 in
-    let two = laws.grew_wider _ _ (both s ++ both s) (both s) (Reached-wider _ (both s ++ both s) (both s) (in_both s)) (laws.grew_then _ _ _ (both s) (both s) first second) in
-    laws.grew_wider _ _ (both s ++ both s) (both s) (Reached-wider _ (both s ++ both s) (both s) (in_both s)) (laws.grew_then _ _ _ (both s) (both s) two c.assignable.ensures.grew)
+    let kept = c.requires.kept in
+    let value : c.kept_value-value.result.now ≡ solution t u (Val s) = c.kept_value-value.ensures.value u kept in
+    let visibility : c.as_tri-visibility.result ≡ as_tri (solution t u (Vis s)) = c.as_tri-visibility.ensures ∙ ap as_tri (c.kept_value.ensures.value u kept) in
+    let right = used_right t u c.args.values.now kept c.kept_value.ensures.accepted (Val s) c.requires.inside c.requires.asked in
+    let can : c.as_slice.result.now ≡ assignable_values t u s = c.as_slice.ensures.value ∙ c.in_ok-assignable.ensures.used u c.requires.user right in
+    let line = line_text (name_of t s) (type_of t s) in
+    let user = user_part t u s in
+    IfOk-weaker c.line_of.result
+    (λ text. string_bytes text ≡ line c.kept_value-value.result.now c.as_tri-visibility.result c.as_slice.result.now user)
+    (λ text. string_bytes text ≡ show_line_of t u s)
+    (λ text is. is
+    ∙ ap (λ v. line v c.as_tri-visibility.result c.as_slice.result.now user) value
+    ∙ ap (λ v. line (solution t u (Val s)) v c.as_slice.result.now user) visibility
+    ∙ ap (λ vs. line (solution t u (Val s)) (as_tri (solution t u (Vis s))) vs user) can)
+    c.line_of.ensures

@@ -1,0 +1,244 @@
+-- What is kept once the nodes of symbols or of choices were asked, one after the other.
+use Rattle.std.proofs.Common.{◌≡◌, ℕ, zero, suc, ◌+◌, ◌-◌, ◌*◌, ◌<◌, ◌≤◌, List, [], ◌∷◌, Option, Result, Ok, Err, OnOk, map, length, get_or, refl, sym, ap, ◌∙◌, subst, inl, inr, ⊎_elim, arith}
+use Rattle.std.specs.List.{Contains, range_with_len}
+use Rattle.std.proofs.lemmas.Bool.{cases_eq, cases_lt}
+use Rattle.std.proofs.lemmas.List.FromFn.{get_or-range_with_len, length-range_with_len}
+use Rattle.kc_statement.specs.declared.id.SymId.{SymId}
+use Rattle.kc_outline.specs.declared.id.ChoiceId.{ChoiceId}
+use Rattle.kc_outline.specs.TreeValue.{TreeValue}
+use Rattle.kc_tree.specs.declared.node.Node.{Node}
+use Rattle.kc_tree.specs.declared.node.Node.TheVariants.{Vis, Val, Mode, Sel}
+use Rattle.kc_tree.specs.Nodes.{IsNodeOf, all_nodes, node_at, node_count, number_of}
+use Rattle.kc_tree.proofs.NodeNumbers.{Contains-at, Contains-from_at, at_below, node_in-number_in, same_node}
+use Rattle.kc_value.specs.declared.value.Value.{Value}
+use Rattle.kc_value.specs.Kept.{Fills, IsClosed, IsKept}
+use Rattle.kc_value.proofs.KeptLaws.{fills_again, fills_nothing, fills_wider, kept_after, mode_kept, visibility_kept}
+use Rattle.kc_session.specs.Keeping.{choice_nodes, symbol_nodes}
+use Rattle.kc_session.specs.KeptResolver.{AreAllKept, Asked, IsResolving, ResolverState}
+
+-- ---- nodes by number
+abbrev numbered : TreeValue → ℕ → ℕ → List Node
+numbered t low count = map (node_at t) (range_with_len low count)
+
+in_numbered : (t : TreeValue) (low count : ℕ) (n : Node) → IsNodeOf t n → low ≤ number_of t n → number_of t n < low + count → Contains (numbered t low count) n
+in_numbered t low count n inside from below =
+    let k : ℕ = number_of t n in
+    let at : k - low < count = omega (arith, from, below) in
+    let here : Contains (range_with_len low count) k = (k - low, omega (arith, at, length-range_with_len low count), get_or-range_with_len low count (k - low) k at ∙ omega (arith, from)) in
+    Contains-at (length t.symbols) (range_with_len low count) n (node_in-number_in t n inside) here
+
+from_numbered : (t : TreeValue) (low count : ℕ) (n : Node) → low + count ≤ node_count t → Contains (numbered t low count) n
+    → IsNodeOf t n × (low ≤ number_of t n) × (number_of t n < low + count)
+from_numbered t low count n few h =
+    let r = Contains-from_at (length t.symbols) (range_with_len low count) n h in
+    let at : r.1.0 < count = omega (arith, r.1.1, length-range_with_len low count) in
+    let is : low + r.1.0 ≡ number_of t n = sym (get_or-range_with_len low count r.1.0 (number_of t n) at) ∙ r.1.2 in
+    let below : number_of t n < low + count = omega (arith, at, is) in
+    (subst (IsNodeOf t) r.0 (at_below t (number_of t n) (omega (arith, below, few))), omega (arith, is), below)
+
+-- ---- asking some of the nodes once more
+pub asked_again : (p q : List Node) (old mid new : ResolverState) → ((n : Node) → Contains q n → Contains p n) → Asked p old mid → Asked q mid new → Asked p old new
+asked_again p q old mid new among f g = record {
+  tree = g.tree ∙ f.tree;
+  user = g.user ∙ f.user;
+  fills = fills_again old.tree mid.tree p q old.kept mid.kept new.kept f.tree among f.fills g.fills;
+}
+
+only_one : (p : List Node) (m : Node) → Contains p m → (n : Node) → Contains (m ∷ []) n → Contains p n
+only_one p m c n h = go h.0 h.1 h.2
+  where
+    go : (k : ℕ) → k < 1 → get_or (m ∷ []) k n ≡ n → Contains p n
+    go zero within is = subst (λ x. Contains p x) is c
+    go (suc k) within is = absurd (omega (arith, within))
+
+pub asked_nothing : (p : List Node) (r : ResolverState) → Asked p r r
+asked_nothing p r = record {
+  tree = refl;
+  user = refl;
+  fills = fills_wider r.tree [] p r.kept r.kept (λ n h. absurd (omega (arith, h.1.1))) (fills_nothing r.tree r.kept);
+}
+
+fills_of : (p : List Node) (old mid new : ResolverState) → mid.tree ≡ old.tree → Asked p mid new → Fills old.tree p mid.kept new.kept
+fills_of p old mid new same g = subst (λ x. Fills x p mid.kept new.kept) same g.fills
+
+still_kept : (p : List Node) (old mid new : ResolverState) (n : Node) → mid.tree ≡ old.tree → IsNodeOf old.tree n → IsKept old.tree mid.kept.values n → Asked p mid new
+    → IsKept old.tree new.kept.values n
+still_kept p old mid new n same inside kept g = kept_after old.tree old.tree p mid.kept new.kept n refl inside kept (fills_of p old mid new same g)
+
+-- ---- a pass over symbols or choices: it asked some of the nodes, and has those of the numbers so far
+pub record HasAsked (nodes : List Node) (low high : ℕ) (old new : ResolverState) : Type 0 where
+  pub asked : Asked nodes old new
+  pub kept : (n : Node) → IsNodeOf old.tree n → low ≤ number_of old.tree n → number_of old.tree n < high → IsKept old.tree new.kept.values n
+
+begun : (nodes : List Node) (low high : ℕ) (r : ResolverState) → high ≤ low → HasAsked nodes low high r r
+begun nodes low high r none = record {
+  asked = asked_nothing nodes r;
+  kept = λ n inside from below. absurd (omega (arith, none, from, below));
+}
+
+-- two nodes of neighbouring numbers more
+two_more : (t : TreeValue) (kept : List (Option Value)) (a b : Node) (low high : ℕ) → IsNodeOf t a → IsNodeOf t b → number_of t a ≡ high → number_of t b ≡ high + 1
+    → IsKept t kept a → IsKept t kept b → ((n : Node) → IsNodeOf t n → low ≤ number_of t n → number_of t n < high → IsKept t kept n)
+    → (n : Node) → IsNodeOf t n → low ≤ number_of t n → number_of t n < high + 2 → IsKept t kept n
+two_more t kept a b low high at_a at_b is_a is_b kept_a kept_b before n inside from below =
+    ⊎_elim
+    (λ h. before n inside from h)
+    (λ h.
+    ⊎_elim
+    (λ (e : number_of t n ≡ high). subst (λ m. IsKept t kept m) (same_node t a n at_a inside (is_a ∙ sym e)) kept_a)
+    (λ other.
+    let last : number_of t n ≡ high + 1 = omega (arith, h, below, other) in
+    subst (λ m. IsKept t kept m) (same_node t b n at_b inside (is_b ∙ sym last)) kept_b)
+    (cases_eq (number_of t n) high))
+    (cases_lt (number_of t n) high)
+
+all_done : (nodes : List Node) (low count high : ℕ) (old new : ResolverState) → nodes ≡ numbered old.tree low count → low + count ≤ node_count old.tree → low + count ≤ high
+    → HasAsked nodes low high old new → AreAllKept nodes new
+all_done nodes low count high old new are few enough h n c =
+    let r = from_numbered old.tree low count n few (subst (λ xs. Contains xs n) are c) in
+    subst (λ x. IsKept x new.kept.values n) (sym h.asked.tree) (h.kept n r.0 r.1 (omega (arith, r.2, enough)))
+
+-- ---- symbols
+symbol_in : (t : TreeValue) (s : SymId) → s.0 < length t.symbols → Contains (symbol_nodes t) (Val s)
+symbol_in t s inside = in_numbered t 0 (2 * length t.symbols) (Val s) inside (omega arith) (omega (arith, inside))
+
+pub symbol_asked : (s : SymId) (old mid new : ResolverState) → s.0 < length old.tree.symbols → Asked (symbol_nodes old.tree) old mid → Asked (Val s ∷ []) mid new
+    → Asked (symbol_nodes old.tree) old new
+symbol_asked s old mid new inside f g = asked_again (symbol_nodes old.tree) (Val s ∷ []) old mid new (only_one (symbol_nodes old.tree) (Val s) (symbol_in old.tree s inside)) f g
+
+pub symbols_begun : (r : ResolverState) → HasAsked (symbol_nodes r.tree) 0 0 r r
+symbols_begun r = begun (symbol_nodes r.tree) 0 0 r (omega arith)
+
+pub symbols_more : (s : SymId) (old mid new : ResolverState) → s.0 < length old.tree.symbols → HasAsked (symbol_nodes old.tree) 0 (2 * s.0) old mid
+    → Asked (Val s ∷ []) mid new → IsKept mid.tree new.kept.values (Val s) → IsResolving new → HasAsked (symbol_nodes old.tree) 0 (2 * (s.0 + 1)) old new
+symbols_more s old mid new inside h g own sound =
+    let value : IsKept old.tree new.kept.values (Val s) = subst (λ x. IsKept x new.kept.values (Val s)) h.asked.tree own in
+    let closed : IsClosed old.tree new.kept.values = subst (λ x. IsClosed x new.kept.values) (g.tree ∙ h.asked.tree) sound.kept.closed in
+    let seen : IsKept old.tree new.kept.values (Vis s) = visibility_kept old.tree new.kept.values s closed inside value in
+    record {
+      asked = symbol_asked s old mid new inside h.asked g;
+      kept = λ n at from below.
+          two_more old.tree new.kept.values (Vis s) (Val s) 0 (2 * s.0) inside inside refl refl seen value
+          (λ m in_m from_m below_m. still_kept (Val s ∷ []) old mid new m h.asked.tree in_m (h.kept m in_m from_m below_m) g)
+          n at from (omega (arith, below));
+    }
+
+pub symbols_done : (k : ℕ) (old new : ResolverState) → length old.tree.symbols ≤ k → HasAsked (symbol_nodes old.tree) 0 (2 * k) old new → AreAllKept (symbol_nodes old.tree) new
+symbols_done k old new enough h = all_done (symbol_nodes old.tree) 0 (2 * length old.tree.symbols) (2 * k) old new refl (omega arith) (omega (arith, enough)) h
+
+-- ---- choices
+choice_in : (t : TreeValue) (c : ChoiceId) → c.0 < length t.choices → Contains (choice_nodes t) (Sel c)
+choice_in t c inside = in_numbered t (2 * length t.symbols) (2 * length t.choices) (Sel c) inside (omega arith) (omega (arith, inside))
+
+pub choice_asked : (c : ChoiceId) (old mid new : ResolverState) → c.0 < length old.tree.choices → Asked (choice_nodes old.tree) old mid → Asked (Sel c ∷ []) mid new
+    → Asked (choice_nodes old.tree) old new
+choice_asked c old mid new inside f g = asked_again (choice_nodes old.tree) (Sel c ∷ []) old mid new (only_one (choice_nodes old.tree) (Sel c) (choice_in old.tree c inside)) f g
+
+pub choices_begun : (r : ResolverState) → HasAsked (choice_nodes r.tree) (2 * length r.tree.symbols) (2 * (length r.tree.symbols + 0)) r r
+choices_begun r = begun (choice_nodes r.tree) (2 * length r.tree.symbols) (2 * (length r.tree.symbols + 0)) r (omega arith)
+
+pub choices_more : (c : ChoiceId) (old mid new : ResolverState) → c.0 < length old.tree.choices
+    → HasAsked (choice_nodes old.tree) (2 * length old.tree.symbols) (2 * (length old.tree.symbols + c.0)) old mid
+    → Asked (Sel c ∷ []) mid new → IsKept mid.tree new.kept.values (Sel c) → IsResolving new
+    → HasAsked (choice_nodes old.tree) (2 * length old.tree.symbols) (2 * (length old.tree.symbols + (c.0 + 1))) old new
+choices_more c old mid new inside h g own sound =
+    let value : IsKept old.tree new.kept.values (Sel c) = subst (λ x. IsKept x new.kept.values (Sel c)) h.asked.tree own in
+    let closed : IsClosed old.tree new.kept.values = subst (λ x. IsClosed x new.kept.values) (g.tree ∙ h.asked.tree) sound.kept.closed in
+    let mode : IsKept old.tree new.kept.values (Mode c) = mode_kept old.tree new.kept.values c closed inside value in
+    record {
+      asked = choice_asked c old mid new inside h.asked g;
+      kept = λ n at from below.
+          two_more old.tree new.kept.values (Mode c) (Sel c) (2 * length old.tree.symbols) (2 * (length old.tree.symbols + c.0)) inside inside refl refl mode value
+          (λ m in_m from_m below_m. still_kept (Sel c ∷ []) old mid new m h.asked.tree in_m (h.kept m in_m from_m below_m) g)
+          n at from (omega (arith, below));
+    }
+
+pub choices_done : (k : ℕ) (old new : ResolverState) → length old.tree.choices ≤ k
+    → HasAsked (choice_nodes old.tree) (2 * length old.tree.symbols) (2 * (length old.tree.symbols + k)) old new → AreAllKept (choice_nodes old.tree) new
+choices_done k old new enough h =
+    all_done (choice_nodes old.tree) (2 * length old.tree.symbols) (2 * length old.tree.choices) (2 * (length old.tree.symbols + k)) old new refl (omega arith) (omega (arith, enough)) h
+
+-- ---- both
+symbols_in_all : (t : TreeValue) (n : Node) → Contains (symbol_nodes t) n → Contains (all_nodes t) n
+symbols_in_all t n c =
+    let r = from_numbered t 0 (2 * length t.symbols) n (omega arith) c in
+    in_numbered t 0 (node_count t) n r.0 (omega arith) (omega (arith, r.2))
+
+choices_in_all : (t : TreeValue) (n : Node) → Contains (choice_nodes t) n → Contains (all_nodes t) n
+choices_in_all t n c =
+    let r = from_numbered t (2 * length t.symbols) (2 * length t.choices) n (omega arith) c in
+    in_numbered t 0 (node_count t) n r.0 (omega arith) (omega (arith, r.2))
+
+pub symbols_of_all : (old new : ResolverState) → Asked (symbol_nodes old.tree) old new → Asked (all_nodes old.tree) old new
+symbols_of_all old new f =
+    asked_again (all_nodes old.tree) (symbol_nodes old.tree) old old new (symbols_in_all old.tree) (asked_nothing (all_nodes old.tree) old) f
+
+pub all_asked : (old mid new : ResolverState) → Asked (symbol_nodes old.tree) old mid → Asked (choice_nodes mid.tree) mid new → Asked (all_nodes old.tree) old new
+all_asked old mid new f g =
+    asked_again (all_nodes old.tree) (choice_nodes mid.tree) old mid new
+    (λ n c. choices_in_all old.tree n (subst (λ x. Contains (choice_nodes x) n) f.tree c)) (symbols_of_all old mid f) g
+
+pub all_kept : (old mid new : ResolverState) → Asked (symbol_nodes old.tree) old mid → AreAllKept (symbol_nodes old.tree) mid → Asked (choice_nodes mid.tree) mid new
+    → AreAllKept (choice_nodes mid.tree) new → AreAllKept (all_nodes old.tree) new
+all_kept old mid new f symbols g choices n c =
+    let t : TreeValue = old.tree in
+    let k : ℕ = number_of t n in
+    let r = from_numbered t 0 (node_count t) n (omega arith) c in
+    let low : ℕ = 2 * length t.symbols in
+    subst (λ x. IsKept x new.kept.values n) (sym (g.tree ∙ f.tree))
+    (⊎_elim
+    (λ before.
+    let own : IsKept t mid.kept.values n = subst (λ x. IsKept x mid.kept.values n) f.tree (symbols n (in_numbered t 0 low n r.0 (omega arith) (omega (arith, before)))) in
+    still_kept (choice_nodes mid.tree) old mid new n f.tree r.0 own g)
+    (λ after.
+    let here : Contains (choice_nodes t) n = in_numbered t low (2 * length t.choices) n r.0 after (omega (arith, r.2)) in
+    subst (λ x. IsKept x new.kept.values n) (g.tree ∙ f.tree) (choices n (subst (λ x. Contains (choice_nodes x) n) (sym f.tree) here)))
+    (cases_lt k low))
+
+-- ---- all nodes, asked twice
+pub all_twice : (old mid new : ResolverState) → Asked (all_nodes old.tree) old mid → Asked (all_nodes mid.tree) mid new → Asked (all_nodes old.tree) old new
+all_twice old mid new f g = asked_again (all_nodes old.tree) (all_nodes mid.tree) old mid new (λ n c. subst (λ x. Contains (all_nodes x) n) f.tree c) f g
+
+pub all_stay : (old mid new : ResolverState) → Asked (all_nodes old.tree) old mid → AreAllKept (all_nodes old.tree) mid → Asked (all_nodes mid.tree) mid new → AreAllKept (all_nodes old.tree) new
+all_stay old mid new f kept g n c =
+    let inside : IsNodeOf mid.tree n = subst (λ x. IsNodeOf x n) (sym f.tree) (from_numbered old.tree 0 (node_count old.tree) n (omega arith) c).0 in
+    kept_after mid.tree new.tree (all_nodes mid.tree) mid.kept new.kept n g.tree inside (kept n c) g.fills
+
+-- ---- what a text is made from is kept
+pub symbols_there : (old new : ResolverState) (t : TreeValue) (kept : List (Option Value)) → t ≡ new.tree → kept ≡ new.kept.values → Asked (symbol_nodes old.tree) old new
+    → AreAllKept (symbol_nodes old.tree) new → (s : SymId) → IsNodeOf t (Val s) → IsKept t kept (Val s)
+symbols_there old new t kept is_t is_kept f all s inside =
+    let within : s.0 < length old.tree.symbols = subst (λ x. s.0 < length x.symbols) (is_t ∙ f.tree) inside in
+    subst (λ x. IsKept x kept (Val s)) (sym is_t) (subst (λ k. IsKept new.tree k (Val s)) (sym is_kept) (all (Val s) (symbol_in old.tree s within)))
+
+pub choices_there : (old new : ResolverState) (t : TreeValue) (kept : List (Option Value)) → t ≡ new.tree → kept ≡ new.kept.values → Asked (choice_nodes old.tree) old new
+    → AreAllKept (choice_nodes old.tree) new → (c : ChoiceId) → IsNodeOf t (Sel c) → IsKept t kept (Sel c)
+choices_there old new t kept is_t is_kept f all c inside =
+    let within : c.0 < length old.tree.choices = subst (λ x. c.0 < length x.choices) (is_t ∙ f.tree) inside in
+    subst (λ x. IsKept x kept (Sel c)) (sym is_t) (subst (λ k. IsKept new.tree k (Sel c)) (sym is_kept) (all (Sel c) (choice_in old.tree c within)))
+
+-- ---- where a call is done
+pub on_ok : {A E P Q : Type 0} (r : Result A E) → (P → Q) → OnOk r P → OnOk r Q
+on_ok (Ok a) f p = f p
+on_ok (Err e) f p = tt
+
+pub ok_always : {A E P : Type 0} (r : Result A E) → P → OnOk r P
+ok_always (Ok a) p = p
+ok_always (Err e) p = tt
+
+-- ---- a symbol that is shown
+pub shown_asked : (s : SymId) (old new : ResolverState) → Asked (Val s ∷ []) old new → Asked (Vis s ∷ Val s ∷ []) old new
+shown_asked s old new f =
+    asked_again (Vis s ∷ Val s ∷ []) (Val s ∷ []) old old new (only_one (Vis s ∷ Val s ∷ []) (Val s) (1, omega arith, refl)) (asked_nothing (Vis s ∷ Val s ∷ []) old) f
+
+pub shown_kept : (s : SymId) (old new : ResolverState) → s.0 < length old.tree.symbols → Asked (Val s ∷ []) old new → IsKept old.tree new.kept.values (Val s) → IsResolving new
+    → AreAllKept (Vis s ∷ Val s ∷ []) new
+shown_kept s old new inside f own sound n h = go h.0 h.1 h.2
+  where
+    value : IsKept new.tree new.kept.values (Val s)
+    value = subst (λ x. IsKept x new.kept.values (Val s)) (sym f.tree) own
+
+    go : (k : ℕ) → k < 2 → get_or (Vis s ∷ Val s ∷ []) k n ≡ n → IsKept new.tree new.kept.values n
+    go zero within is = subst (λ x. IsKept new.tree new.kept.values x) is (visibility_kept new.tree new.kept.values s sound.kept.closed (subst (λ x. s.0 < length x.symbols) (sym f.tree) inside) value)
+    go (suc zero) within is = subst (λ x. IsKept new.tree new.kept.values x) is value
+    go (suc (suc k)) within is = absurd (omega (arith, within))
