@@ -1,0 +1,40 @@
+#!/usr/bin/env bash
+# What edits and queries of a session cost, beside a live session of Kconfiglib (Debian's package python3-kconfiglib).
+#
+#     bench/sessions.sh [PROGRAM]
+#
+# Without PROGRAM it builds kconf by rt. On the one file of bench/make_tree.py it compares, each the median of eleven
+# rounds:
+#
+# - an edit with the `show` of its symbol, 400 of them in one stream, with the same in Kconfiglib: set the value, then
+#   read value, visibility and assignable values (wanted: at most 0.2);
+# - an edit with the whole `config` (at most 0.2);
+# - the first `config` of a session with the first evaluation of all in Kconfiglib (at most 0.2).
+#
+# It then times 10,000 `show` commands of one session, and `config` after an edit on trees of 1,000 and of 60,000 symbols
+# that stand side by side, in a chain, or all depend on one (for each symbol at most 1.5 times as much in the greater).
+# The status is 0 where all are kept, else 1.
+set -euo pipefail
+shopt -s inherit_errexit
+
+bench=$(cd "$(dirname "${BASH_SOURCE[0]}")" && pwd)
+readonly bench
+# shellcheck source=bench/build.sh
+source "$bench/build.sh"
+
+# Installs Kconfiglib where it is missing.
+install_kconfiglib() {
+    python3 -c "import kconfiglib" 2>/dev/null && return
+    local as_root=()
+    [ "$(id -u)" -eq 0 ] || as_root=(sudo)
+    "${as_root[@]}" apt-get update >/dev/null
+    "${as_root[@]}" apt-get install --yes python3-kconfiglib >/dev/null
+}
+
+kconf=$(realpath "${1:-$(build_kconf)}")
+install_kconfiglib
+work=$(mktemp -d)
+trap 'rm -rf "$work"' EXIT
+mkdir "$work/tree"
+python3 "$bench/make_tree.py" one "$work/tree"
+PYTHONPATH=${PYTHONPATH:-/usr/lib/python3/dist-packages} python3 "$bench/time_sessions.py" "$kconf" "$work"

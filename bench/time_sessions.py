@@ -1,0 +1,137 @@
+"""The measurements of bench/sessions.sh: time_sessions.py PROGRAM FOLDER, with the tree in FOLDER/tree."""
+
+import os
+import statistics
+import subprocess
+import sys
+import threading
+import time
+
+import kconfiglib
+
+ROUNDS = 11
+EDITS = 400
+SHOWS = 10_000
+program, work = sys.argv[1:3]
+
+
+class Session:
+    """A session of kconf that is driven through pipes."""
+
+    def __init__(self, folder):
+        self.child = subprocess.Popen(
+            [program, "session", "Kconfig", "-"], cwd=folder, stdin=subprocess.PIPE, stdout=subprocess.PIPE
+        )
+        self.ask([])  # the tree is there when the first reply is
+
+    def ask(self, commands):
+        """How long it takes until all replies to the commands are there, and that to a word that is no command."""
+        stream = "".join(f"{command}\n" for command in [*commands, "end"]).encode()
+        begin = time.perf_counter()
+        writer = threading.Thread(target=self.write, args=(stream,))
+        writer.start()
+        last = b""
+        while not last.endswith(b"refused 1\n"):
+            last = last[-10:] + os.read(self.child.stdout.fileno(), 1 << 20)
+        took = time.perf_counter() - begin
+        writer.join()
+        return took
+
+    def write(self, stream):
+        self.child.stdin.write(stream)
+        self.child.stdin.flush()
+
+    def end(self):
+        self.child.stdin.close()
+        self.child.wait()
+
+
+class Library:
+    """A session of Kconfiglib."""
+
+    def __init__(self, folder):
+        os.chdir(folder)
+        self.tree = kconfiglib.Kconfig("Kconfig", warn=False)
+        self.config = os.path.join(work, "config")
+
+    def edit_and_show(self, names, values):
+        begin = time.perf_counter()
+        for name, value in zip(names, values):
+            symbol = self.tree.syms[name]
+            symbol.set_value(value)
+            symbol.str_value, symbol.visibility, symbol.assignable, symbol.user_value
+        return time.perf_counter() - begin
+
+    def write(self):
+        begin = time.perf_counter()
+        self.tree._config_contents("")
+        return time.perf_counter() - begin
+
+    def edit_and_write(self, name, value):
+        begin = time.perf_counter()
+        self.tree.syms[name].set_value(value)
+        self.tree._config_contents("")
+        return time.perf_counter() - begin
+
+
+def report(name, over, under, most):
+    """Prints a ratio of medians in milliseconds, and says whether it is kept."""
+    left, right = statistics.median(over), statistics.median(under)
+    print(f"{name}: {left * 1000:.2f} ms against {right * 1000:.2f} ms: {left / right:.3f} (wanted: at most {most})")
+    return left / right <= most
+
+
+def against_kconfiglib():
+    folder = os.path.join(work, "tree")
+    names = [f"OPTION_{number * 37 % 16_000:05}" for number in range(EDITS)]
+    shows, library_shows, configs, library_configs, firsts, library_firsts = [], [], [], [], [], []
+    session, library = Session(folder), Library(folder)
+    firsts.append(session.ask(["config"]))
+    library_firsts.append(library.write())
+    for turn in range(ROUNDS):
+        values = ["ny"[(turn + at) % 2] for at in range(EDITS)]
+        commands = [line for name, value in zip(names, values) for line in (f"set {name} {value}", f"show {name}")]
+        shows.append(session.ask(commands))
+        library_shows.append(library.edit_and_show(names, values))
+        name, value = names[turn], "ny"[turn % 2]
+        configs.append(session.ask([f"set {name} {value}", "config"]))
+        library_configs.append(library.edit_and_write(name, value))
+    shown = session.ask([f"show {names[at % EDITS]}" for at in range(SHOWS)])
+    session.end()
+    print(f"{SHOWS} show commands: {shown / SHOWS * 1e6:.1f} microseconds each")
+    kept = report(f"{EDITS} edits, each with show", shows, library_shows, 0.2)
+    kept &= report("an edit with config", configs, library_configs, 0.2)
+    return kept & report("the first config", firsts, library_firsts, 0.2)
+
+
+def write_tree(folder, shape, count):
+    """So many bools: side by side, each depending on the one before, or all on the first."""
+    os.makedirs(folder, exist_ok=True)
+    with open(os.path.join(folder, "Kconfig"), "w") as file:
+        for number in range(count):
+            file.write(f'config S{number}\n\tbool "symbol {number}"\n\tdefault y\n')
+            if number and shape != "flat":
+                file.write(f"\tdepends on S{number - 1 if shape == 'chain' else 0}\n")
+
+
+def for_each_symbol(shape, count):
+    """The median time for each symbol of `config` after an edit of the first symbol."""
+    folder = os.path.join(work, f"{shape}{count}")
+    write_tree(folder, shape, count)
+    session = Session(folder)
+    session.ask(["config"])
+    times = [session.ask([f"set S0 {'ny'[turn % 2]}", "config"]) for turn in range(ROUNDS)]
+    session.end()
+    return statistics.median(times) / count
+
+
+def by_size():
+    kept = True
+    for shape in ("flat", "chain", "fan"):
+        small, great = for_each_symbol(shape, 1_000), for_each_symbol(shape, 60_000)
+        kept = kept and great / small <= 1.5
+        print(f"{shape}: {great * 1e6:.2f} microseconds a symbol against {small * 1e6:.2f}: {great / small:.2f} (wanted: at most 1.5)")
+    return kept
+
+
+sys.exit(not (against_kconfiglib() & by_size()))
