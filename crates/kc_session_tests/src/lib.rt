@@ -9,6 +9,8 @@ mod failing;
 #[cfg(test)]
 mod failures;
 #[cfg(test)]
+mod kept;
+#[cfg(test)]
 mod lines;
 #[cfg(test)]
 mod prefixes;

@@ -40,7 +40,10 @@ fn many_small_reads_serve_the_whole_stream(rt: HostRuntime) -> Result<(), Fail> 
     let served = serve(alloc, TWO_STRINGS, reader, writer, "set S a\n")?;
     assert_eq!(rt; served.result, Ok(()));
     assert_eq!(rt; served.reads, 72_001);
-    assert_eq!(rt; served.taken.as_slice(), repeated(alloc, "ok\n", 12_000)?.as_bytes());
+    assert_eq!(rt;
+        served.taken.as_slice(),
+        repeated(alloc, "ok\n", 12_000)?.as_bytes()
+    );
     assert_eq!(rt; served.replies_after.as_str(), "ok\n");
     Ok(())
 }

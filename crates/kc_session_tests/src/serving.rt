@@ -20,7 +20,7 @@ pub(crate) struct Served {
 }
 
 /// The session of a Kconfig, without user values.
-fn session_of(alloc: Global, kconfig: &str) -> Result<Session, Fail> {
+pub(crate) fn session_of(alloc: Global, kconfig: &str) -> Result<Session, Fail> {
     let mut sources = Sources::new(alloc);
     sources.add("Kconfig", kconfig)?;
     let prefix = Prefix::new(alloc, "CONFIG_")?;
@@ -29,7 +29,11 @@ fn session_of(alloc: Global, kconfig: &str) -> Result<Session, Fail> {
 }
 
 /// The replies of a session to a stream that is read and written without a failure.
-fn replies_in(alloc: Global, session: &mut Session, stream: &str) -> Result<String, Fail> {
+pub(crate) fn replies_in(
+    alloc: Global,
+    session: &mut Session,
+    stream: &str,
+) -> Result<String, Fail> {
     let mut reader = FailingReader::new(stream.as_bytes(), 3, NEVER);
     let mut writer = FailingWriter::new(alloc, 5, NEVER, NEVER);
     run(alloc, &mut reader, &mut writer, session)?;

@@ -1,0 +1,331 @@
+//! What a session keeps: the count of evaluations, and replies that don't depend on it.
+use crate::serving::{replies_in, session_of};
+use kc_session::Session;
+use kc_tables::{rows, two_fields};
+use kc_tree::{Node, SymId};
+use kc_value::Resolver;
+use std::alloc::Global;
+use std::test::Fail;
+
+/// A symbol, and one that depends on it.
+const TWO: &str = r#"
+config A
+    bool "a"
+    default y
+config B
+    bool "b"
+    depends on A
+"#;
+
+/// Symbols that have nothing to do with each other.
+const FOUR: &str = r#"
+config A
+    bool "a"
+config B
+    bool "b"
+config C
+    bool "c"
+config D
+    bool "d"
+"#;
+
+/// A choice, with a member that depends on a symbol.
+const CHOICE: &str = r#"
+config D
+    bool "d"
+choice
+    prompt "ch"
+    default B
+config A
+    bool "a"
+config B
+    bool "b"
+config C
+    bool "c" if D
+endchoice
+"#;
+
+/// A choice that may be off.
+const OPTIONAL: &str = r#"
+choice
+    prompt "c"
+    optional
+config P
+    bool "p"
+config Q
+    bool "q"
+endchoice
+"#;
+
+/// Symbols that others select, imply and bound.
+const REVERSE: &str = r#"
+config MODULES
+    def_bool y
+    modules
+config S
+    tristate "s"
+    select T
+    imply U
+config T
+    tristate "t" if m
+config U
+    bool "u"
+    depends on S
+config LOW
+    int "low"
+    default 3
+config N
+    int "n"
+    range LOW 9
+    default 5
+"#;
+
+/// Commands, and the count of evaluations after each.
+const OF_TWO: &str = r#"
+show A | 2
+show B | 4
+set A n | 4
+show A | 5
+set B y | 5
+show B | 7
+"#;
+
+/// A symbol that is shown first has its own nodes and those that it is computed from evaluated.
+const OF_ONE_OF_TWO: &str = r#"
+show B | 4
+show B | 4
+"#;
+
+/// A value that is the same as before changes nothing.
+const OF_FOUR: &str = r#"
+list | 8
+set D y | 8
+list | 9
+set D y | 9
+list | 9
+set D m | 9
+unset D | 9
+list | 10
+reset | 10
+list | 10
+"#;
+
+/// Of a choice, the values of its members are not asked.
+const OF_CHOICE: &str = r#"
+choices | 7
+set D y | 7
+choices | 10
+"#;
+
+/// A choice that goes on has another mode; one that only selects another member has not.
+const OF_OPTIONAL: &str = r#"
+choices | 4
+set P y | 4
+choices | 8
+set Q y | 8
+choices | 9
+"#;
+
+/// What the session counted after each command must be what the table has.
+fn compare_counts(alloc: Global, session: &mut Session, counts: &str) -> Result<(), Fail> {
+    for row in rows(alloc, counts)? {
+        let (command, _) = two_fields(alloc, row)?;
+        let line = format!(in alloc; "{command}\n")?;
+        let _ = replies_in(alloc, session, line.as_str())?;
+        let found = session.evals();
+        let found = format!(in alloc; "{command} | {found}")?;
+        if found.as_str() != row {
+            return Err(Fail::new(found));
+        }
+    }
+    Ok(())
+}
+
+/// The counts of a new session of a Kconfig.
+fn counts_of(alloc: Global, kconfig: &str, counts: &str) -> Result<(), Fail> {
+    match session_of(alloc, kconfig) {
+        Ok(mut session) => compare_counts(alloc, &mut session, counts),
+        Err(fail) => Err(fail),
+    }
+}
+
+#[test]
+fn each_node_is_evaluated_once_until_an_edit_changes_it(rt: HostRuntime) -> Result<(), Fail> {
+    for (kconfig, counts) in [
+        (TWO, OF_TWO),
+        (TWO, OF_ONE_OF_TWO),
+        (FOUR, OF_FOUR),
+        (CHOICE, OF_CHOICE),
+        (OPTIONAL, OF_OPTIONAL),
+    ] {
+        counts_of(rt.alloc(), kconfig, counts)?;
+    }
+    Ok(())
+}
+
+/// The count after the value of a symbol was asked, which is told by the call alone.
+fn count_of_a_call(session: &mut Session, symbol: SymId) -> Result<u64, Fail> {
+    let _ = session.node(Node::Val(symbol))?;
+    Ok(session.evals())
+}
+
+#[test]
+fn a_call_counts_as_the_command_does(rt: HostRuntime) -> Result<(), Fail> {
+    let count = match session_of(rt.alloc(), TWO) {
+        Ok(mut session) => count_of_a_call(&mut session, SymId(1)),
+        Err(fail) => Err(fail),
+    };
+    assert_eq!(rt; count?, 4);
+    Ok(())
+}
+
+/// Symbols of which each depends on the one before.
+fn chain(alloc: Global, count: u32) -> Result<String, Fail> {
+    let mut text = String::from_str(alloc, "config S0\n\tbool \"s\"\n")?;
+    for number in 1..count {
+        let before = number - 1;
+        let entry = format!(in alloc; "config S{number}\n\tbool \"s\"\n\tdepends on S{before}\n")?;
+        text.push_str(entry.as_str())?;
+    }
+    Ok(text)
+}
+
+#[test]
+fn a_chain_is_evaluated_without_repeats(rt: HostRuntime) -> Result<(), Fail> {
+    let kconfig = chain(rt.alloc(), 65_535)?;
+    counts_of(
+        rt.alloc(),
+        kconfig.as_str(),
+        "show S65534 | 131070\nshow S0 | 131070\n",
+    )
+}
+
+/// Commands, and whether the visibility and the value of A and those of B are kept after each.
+const KEPT_OF_TWO: &str = r#"
+frob | nnnn
+show A | yynn
+set A n | ynnn
+show B | yyyy
+set B y | yyyn
+set B y | yyyn
+config | yyyy
+reset | ynnn
+list | yyyy
+allno | ynnn
+choices | ynnn
+defconfig | yyyy
+"#;
+
+/// Whether the nodes of two symbols are kept, a letter each.
+fn kept_letters(alloc: Global, session: &Session) -> Result<String, Fail> {
+    let mut letters = String::new(alloc);
+    for number in 0..2 {
+        for node in [Node::Vis(SymId(number)), Node::Val(SymId(number))] {
+            letters.push_str(if session.is_kept(node) { "y" } else { "n" })?;
+        }
+    }
+    Ok(letters)
+}
+
+/// What is kept after each command must be what the table has.
+fn compare_kept(alloc: Global, session: &mut Session, kept: &str) -> Result<(), Fail> {
+    for row in rows(alloc, kept)? {
+        let (command, _) = two_fields(alloc, row)?;
+        let line = format!(in alloc; "{command}\n")?;
+        let _ = replies_in(alloc, session, line.as_str())?;
+        let letters = kept_letters(alloc, session)?;
+        let found = format!(in alloc; "{command} | {letters}")?;
+        if found.as_str() != row {
+            return Err(Fail::new(found));
+        }
+    }
+    Ok(())
+}
+
+#[test]
+fn an_edit_drops_what_it_can_change_and_nothing_else(rt: HostRuntime) -> Result<(), Fail> {
+    match session_of(rt.alloc(), TWO) {
+        Ok(mut session) => compare_kept(rt.alloc(), &mut session, KEPT_OF_TWO),
+        Err(fail) => Err(fail),
+    }
+}
+
+/// Edits of all kinds, and those that are refused in some trees or in all.
+const EDITS: &str = r#"
+set A n\n | a symbol that others depend on
+set B y\n | it may be invisible
+set A y\n | and come back
+set A y\n | as it is
+set D y\n | a member gets visible
+set C y\n | and is chosen
+set C n\n | refused
+unset C\n | not chosen any more
+set P y\n | an optional choice goes on
+set Q y\n | another member
+unset P\n | which is not chosen
+unset Q\n | it goes off
+set S m\n | it selects
+set T n\n | it is selected
+set S y\n | and implies
+set U n\n | implied otherwise
+set S n\n | no more
+set LOW 7\n | a bound
+set N 9\n | within
+set LOW 10\n | past the other bound
+set N x\n | refused
+unset LOW\n | the default
+load 3\nCONFIG_A=y\nCONFIG_S=m\nCONFIG_N=8\n | a file
+load 3\nCONFIG_A=y\nCONFIG_S=m\nCONFIG_N=8\n | the same again
+merge 2\nCONFIG_Q=y\nCONFIG_LOW=4\n | more
+merge 2\nCONFIG_Q=y\n | refused: too few lines
+allno\n | n
+allyes\n | y
+set A n\n | one
+reset\n | none
+"#;
+
+/// What is asked after each.
+const QUERIES: &str = "list\nchoices\nconfig\nheader\ndefconfig\nnew\nlist\n";
+
+/// The replies to the queries in a new session, after the edits that were accepted.
+fn replies_of_new(alloc: Global, kconfig: &str, accepted: &str) -> Result<String, Fail> {
+    match session_of(alloc, kconfig) {
+        Ok(mut session) => {
+            let _ = replies_in(alloc, &mut session, accepted)?;
+            replies_in(alloc, &mut session, QUERIES)
+        }
+        Err(fail) => Err(fail),
+    }
+}
+
+/// After each edit the session must reply as a new one does to which the accepted edits were given.
+fn compare_with_new(alloc: Global, kconfig: &str, session: &mut Session) -> Result<(), Fail> {
+    let mut accepted = String::new(alloc);
+    for row in rows(alloc, EDITS)? {
+        let (edit, _) = two_fields(alloc, row)?;
+        if replies_in(alloc, session, edit.as_str())?.ends_with("ok\n") {
+            accepted.push_str(edit.as_str())?;
+        }
+        let found = replies_in(alloc, session, QUERIES)?;
+        if found != replies_of_new(alloc, kconfig, accepted.as_str())? {
+            return Err(Fail::new(edit));
+        }
+    }
+    Ok(())
+}
+
+/// The comparison in a new session of a Kconfig.
+fn compare_in(alloc: Global, kconfig: &str) -> Result<(), Fail> {
+    match session_of(alloc, kconfig) {
+        Ok(mut session) => compare_with_new(alloc, kconfig, &mut session),
+        Err(fail) => Err(fail),
+    }
+}
+
+#[test]
+fn replies_are_those_of_a_session_that_kept_nothing(rt: HostRuntime) -> Result<(), Fail> {
+    for kconfig in [TWO, FOUR, CHOICE, OPTIONAL, REVERSE] {
+        compare_in(rt.alloc(), kconfig)?;
+    }
+    Ok(())
+}
