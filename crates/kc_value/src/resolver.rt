@@ -22,10 +22,13 @@ pub trait Resolver {
     /// The user values, as contracts see them.
     ghost user_of: { Self → UserValues };
 
-    /// What may have become of the resolver, from the first to the second, while the nodes were asked.
+    /// What may have become of the resolver, from the first to the second, while the nodes were asked. Of one that keeps
+    /// values: what was kept stays, only nodes that are reached from those asked were added, and each was counted once.
+    /// [`Fresh`](crate::Fresh) gives it as always true. Each function over a resolver promises it for the nodes that it
+    /// asks, whatever it returns.
     ghost grew: { Self → Self → List Node → Type 0 };
 
-    /// That the value of the node is at hand.
+    /// That the value of the node is at hand: of a resolver that keeps values, that it is kept.
     ghost knows: { Self → Node → Type 0 };
 
     /// The tree that is answered for.
