@@ -163,8 +163,9 @@ fn each_node_is_evaluated_once_until_an_edit_changes_it(rt: HostRuntime) -> Resu
     Ok(())
 }
 
-/// The count after the value of a symbol was asked, which is told by the call alone.
-fn count_of_a_call(session: &mut Session, symbol: SymId) -> Result<u64, Fail> {
+/// The count after the call of the value of a symbol.
+fn count_of_a_call(session: &mut Session, name: &str) -> Result<u64, Fail> {
+    let symbol = session.tree().find(name).ok_or("no such symbol")?;
     let _ = session.node(Node::Val(symbol))?;
     Ok(session.evals())
 }
@@ -172,7 +173,7 @@ fn count_of_a_call(session: &mut Session, symbol: SymId) -> Result<u64, Fail> {
 #[test]
 fn a_call_counts_as_the_command_does(rt: HostRuntime) -> Result<(), Fail> {
     let count = match session_of(rt.alloc(), TWO) {
-        Ok(mut session) => count_of_a_call(&mut session, SymId(1)),
+        Ok(mut session) => count_of_a_call(&mut session, "B"),
         Err(fail) => Err(fail),
     };
     assert_eq!(rt; count?, 4);
@@ -287,35 +288,50 @@ reset\n | none
 /// What is asked after each.
 const QUERIES: &str = "list\nchoices\nconfig\nheader\ndefconfig\nnew\nlist\n";
 
-/// The replies to the queries in a new session, after the edits that were accepted.
-fn replies_of_new(alloc: Global, kconfig: &str, accepted: &str) -> Result<String, Fail> {
+/// The replies to an edit and then to the queries.
+fn replies_to(alloc: Global, session: &mut Session, edit: &str) -> Result<(String, String), Fail> {
+    let edited = replies_in(alloc, session, edit)?;
+    Ok((edited, replies_in(alloc, session, QUERIES)?))
+}
+
+/// The same in a new session, after the edits that were accepted.
+fn replies_of_new(
+    alloc: Global,
+    kconfig: &str,
+    accepted: &str,
+    edit: &str,
+) -> Result<(String, String), Fail> {
     match session_of(alloc, kconfig) {
         Ok(mut session) => {
             let _ = replies_in(alloc, &mut session, accepted)?;
-            replies_in(alloc, &mut session, QUERIES)
+            replies_to(alloc, &mut session, edit)
         }
         Err(fail) => Err(fail),
     }
 }
 
-/// After each edit the session must reply as a new one does to which the accepted edits were given.
-fn compare_with_new(alloc: Global, kconfig: &str, session: &mut Session) -> Result<(), Fail> {
+/// To each edit and the queries behind it the session must reply as a new one does to which the edits that were accepted
+/// before were given. The result says how many are.
+fn compare_with_new(alloc: Global, kconfig: &str, session: &mut Session) -> Result<usize, Fail> {
     let mut accepted = String::new(alloc);
+    let mut count: usize = 0;
     for row in rows(alloc, EDITS)? {
         let (edit, _) = two_fields(alloc, row)?;
-        if replies_in(alloc, session, edit.as_str())?.ends_with("ok\n") {
-            accepted.push_str(edit.as_str())?;
-        }
-        let found = replies_in(alloc, session, QUERIES)?;
-        if found != replies_of_new(alloc, kconfig, accepted.as_str())? {
+        let want = replies_of_new(alloc, kconfig, accepted.as_str(), edit.as_str())?;
+        let found = replies_to(alloc, session, edit.as_str())?;
+        if found.0 != want.0 || found.1 != want.1 {
             return Err(Fail::new(edit));
         }
+        if found.0.ends_with("ok\n") {
+            accepted.push_str(edit.as_str())?;
+            count = count.saturating_add(1);
+        }
     }
-    Ok(())
+    Ok(count)
 }
 
-/// The comparison in a new session of a Kconfig.
-fn compare_in(alloc: Global, kconfig: &str) -> Result<(), Fail> {
+/// How many edits are accepted in a session of a Kconfig, which is compared with new ones.
+fn accepted_in(alloc: Global, kconfig: &str) -> Result<usize, Fail> {
     match session_of(alloc, kconfig) {
         Ok(mut session) => compare_with_new(alloc, kconfig, &mut session),
         Err(fail) => Err(fail),
@@ -324,8 +340,15 @@ fn compare_in(alloc: Global, kconfig: &str) -> Result<(), Fail> {
 
 #[test]
 fn replies_are_those_of_a_session_that_kept_nothing(rt: HostRuntime) -> Result<(), Fail> {
-    for kconfig in [TWO, FOUR, CHOICE, OPTIONAL, REVERSE] {
-        compare_in(rt.alloc(), kconfig)?;
+    for (kconfig, accepted) in [
+        (TWO, 11),
+        (FOUR, 15),
+        (CHOICE, 12),
+        (OPTIONAL, 10),
+        (REVERSE, 15),
+    ] {
+        let count = accepted_in(rt.alloc(), kconfig)?;
+        assert_eq!(rt; count, accepted, "in {kconfig}");
     }
     Ok(())
 }
