@@ -1,5 +1,5 @@
 -- The value of expressions that one operator joins, and of those behind a run of `!`.
-use Rattle.std.proofs.Common.{◌≡◌, ◌≢◌, Box, ◌%◌, ◌∙◌, ℕ, zero, suc, List, [], ◌∷◌, map, arith, refl, sym, ap}
+use Rattle.std.proofs.Common.{◌≡◌, ◌≢◌, Box, ◌%◌, ◌∙◌, ℕ, zero, suc, List, [], ◌∷◌, map, arith, refl, sym, ap, true, true≢false}
 use Rattle.std.specs.Global.{Global}
 use Rattle.kc_statement.specs.declared.expr.Expr.{Expr}
 use Rattle.kc_statement.specs.declared.expr.Expr.TheViews as view
@@ -7,7 +7,7 @@ use Rattle.kc_statement.specs.declared.expr.Negations.{Negations}
 use Rattle.kc_statement.specs.declared.tri.Tri.{Tri}
 use Rattle.kc_statement.specs.declared.tri.Tri.TheVariants.{No, Module, Yes}
 use Rattle.kc_statement.specs.Grammar.{Formula, all_joined, any_joined, negations, formula}
-use Rattle.kc_statement.specs.Tristate.{complement, least, least_of, greatest, greatest_of}
+use Rattle.kc_statement.specs.Tristate.{complement, is_no, least, least_of, greatest, greatest_of}
 use Rattle.kc_outline.specs.TreeValue.{TreeValue}
 use Rattle.kc_statement.proofs.FormulaLaws.{formula_not}
 use Rattle.kc_value.specs.Assignment.{Assignment}
@@ -22,6 +22,15 @@ pub greatest_no : (x : Tri) → greatest x No ≡ x
 greatest_no No = refl
 greatest_no Module = refl
 greatest_no Yes = refl
+
+-- the least of some that begin with n is n, and the greatest of some that begin with y is y
+pub least_stopped : (l rest whole : Tri) → is_no l ≡ true → least l rest ≡ whole → No ≡ whole
+least_stopped No rest whole stopped e = e
+least_stopped Module rest whole stopped e = absurd (true≢false (sym stopped))
+least_stopped Yes rest whole stopped e = absurd (true≢false (sym stopped))
+
+pub greatest_stopped : (g rest whole : Tri) → g ≡ Yes → greatest g rest ≡ whole → Yes ≡ whole
+greatest_stopped g rest whole stopped e = sym (ap (λ v. greatest v rest) stopped) ∙ e
 
 -- ---- runs of `!`
 pub value_negations : (t : TreeValue) (a : Assignment) (n : ℕ) (f : Formula)

@@ -92,36 +92,45 @@ pub fn tri(tree: &Tree, expr: &Expr, env: &[Option<Value>]) -> Tri
     }
 }
 
-/// The value of expressions that `&&` joins.
+/// The value of expressions that `&&` joins. Behind one that is n the others make no difference.
 #[cycle(expr_value)]
 fn all_tri(tree: &Tree, parts: &[Expr], env: &[Option<Value>]) -> Tri
     ensures { result ≡ formula_value tree.now (assignment_of tree.now env.now) (all_joined (map formula parts.now)) }
 {
     let mut least = Tri::Yes;
     for part in parts {
+        if least.is_no() {
+            return Tri::No;
+        }
         least = least.and(tri(tree, part, env));
     }
     least
 }
 
-/// The value of expressions that `||` joins.
+/// The value of expressions that `||` joins. Behind one that is y the others make no difference.
 #[cycle(expr_value)]
 fn any_tri(tree: &Tree, parts: &[Expr], env: &[Option<Value>]) -> Tri
     ensures { result ≡ formula_value tree.now (assignment_of tree.now env.now) (any_joined (map formula parts.now)) }
 {
     let mut greatest = Tri::No;
     for part in parts {
+        if matches!(greatest, Tri::Yes) {
+            return Tri::Yes;
+        }
         greatest = greatest.or(tri(tree, part, env));
     }
     greatest
 }
 
-/// The value of conditions that `&&` joins.
+/// The value of conditions that `&&` joins. Behind one that is n the others make no difference.
 pub(crate) fn conditions_tri(tree: &Tree, exprs: &[Expr], env: &[Option<Value>]) -> Tri
     ensures { result ≡ conditions_value tree.now (assignment_of tree.now env.now) exprs.now }
 {
     let mut least = Tri::Yes;
     for expr in exprs {
+        if least.is_no() {
+            return Tri::No;
+        }
         least = least.and(tri(tree, expr, env));
     }
     least
