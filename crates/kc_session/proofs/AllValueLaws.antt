@@ -1,5 +1,5 @@
 -- Each symbol given its value in turn.
-use Rattle.std.proofs.Common.{◌≡◌, ◌≢◌, ℕ, ◌+◌, ◌<◌, ◌≤◌, Bool, true, false, true≢false, not, ◌&&◌, if◌then◌else◌, List, length, Option, Some, None, is_some, slice_get, slice_set, slice_index_or, replicate, refl, sym, ap, ◌∙◌, ⊎_elim, arith}
+use Rattle.std.proofs.Common.{◌≡◌, ◌≢◌, ℕ, ◌+◌, ◌<◌, ◌≤◌, Bool, true, false, true≢false, not, ◌&&◌, if◌then◌else◌, length, Option, Some, None, is_some, slice_get, replicate, refl, sym, ap, ◌∙◌, ⊎_elim, arith}
 use Rattle.std.specs.Prelude.{option_and_then}
 use Rattle.std.specs.Option.{option_map_or}
 use Rattle.std.proofs.lemmas.Bool.{and_parts, cases_eq}
@@ -10,13 +10,11 @@ use Rattle.kc_statement.specs.declared.id.SymId.{SymId}
 use Rattle.kc_statement.specs.declared.symbol_type.SymbolType.{SymbolType}
 use Rattle.kc_statement.specs.declared.symbol_type.SymbolType.TheVariants as kind
 use Rattle.kc_statement.specs.declared.tri.Tri.TheVariants as tri
-use Rattle.kc_outline.specs.TreeValue.{TreeValue, SymbolValue, kind_of, choice_of}
-use Rattle.kc_tree.specs.declared.user_value.UserVal.{UserVal}
+use Rattle.kc_outline.specs.TreeValue.{TreeValue, SymbolValue, kind_of}
 use Rattle.kc_tree.specs.declared.user_value.UserVal.TheVariants.{Tri as TriVal}
 use Rattle.kc_tree.specs.Fits.{fits, fits_type}
 use Rattle.kc_tree.specs.SymbolFaults.{is_tri_type}
 use Rattle.kc_value.specs.UserValues.{UserValues, IsUserFor, user_value, with_value, no_values}
-use Rattle.kc_files.specs.ConfigText.{type_of}
 use Rattle.kc_session.specs.declared.all_values.AllValue.{AllValue}
 use Rattle.kc_session.specs.declared.all_values.AllValue.TheVariants.{No, Yes}
 use Rattle.kc_session.specs.AllValues.{all_given, is_free_tri, is_yes_in_allnoconfig, tri_given, value_given}

@@ -1,10 +1,10 @@
 -- Answering one command more, and the evaluations that it needs.
-use Rattle.std.proofs.Common.{◌≡◌, ℕ, ◌+◌, Bool, List, [], ◌∷◌, ◌++◌, length, Option, IsTrue, sum_by, ◌≤◌, refl, sym, ap, ◌∙◌, subst, append_assoc, append-nil, length-append, arith}
+use Rattle.std.proofs.Common.{◌≡◌, ℕ, ◌+◌, Bool, List, [], ◌∷◌, ◌++◌, length, Option, IsTrue, sum_by, refl, sym, ap, ◌∙◌, subst, append_assoc, append-nil, length-append, arith}
 use Rattle.std.proofs.lemmas.List.Sums.{sum_by-cons}
 use Rattle.std.specs.Io.KnownBytes.{Appends}
 use Rattle.std.proofs.KnownBytes.{Appends-trans, Appends-nil}
 use Rattle.kc_tree.specs.declared.node.Node.{Node}
-use Rattle.kc_session.specs.EvaluationBound.{HasDirty, HaveDirty, IsBounded, AreBounded, missing_count}
+use Rattle.kc_session.specs.EvaluationBound.{HasDirty, HaveDirty, IsBounded, AreBounded}
 use Rattle.kc_session.specs.Replies.{outcome, session_after, reply_to, output_of, session_after_all, MayStarve}
 use Rattle.kc_session.specs.Serving.{Answers, AnswersCommand}
 use Rattle.kc_session.specs.Session.{SessionValue, SessionState}

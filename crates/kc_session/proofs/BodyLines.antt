@@ -1,5 +1,5 @@
 -- The lines of a body, each cut off its front in turn.
-use Rattle.std.proofs.Common.{◌≡◌, ℕ, suc, ◌+◌, ◌<◌, ◌≤◌, ◌==◌, Bool, true, false, not, ◌||◌, ◌&&◌, List, [], ◌∷◌, ◌++◌, length, take, drop, if◌then◌else◌, refl, sym, ap, subst, ◌∙◌, one-add, arith}
+use Rattle.std.proofs.Common.{◌≡◌, ℕ, suc, ◌+◌, ◌<◌, ◌≤◌, ◌==◌, Bool, true, false, not, ◌||◌, ◌&&◌, List, [], ◌∷◌, length, take, drop, if◌then◌else◌, refl, sym, ap, subst, ◌∙◌, one-add, arith}
 use Rattle.std.specs.List.{list_all, position_or_len, onto_first}
 use Rattle.std.proofs.lemmas.Bool.{eqb-true, cond-false, cond-true}
 use Rattle.kc_files.specs.ConfigLines.{is_feed}

@@ -1,6 +1,6 @@
 -- The reply to a command of the stream, by what its line asks for.
-use Rattle.std.proofs.Common.{◌≡◌, ℕ, ◌==◌, Bool, true, false, List, length, Option, Some, None, Result, Ok, Err, IsTrue, if◌then◌else◌, sym, ap, subst, ◌∙◌}
-use Rattle.std.proofs.lemmas.Bool.{false≢true, eq-eqb}
+use Rattle.std.proofs.Common.{◌≡◌, ℕ, true, false, List, length, Option, Some, None, Result, Ok, Err, if◌then◌else◌, sym, ap, subst, ◌∙◌}
+use Rattle.std.proofs.lemmas.Bool.{eq-eqb}
 use Rattle.kc_files.specs.declared.loading.Load.{Load}
 use Rattle.kc_files.specs.declared.loading.Load.TheVariants.{Replace, Merge as MergeLoad}
 use Rattle.kc_session.specs.declared.command.Command.{Command}
@@ -12,16 +12,16 @@ use Rattle.kc_session.specs.declared.command_line.Request.{Request}
 use Rattle.kc_session.specs.declared.command_line.Request.TheVariants.{Whole, WithBody}
 use Rattle.kc_session.specs.Bodies.{fits_body}
 use Rattle.kc_session.specs.Commands.{request_of, request_of_text, load_command, lines_asked}
-use Rattle.kc_session.specs.Effect.{Outcome, IsOutcome, refuse, perform, loaded}
+use Rattle.kc_session.specs.Effect.{IsOutcome, refuse, perform, loaded}
 use Rattle.kc_session.specs.EvaluationBound.{IsBounded}
-use Rattle.kc_session.specs.HeldBody.{HeldBody, GivesBody, body_held, joined, fit_lines}
+use Rattle.kc_session.specs.HeldBody.{HeldBody, GivesBody, body_held, joined}
 use Rattle.std.specs.Io.KnownBytes.{Appends}
 use Rattle.kc_session.specs.Held.{HeldLine, text_held}
 use Rattle.kc_session.specs.NextCommand.{HoldsCommand}
 use Rattle.kc_session.specs.Output.{WritesPart}
 use Rattle.kc_session.specs.Replies.{body_outcome, request_outcome, outcome, reply_bytes}
 use Rattle.kc_session.specs.Serving.{AnswersCommand, StopsInReply}
-use Rattle.kc_session.specs.Session.{SessionState, SessionValue, with_user}
+use Rattle.kc_session.specs.Session.{SessionState, SessionValue}
 use Rattle.kc_session.specs.Stream.{lines_of, text_if_fits}
 use Rattle.kc_session.specs.StreamCommands.{StreamCommand, lines_taken}
 use Rattle.kc_session.proofs.BodyHolding.{fits_body-joined}

@@ -1,6 +1,6 @@
 -- This project's own commands `allno` and `allyes`: `allnoconfig` and `allyesconfig` of the kernel's
 -- scripts/kconfig/conf.c and of Kconfiglib, as user values.
-use Rattle.std.specs.Prelude.{ℕ, Bool, false, ◌&&◌, not, List, Option, Some, None, is_some, length, map, replicate, slice_get, if◌then◌else◌}
+use Rattle.std.specs.Prelude.{Bool, false, ◌&&◌, not, Option, Some, None, is_some, length, map, replicate, slice_get, if◌then◌else◌}
 use Rattle.std.specs.List.{range_with_len}
 use Rattle.std.specs.Option.{option_map_or}
 use Rattle.kc_statement.specs.declared.id.SymId.{SymId}

@@ -8,7 +8,7 @@ use Rattle.kc_files.specs.ConfigReading.{usable, counting, warnings_from}
 use Rattle.kc_files.specs.LineReading.{warning_number}
 use Rattle.kc_files.specs.LineSteps.{readings_in}
 use Rattle.kc_session.specs.declared.command.Refusal.{Refusal}
-use Rattle.kc_session.specs.declared.command.Refusal.TheVariants.{UnknownCommand, UndefinedSymbol, BadValue, BadMemberValue, BadLineCount, TooLong, NoMemory}
+use Rattle.kc_session.specs.declared.command.Refusal.TheVariants.{TooLong, NoMemory}
 use Rattle.kc_session.specs.Stream.{lines_of, fits_line}
 
 -- the most bytes that a body may have, with all line ends

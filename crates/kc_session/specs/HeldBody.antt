@@ -2,7 +2,7 @@
 use Rattle.std.specs.Prelude.{◌≡◌, ℕ, Bool, true, false, ◌==◌, ◌&&◌, nat_le, List, length, Option, Some, None, Result, Ok, Err}
 use Rattle.std.specs.List.{flat_map, list_all}
 use Rattle.kc_session.specs.declared.command.Refusal.{Refusal}
-use Rattle.kc_session.specs.declared.command.Refusal.TheVariants.{UnknownCommand, UndefinedSymbol, BadValue, BadMemberValue, BadLineCount, TooLong, NoMemory}
+use Rattle.kc_session.specs.declared.command.Refusal.TheVariants.{BadLineCount, TooLong, NoMemory}
 use Rattle.kc_session.specs.Bodies.{body_limit}
 use Rattle.kc_session.specs.Stream.{fits_line}
 

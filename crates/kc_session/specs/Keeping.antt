@@ -1,10 +1,10 @@
 -- What a session keeps: this project's own.
-use Rattle.std.specs.Prelude.{◌≡◌, ℕ, ◌+◌, ◌*◌, Bool, true, false, List, [], ◌∷◌, ◌++◌, length, Contains, map, flat_map, IsTrue}
+use Rattle.std.specs.Prelude.{◌≡◌, ℕ, ◌*◌, Bool, true, false, List, [], ◌∷◌, length, Contains, map}
 use Rattle.std.specs.List.{range_with_len}
 use Rattle.std.specs.Option.{option_map_or}
 use Rattle.kc_outline.specs.TreeValue.{TreeValue, symbol_named}
 use Rattle.kc_tree.specs.declared.node.Node.{Node}
-use Rattle.kc_tree.specs.declared.node.Node.TheVariants.{Vis, Val, Mode, Sel}
+use Rattle.kc_tree.specs.declared.node.Node.TheVariants.{Vis, Val}
 use Rattle.kc_tree.specs.Nodes.{all_nodes, node_at}
 use Rattle.kc_value.specs.Dirty.{Edits}
 use Rattle.kc_value.specs.Kept.{AreKept, Fills, IsKept}

@@ -1,4 +1,4 @@
-use Rattle.std.proofs.Common.{◌≡◌, ◌<◌, ◌≤◌, ap, length, arith}
+use Rattle.std.proofs.Common.{◌<◌, ◌≤◌, ap, length, arith}
 use Rattle.kc_statement.specs.declared.id.SymId.{SymId}
 use Rattle.kc_outline.specs.TreeValue.{TreeValue}
 use Rattle.kc_session.proofs.AskedLaws.{symbol_asked, symbols_done, symbols_more}

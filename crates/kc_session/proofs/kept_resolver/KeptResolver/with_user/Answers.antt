@@ -1,4 +1,3 @@
-use Rattle.std.proofs.Common.{rules}
 use Rattle.kc_value.proofs.KeptLaws.{nothing_right}
 use Rattle.kc_session.proofs.kept_resolver.KeptResolver.with_user.Goals as goal
 
