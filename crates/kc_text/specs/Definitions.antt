@@ -39,14 +39,21 @@ with name value names = λ q. if bytes_eq name q then Some value else names q
 abbrev pub with_text : List ℕ → Names → Result Progress TextProblem → Result Names TextProblem
 with_text name names r = then_on r (λ p. Ok (with name (Simple p.text) names))
 
+-- a text with one space and the expanded value behind it
+abbrev pub text_behind : Environment → Names → List ℕ → List ℕ → Result Progress TextProblem
+text_behind outside names text value = then_on (put (32 ∷ []) (record { text = text; followed = 0 })) (λ p. expansion names outside (value_pieces value) p)
+
 -- the names with a text for one of them: one space and the expanded value behind the text so far
 abbrev pub appended_at_once : Environment → Names → List ℕ → List ℕ → List ℕ → Result Names TextProblem
-appended_at_once outside names name text value =
-    with_text name names (then_on (put (32 ∷ []) (record { text = text; followed = 0 })) (λ p. expansion names outside (value_pieces value) p))
+appended_at_once outside names name text value = with_text name names (text_behind outside names text value)
 
 -- a value behind what a name stands for, where that is a text that each use expands: after one space; else the value alone
 abbrev pub behind_recursive : Option Value → List ℕ → List ℕ
 behind_recursive meant value = elim meant [ Some (Recursive text) ↦ text ++ 32 ∷ value | _ ↦ value ]
+
+-- bytes behind what a name stands for, where that is a text as it is; else the bytes alone
+abbrev pub behind_simple : Option Value → List ℕ → List ℕ
+behind_simple meant bytes = elim meant [ Some (Simple text) ↦ text ++ bytes | _ ↦ bytes ]
 
 -- `+=`: one space and the value behind the text so far, expanded at once where that text was; on a name without
 -- definition it acts as `=`

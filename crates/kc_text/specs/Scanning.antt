@@ -1,5 +1,5 @@
 -- What the values of the code stand for: this project's own.
-use Rattle.std.specs.Prelude.{ℕ, ◌-◌, List, [], ◌∷◌, length, map, flat_map}
+use Rattle.std.specs.Prelude.{ℕ, ◌-◌, List, [], ◌∷◌, ◌++◌, length, map, flat_map}
 use Rattle.std.specs.String.{string_bytes}
 use denote.Ref.{Bor}
 use Rattle.std.specs.Prelude.{◌≡◌}
@@ -46,7 +46,7 @@ raw_of (Unclosed parts) = unclosed (pieces_of parts.items)
 raw_of NotAllowed = not_allowed
 
 abbrev pub progress_of : Expansion → Progress
-progress_of e = record { text = string_bytes e.text; followed = e.followed }
+progress_of e = record { text = e.before.now ++ string_bytes e.text; followed = e.followed }
 
 abbrev pub texts_of : List (Bor (List ℕ)) → List (List ℕ)
 texts_of texts = map (λ t. t.now) texts

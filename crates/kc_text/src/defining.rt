@@ -1,12 +1,13 @@
 //! What a line that defines a variable does.
 
-ghost use Rattle.std.specs.Prelude.{◌≡◌, ◌++◌, ◌∷◌, IfOk, OnOk};
+ghost use Rattle.std.specs.Prelude.{◌≡◌, ◌++◌, ◌∷◌, IfOk, OnOk, Ok};
+ghost use Rattle.std.specs.String.{string_bytes};
 ghost use Rattle.kc_text.specs.declared.definition.Assignment.TheVariants.{AtOnce};
-ghost use Rattle.kc_text.specs.declared.variables.Value.TheVariants.{Recursive};
-ghost use Rattle.kc_text.specs.Faults.{ReadsAfter};
+ghost use Rattle.kc_text.specs.declared.variables.Value.TheVariants.{Recursive, Simple};
+ghost use Rattle.kc_text.specs.Faults.{ReadsAfter, ReadsBy};
 ghost use Rattle.kc_text.specs.References.{value_pieces};
-ghost use Rattle.kc_text.specs.Expansion.{expansion, names_in, texts_in};
-ghost use Rattle.kc_text.specs.Definitions.{assigned, appended, appended_at_once, behind_recursive, defined, with};
+ghost use Rattle.kc_text.specs.Expansion.{expansion, names_in, texts_in, then_on};
+ghost use Rattle.kc_text.specs.Definitions.{assigned, appended, behind_recursive, behind_simple, defined, text_behind, with};
 ghost use Rattle.kc_text.specs.Scanning.{progress_of};
 
 use crate::definition::{Assignment, Definition};
@@ -50,7 +51,7 @@ fn define_at_once(
 ) -> Result<(), LineFault>
     ensures { ReadsAfter result (names_in variables.new) (assigned (texts_in outside.now) (names_in variables.old) AtOnce name.now value.now) }
 {
-    let mut out = Expansion::new(Text::new(String::new(alloc)));
+    let mut out = Expansion::behind(alloc, "");
     expand_value(alloc, outside, variables, value, &mut out)?;
     variables.define(name, Value::Simple(Text::new(out.text)))?;
     Ok(())
@@ -62,9 +63,10 @@ fn expand_value(
     outside: &Vars,
     variables: &Variables,
     value: &str,
-    out: &mut Expansion,
+    out: &mut Expansion<'_>,
 ) -> Result<(), LineFault>
-    ensures { ReadsAfter result (progress_of out.new) (expansion (names_in variables.now) (texts_in outside.now) (value_pieces value.now) (progress_of out.old)) }
+    ensures expands { ReadsAfter result (progress_of out.new) (expansion (names_in variables.now) (texts_in outside.now) (value_pieces value.now) (progress_of out.old)) }
+    ensures before { OnOk result (out.new.before.now ≡ out.old.before.now) }
 {
     let scope = Scope {
         alloc,
@@ -87,8 +89,9 @@ fn append(
     ensures { ReadsAfter result (names_in variables.new) (appended (texts_in outside.now) (names_in variables.old) name.now value.now) }
 {
     if let Some(Value::Simple(text)) = variables.get(name) {
-        let text = Text::copy_of(alloc, text.as_str())?;
-        return append_at_once(alloc, outside, variables, name, text, value);
+        let addition = addition_behind(alloc, outside, variables, text.as_str(), value)?;
+        append_to_simple(alloc, variables, name, addition.as_str())?;
+        return Ok(());
     }
     append_later(alloc, variables, name, value)?;
     Ok(())
@@ -129,20 +132,52 @@ fn behind_space(text: Text, other: &str) -> Result<Text, AllocError>
     Ok(Text::new(joined))
 }
 
-/// Gives a name a text with one space and the expanded text of a value behind it.
-fn append_at_once(
+/// Puts bytes behind the text of a name that is as it is, in its place; else the name gets the bytes alone.
+fn append_to_simple(
     alloc: Global,
-    outside: &Vars,
     variables: &mut Variables,
     name: &str,
-    text: Text,
-    value: &str,
-) -> Result<(), LineFault>
-    ensures { ReadsAfter result (names_in variables.new) (appended_at_once (texts_in outside.now) (names_in variables.old) name.now text value.now) }
+    bytes: &str,
+) -> Result<(), AllocError>
+    ensures { OnOk result (names_in variables.new ≡ with name.now (Simple (behind_simple (names_in variables.old name.now) bytes.now)) (names_in variables.old)) }
 {
-    let mut out = Expansion::new(text);
+    let meant = variables.take(name);
+    let text = behind_simple(alloc, meant, bytes)?;
+    variables.define(name, Value::Simple(text))
+}
+
+/// Bytes behind the text that a name stands for as it is, without a copy of the text; else the bytes alone.
+fn behind_simple(alloc: Global, meant: Option<Value>, bytes: &str) -> Result<Text, AllocError>
+    ensures { IfOk result (λ t. t ≡ behind_simple meant bytes.now) }
+{
+    match meant {
+        Some(Value::Simple(text)) => joined_behind(text, bytes),
+        Some(Value::Recursive(_text)) => Text::copy_of(alloc, bytes),
+        None => Text::copy_of(alloc, bytes),
+    }
+}
+
+/// A text with bytes behind it, in place.
+fn joined_behind(text: Text, bytes: &str) -> Result<Text, AllocError>
+    ensures { IfOk result (λ t. t ≡ text ++ bytes.now) }
+{
+    let mut joined = text.into_string();
+    joined.push_str(bytes)?;
+    Ok(Text::new(joined))
+}
+
+/// What is put behind a text: one space and the expanded text of a value. The text is not copied.
+fn addition_behind(
+    alloc: Global,
+    outside: &Vars,
+    variables: &Variables,
+    text: &str,
+    value: &str,
+) -> Result<String, LineFault>
+    ensures { ReadsBy (λ s. text.now ++ string_bytes s) result (then_on (text_behind (texts_in outside.now) (names_in variables.now) text.now value.now) (λ p. Ok p.text)) }
+{
+    let mut out = Expansion::behind(alloc, text);
     out.put(" ")?;
     expand_value(alloc, outside, variables, value, &mut out)?;
-    variables.define(name, Value::Simple(Text::new(out.text)))?;
-    Ok(())
+    Ok(out.text)
 }

@@ -8,7 +8,6 @@ ghost use Rattle.kc_text.specs.Scanning.{names_of, pieces_of, progress_of};
 
 use crate::fault::{LineFault, TextProblem};
 use crate::reference::{Piece, value_pieces};
-use crate::text::Text;
 use crate::variables::{Value, Variables};
 use crate::vars::Vars;
 use std::alloc::Global;
@@ -32,33 +31,42 @@ pub(crate) struct Scope<'a> {
     pub(crate) outside: &'a Vars,
 }
 
-/// A text that is being expanded.
+/// A text that is being expanded behind another, which is not copied.
 #[derive(Drop)]
-pub(crate) struct Expansion {
+pub(crate) struct Expansion<'a> {
+    /// What stands before the text and counts towards its limit.
+    pub(crate) before: &'a str,
     pub(crate) text: String,
     /// How many references were followed for it.
     pub(crate) followed: usize,
 }
 
-impl Expansion {
-    /// A text, for which no reference was followed yet.
-    pub(crate) fn new(text: Text) -> Expansion
-        ensures { progress_of result ≡ record { text = text; followed = 0 } }
+impl<'a> Expansion<'a> {
+    /// Nothing behind a text, for which no reference was followed yet.
+    pub(crate) fn behind(alloc: Global, before: &'a str) -> Expansion<'a>
+        ensures progress { progress_of result ≡ record { text = before.entry.now; followed = 0 } }
+        ensures before { result.before.now ≡ before.entry.now }
     {
         Expansion {
-            text: text.into_string(),
+            before,
+            text: String::new(alloc),
             followed: 0,
         }
     }
 
     /// Puts bytes behind the text, if there is room for them. No bytes need no room.
     pub(crate) fn put(&mut self, bytes: &str) -> Result<(), LineFault>
-        ensures { ReadsAfter result (progress_of self.new) (put bytes.now (progress_of self.old)) }
+        ensures puts { ReadsAfter result (progress_of self.new) (put bytes.now (progress_of self.old)) }
+        ensures before { self.new.before.now ≡ self.old.before.now }
     {
         if bytes.is_empty() {
             return Ok(());
         }
-        if bytes.len() > MAX_TEXT_BYTES || self.text.len() > MAX_TEXT_BYTES - bytes.len() {
+        if bytes.len() > MAX_TEXT_BYTES {
+            return Err(LineFault::Problem(TextProblem::Limit));
+        }
+        let room = MAX_TEXT_BYTES - bytes.len();
+        if self.before.len() > room || self.text.len() > room - self.before.len() {
             return Err(LineFault::Problem(TextProblem::Limit));
         }
         self.text.push_str(bytes)?;
@@ -70,9 +78,10 @@ impl Expansion {
 pub(crate) fn expand<'a>(
     scope: Scope<'a>,
     pieces: &[Piece<'a>],
-    out: &mut Expansion,
+    out: &mut Expansion<'_>,
 ) -> Result<(), LineFault>
-    ensures { ReadsAfter result (progress_of out.new) (expansion (names_in scope.entry.variables.now) (texts_in scope.entry.outside.now) (pieces_of pieces.now) (progress_of out.old)) }
+    ensures expands { ReadsAfter result (progress_of out.new) (expansion (names_in scope.entry.variables.now) (texts_in scope.entry.outside.now) (pieces_of pieces.now) (progress_of out.old)) }
+    ensures before { OnOk result (out.new.before.now ≡ out.old.before.now) }
 {
     let mut around = Vec::new(scope.alloc);
     expand_pieces(scope, &mut around, pieces, out)
@@ -84,11 +93,12 @@ fn expand_pieces<'a>(
     scope: Scope<'a>,
     around: &mut Vec<&'a str>,
     pieces: &[Piece<'a>],
-    out: &mut Expansion,
+    out: &mut Expansion<'_>,
 ) -> Result<(), LineFault>
     requires { length around.old.items ≤ 64 }
     ensures expands { ReadsAfter result (progress_of out.new) (expanded (followed (names_in scope.entry.variables.now) (texts_in scope.entry.outside.now) (64 - length around.old.items) (names_of around.old.items)) (pieces_of pieces.now) (progress_of out.old)) }
     ensures around { OnOk result (around.new.items ≡ around.old.items) }
+    ensures before { OnOk result (out.new.before.now ≡ out.old.before.now) }
 {
     for piece in pieces {
         match piece {
@@ -113,11 +123,12 @@ fn follow<'a>(
     scope: Scope<'a>,
     around: &mut Vec<&'a str>,
     name: &'a str,
-    out: &mut Expansion,
+    out: &mut Expansion<'_>,
 ) -> Result<(), LineFault>
     requires { length around.old.items ≤ 64 }
     ensures follows { ReadsAfter result (progress_of out.new) (followed (names_in scope.entry.variables.now) (texts_in scope.entry.outside.now) (64 - length around.old.items) (names_of around.old.items) name.now (progress_of out.old)) }
     ensures around { OnOk result (around.new.items ≡ around.old.items) }
+    ensures before { OnOk result (out.new.before.now ≡ out.old.before.now) }
 {
     if is_among(name, around.as_slice()) {
         return Err(LineFault::Problem(TextProblem::RecursiveVariable));
@@ -143,7 +154,7 @@ fn follow<'a>(
 pub(crate) fn expanded_text<'a>(scope: Scope<'a>, pieces: &[Piece<'a>]) -> Result<String, LineFault>
     ensures { ReadsBy (λ s. string_bytes s) result (then_on (expansion (names_in scope.entry.variables.now) (texts_in scope.entry.outside.now) (pieces_of pieces.now) start) (λ p. Ok p.text)) }
 {
-    let mut out = Expansion::new(Text::new(String::new(scope.alloc)));
+    let mut out = Expansion::behind(scope.alloc, "");
     expand(scope, pieces, &mut out)?;
     Ok(out.text)
 }

@@ -15,7 +15,7 @@ expand_pieces-returns-in_err-put-in-Text-clause-expands t c =
     let left = progress_of c.put.new.self in
     rw (p.1, p.2) (fault_along c.in_err-put-in-Text.field-0.0 left left (put c.in-Text.text.now out) _
     (λ f e. c.loop-piece.invariant.expands ∙ part_fails _ c.args.pieces.now c.loop-piece.piece-index out (Text c.in-Text.text) _ c.loop-piece-test.true c.in-Text.is f e)
-    c.in_err-put-in-Text.ensures)
+    c.in_err-put-in-Text.ensures.puts)
 
 pub expand_pieces-returns-in_err-follow-in-Reference-clause-expands : goal.expand_pieces-returns-in_err-follow-in-Reference-clause-expands
 expand_pieces-returns-in_err-follow-in-Reference-clause-expands t c =
@@ -38,13 +38,15 @@ expand_pieces-loop-piece-preserved t c =
     elim c.match-piece.branch [
       | expand_pieces-in-Text+in_ok-put-in-Text w ↦ record {
         around = ap (λ v. v.items) w.around-is ∙ c.loop-piece.invariant.around;
+        before = ap (λ o. o.before.now) w.out-is ∙ w.in_ok-put-in-Text.ensures.before ∙ c.loop-piece.invariant.before;
         expands =
             c.loop-piece.invariant.expands
-            ∙ part_goes_on inside c.args.pieces.now c.loop-piece.piece-index out (Text w.in-Text.text) _ c.loop-piece-test.true w.in-Text.is _ w.in_ok-put-in-Text.ensures
+            ∙ part_goes_on inside c.args.pieces.now c.loop-piece.piece-index out (Text w.in-Text.text) _ c.loop-piece-test.true w.in-Text.is _ w.in_ok-put-in-Text.ensures.puts
             ∙ ap (λ o. expanded inside rest (progress_of o)) (sym w.out-is);
       }
       | expand_pieces-in-Reference+in_ok-follow-in-Reference w ↦ record {
         around = ap (λ v. v.items) w.around-is ∙ w.in_ok-follow-in-Reference.ensures.around ∙ c.loop-piece.invariant.around;
+        before = ap (λ o. o.before.now) w.out-is ∙ w.in_ok-follow-in-Reference.ensures.before ∙ c.loop-piece.invariant.before;
         expands =
             c.loop-piece.invariant.expands
             ∙ part_goes_on inside c.args.pieces.now c.loop-piece.piece-index out (Reference w.in-Reference.name) _ c.loop-piece-test.true w.in-Reference.is _

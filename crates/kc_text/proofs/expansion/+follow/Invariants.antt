@@ -17,5 +17,6 @@ invariant-expand_pieces-loop-piece l =
     let follow = followed_inside (names_in l.fn.scope.variables.now) (texts_in l.fn.scope.outside.now) l.fn.around.items in
     record {
       around : l.around.items ≡ l.fn.around.items;
+      before : l.out.before.now ≡ l.fn.out.before.now;
       expands : expanded follow (pieces_of l.fn.pieces) (progress_of l.fn.out) ≡ expanded follow (pieces_of (drop l.piece-index l.pieces)) (progress_of l.out);
     }
