@@ -155,6 +155,23 @@ fn push_entries(
     Ok(())
 }
 
+/// The text of the `.config` over the values of all nodes, which stand in `values` by number: what `config_text` gives
+/// where they are those of the solution. The error comes where memory is refused.
+pub fn config_text_over(
+    alloc: Global,
+    tree: &Tree,
+    values: &[Option<Value>],
+    prefix: &Prefix,
+    header: &str,
+) -> Result<String, AllocError>
+    ensures { IfOk result (λ text. (a : Assignment) → Agrees tree.now values.now a
+        → string_bytes text ≡ config_text_of tree.now prefix.now header.now a) }
+{
+    let mut draft = Draft::new(String::from_str(alloc, header)?);
+    push_entries(&mut draft, tree, prefix, values)?;
+    Ok(draft.into_string())
+}
+
 /// The text of the `.config`: the header as it is, then what the tree's entries give in their order. A symbol that is
 /// written has its line at its first definition, a menu or a comment whose condition is not n its title, and such a
 /// menu with an entry inside its end line (`conf_write` of the kernel's scripts/kconfig/confdata.c, and
@@ -175,7 +192,6 @@ pub fn config_text<R: Resolver>(
     ensures grew { R.grew resolver.old resolver.new (all_nodes (R.tree_of resolver.old)) }
 {
     let values = all_values(alloc, resolver)?;
-    let mut draft = Draft::new(String::from_str(alloc, header)?);
-    push_entries(&mut draft, resolver.tree(), prefix, values.as_slice())?;
-    Ok(draft.into_string())
+    let text = config_text_over(alloc, resolver.tree(), values.as_slice(), prefix, header)?;
+    Ok(text)
 }

@@ -194,6 +194,22 @@ fn push_entries(
     Ok(())
 }
 
+/// The text of the C header over the values of all nodes, which stand in `values` by number: what `header_text` gives
+/// where they are those of the solution. The error comes where memory is refused.
+pub fn header_text_over(
+    alloc: Global,
+    tree: &Tree,
+    values: &[Option<Value>],
+    prefix: &Prefix,
+) -> Result<String, AllocError>
+    ensures { IfOk result (λ text. (u : UserValues) → AreSolved tree.now u values.now
+        → string_bytes text ≡ header_text_of tree.now prefix.now (solution tree.now u)) }
+{
+    let mut text = String::new(alloc);
+    push_entries(&mut text, tree, prefix, values)?;
+    Ok(text)
+}
+
 /// The text of the C header: a macro for each symbol that is written and not n, in the order of the first definitions
 /// (`conf_write_autoconf` of the kernel's scripts/kconfig/confdata.c, and `write_autoconf` of Kconfiglib). y is
 /// `#define CONFIG_X 1` and m `#define CONFIG_X_MODULE 1`; a string stands in quotes, a hex number has `0x` before it
@@ -214,7 +230,6 @@ pub fn header_text<R: Resolver>(
     ensures grew { R.grew resolver.old resolver.new (all_nodes (R.tree_of resolver.old)) }
 {
     let values = all_values(alloc, resolver)?;
-    let mut text = String::new(alloc);
-    push_entries(&mut text, resolver.tree(), prefix, values.as_slice())?;
+    let text = header_text_over(alloc, resolver.tree(), values.as_slice(), prefix)?;
     Ok(text)
 }

@@ -24,10 +24,10 @@ mod value_form;
 mod warning;
 
 pub use assign::Assign;
-pub use config_file::config_text;
+pub use config_file::{config_text, config_text_over};
 pub use config_reading::{ReadFault, read_config};
 pub use default_file::defconfig_text;
-pub use header_file::header_text;
+pub use header_file::{header_text, header_text_over};
 pub use loading::{Load, apply};
 pub use new_list::new_text;
 pub use prefix::{Prefix, PrefixFault};

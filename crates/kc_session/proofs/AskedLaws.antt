@@ -9,10 +9,13 @@ use Rattle.kc_outline.specs.TreeValue.{TreeValue}
 use Rattle.kc_tree.specs.declared.node.Node.{Node}
 use Rattle.kc_tree.specs.declared.node.Node.TheVariants.{Vis, Val, Mode, Sel}
 use Rattle.kc_tree.specs.Nodes.{IsNodeOf, all_nodes, node_at, node_count, number_of}
-use Rattle.kc_tree.proofs.NodeNumbers.{Contains-at, Contains-from_at, at_below, node_in-number_in, same_node}
+use Rattle.kc_tree.proofs.NodeNumbers.{Contains-at, Contains-from_at, at_below, node_in-number_in, number_below, same_node}
 use Rattle.kc_value.specs.declared.value.Value.{Value}
+use Rattle.kc_value.specs.Assignment.{assignment_of}
 use Rattle.kc_value.specs.Kept.{Fills, IsClosed, IsKept}
+use Rattle.kc_value.specs.Solution.{AreSolved, solution}
 use Rattle.kc_value.proofs.KeptLaws.{fills_again, fills_nothing, fills_wider, kept_after, mode_kept, visibility_kept}
+use Rattle.kc_value.proofs.KeptReading.{kept_right}
 use Rattle.kc_session.specs.Keeping.{choice_nodes, symbol_nodes}
 use Rattle.kc_session.specs.KeptResolver.{AreAllKept, Asked, IsResolving, ResolverState}
 
@@ -216,6 +219,17 @@ pub choices_there : (old new : ResolverState) (t : TreeValue) (kept : List (Opti
 choices_there old new t kept is_t is_kept f all c inside =
     let within : c.0 < length old.tree.choices = subst (λ x. c.0 < length x.choices) (is_t ∙ f.tree) inside in
     subst (λ x. IsKept x kept (Sel c)) (sym is_t) (subst (λ k. IsKept new.tree k (Sel c)) (sym is_kept) (all (Sel c) (choice_in old.tree c within)))
+
+-- the values of all nodes are those of the solution
+pub all_solved : (old new : ResolverState) (t : TreeValue) (kept : List (Option Value)) → t ≡ new.tree → kept ≡ new.kept.values → Asked (all_nodes old.tree) old new
+    → AreAllKept (all_nodes old.tree) new → IsResolving new → AreSolved t old.user kept
+all_solved old new t kept is_t is_kept f all sound n inside =
+    let within : IsNodeOf new.tree n = subst (λ x. IsNodeOf x n) is_t inside in
+    let before : IsNodeOf old.tree n = subst (λ x. IsNodeOf x n) f.tree within in
+    let here : Contains (all_nodes old.tree) n = in_numbered old.tree 0 (node_count old.tree) n before (omega arith) (omega (arith, number_below old.tree n before)) in
+    (λ i. assignment_of (is_t i) (is_kept i) n)
+    ∙ kept_right new.tree new.user new.kept.values sound.kept n within (all n here)
+    ∙ (λ i. solution (sym is_t i) (f.user i) n)
 
 -- ---- where a call is done
 pub on_ok : {A E P Q : Type 0} (r : Result A E) → (P → Q) → OnOk r P → OnOk r Q

@@ -17,7 +17,7 @@ ghost use Rattle.kc_value.specs.Solution.{solution};
 use crate::choices::choices_text;
 use crate::kept_resolver::KeptResolver;
 use crate::show::{list_text, show_line};
-use kc_files::{Prefix, config_text, defconfig_text, header_text, new_text};
+use kc_files::{Prefix, config_text_over, defconfig_text, header_text_over, new_text};
 use kc_tree::{Node, SymId};
 use kc_value::Resolver;
 use std::alloc::{AllocError, Global};
@@ -63,7 +63,8 @@ impl KeptResolver {
         ensures done { OnOk result (AreAllKept (all_nodes self.old.tree) self.new) }
     {
         self.fill_all()?;
-        config_text(alloc, self, prefix, "")
+        let text = config_text_over(alloc, self.tree(), self.values(), prefix, "")?;
+        Ok(text)
     }
 
     /// The C header.
@@ -74,7 +75,8 @@ impl KeptResolver {
         ensures done { OnOk result (AreAllKept (all_nodes self.old.tree) self.new) }
     {
         self.fill_all()?;
-        header_text(alloc, self, prefix)
+        let text = header_text_over(alloc, self.tree(), self.values(), prefix)?;
+        Ok(text)
     }
 
     /// The default file.

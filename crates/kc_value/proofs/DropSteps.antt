@@ -18,6 +18,7 @@ use Rattle.kc_value.specs.Assignment.{value_at}
 use Rattle.kc_value.specs.Dirty.{Drops}
 use Rattle.kc_value.specs.DropWalk.{DropsAll}
 use Rattle.kc_value.specs.Kept.{IsKept, IsClosed, kept_count}
+use Rattle.kc_value.proofs.KeptCounts.{kept_count-within}
 use Rattle.kc_value.proofs.SlotLemmas.{none_set}
 use Rattle.kc_value.proofs.UsesLaws.{user_node}
 
@@ -36,12 +37,6 @@ some_kept t kept n h = go (value_at t kept n) refl h
     go : (o : Option Value) → value_at t kept n ≡ o → is_some o ≡ true → 0 < kept_count kept
     go None e k = absurd (true≢false (sym k))
     go (Some v) e k = omega (arith, one_fewer kept (number_of t n) v e)
-
-pub kept_count_within : (kept : List (Option Value)) → kept_count kept ≤ length kept
-unfolding kept_count
-kept_count_within [] = omega arith
-kept_count_within (None ∷ kept) = omega (arith, kept_count_within kept)
-kept_count_within (Some v ∷ kept) = omega (arith, kept_count_within kept)
 
 -- ---- a node is kept or has no value
 module _ (t : TreeValue) (kept : List (Option Value)) (n : Node) where
@@ -151,7 +146,7 @@ module _ (t : TreeValue) (accepted : IsAccepted t) (start : Node) (inside : IsNo
     each = λ n at. ⊎_elim (λ same. inl same) (λ none. inr (none.0, from_start n (of_one start n none.1))) (one.each n at);
     listed = λ n c. let same : start ≡ n = ⊎_elim (λ none. absurd (omega (arith, none.1))) (λ m. of_one start n m) (one.listed n c) in (subst (λ m. IsNodeOf t m) same inside, from_start n same);
     closed = λ n m at k uses. one.found m (accepted.within n m at uses) (was.closed n m at (was_kept t old new n (Contains (start ∷ []) n) (one.each n at) k) uses);
-    room = let e : length new ≡ length old = one.whole in omega (arith, one.room, kept_count_within old);
+    room = let e : length new ≡ length old = one.whole in omega (arith, one.room, kept_count-within old);
   }
     where
       from_start : (n : Node) → start ≡ n → Leads t n start

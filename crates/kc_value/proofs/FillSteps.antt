@@ -19,6 +19,7 @@ use Rattle.kc_value.specs.UserValues.{UserValues}
 use Rattle.kc_value.specs.Rule.{rule}
 use Rattle.kc_value.specs.Solution.{solution}
 use Rattle.kc_value.proofs.Agreement.{rule_agrees}
+use Rattle.kc_value.proofs.KeptCounts.{kept_count-within}
 use Rattle.kc_value.proofs.SolutionLaws.{one_solution}
 
 -- ---- values or none
@@ -31,12 +32,6 @@ some_of None h = cc
 some_of (Some x) h = (x, refl)
 
 -- ---- how many values are kept
-pub kept_count-within : (kept : List (Option Value)) → kept_count kept ≤ length kept
-unfolding kept_count
-kept_count-within [] = omega arith
-kept_count-within (None ∷ kept) = let rest : kept_count kept ≤ length kept = kept_count-within kept in omega (arith, rest)
-kept_count-within (Some v ∷ kept) = let rest : kept_count kept ≤ length kept = kept_count-within kept in omega (arith, rest)
-
 pub kept_count-set : (kept : List (Option Value)) (i : ℕ) (v : Value) → i < length kept → get_or kept i None ≡ None → kept_count (slice_set kept i (Some v)) ≡ suc (kept_count kept)
 unfolding kept_count
 kept_count-set [] i v within none = absurd (omega arith)

@@ -12,7 +12,7 @@ use crate::user::User;
 use kc_tree::{Node, Tree};
 use std::alloc::{AllocError, Global};
 
-/// A node that is wanted, and from which of the nodes that it uses on one without a value is looked for.
+/// A node that is wanted, and from which of the nodes that it uses on one without a value is searched.
 #[derive(Clone, Copy)]
 struct Step {
     node: Node,
@@ -38,8 +38,8 @@ impl KeptValues {
         None
     }
 
-    /// One of the nodes that the node of a step uses and that are not kept, with its place. It is looked for where the
-    /// step goes on, and then among all of them.
+    /// One of the nodes that the node of a step uses and that are not kept, with its place. Where the step goes on comes
+    /// first, and then all of them.
     fn missing_use(&self, tree: &Tree, step: Step) -> Option<(usize, Node)>
         requires { IsNodeOf tree.now step.node }
         ensures used { IfSome result (λ r. Uses tree.now step.node r.1) }
@@ -49,6 +49,7 @@ impl KeptValues {
     {
         match self.missing_from(tree, step.node, step.next) {
             Some(missing) => Some(missing),
+            None if step.next == 0 => None,
             None => self.missing_from(tree, step.node, 0),
         }
     }

@@ -1,7 +1,7 @@
 use Rattle.std.proofs.Common.{◌≡◌, sym, ap, ◌∙◌, subst}
 use Rattle.kc_value.specs.Solution.{solution}
-use Rattle.kc_files.specs.DraftValue.{draft_of, Agrees}
-use Rattle.kc_files.proofs.DraftLaws.{text_of_draft}
+use Rattle.kc_files.specs.ConfigText.{config_text_of}
+use Rattle.kc_files.specs.DraftValue.{Agrees}
 use Rattle.kc_files.proofs.config_file.config_text.Goals as goal
 
 -- the values agree with the solution
@@ -13,6 +13,4 @@ returns-clause-text g c =
     let same : s ≡ t = c.tree.ensures ∙ c.all_values.ensures.tree in
     let known : Agrees t c.as_slice.result.now a = subst (λ v. Agrees t v a) (sym c.as_slice.ensures.value) c.in_ok-values.ensures.values in
     let agrees : Agrees s c.as_slice.result.now a = subst (λ x. Agrees x c.as_slice.result.now a) (sym same) known in
-    c.into_string.ensures
-    ∙ text_of_draft t s c.args.prefix.now c.args.header.now a c.new-draft.result c.push_entries.new.draft same
-    (c.new-draft.ensures ∙ ap draft_of c.in_ok-from_str.ensures.ok) (c.in_ok-push_entries.ensures a agrees)
+    c.in_ok-text.ensures a agrees ∙ ap (λ x. config_text_of x c.args.prefix.now c.args.header.now a) same

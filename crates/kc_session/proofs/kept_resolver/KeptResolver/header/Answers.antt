@@ -1,10 +1,13 @@
-use Rattle.kc_session.proofs.AskedLaws.{all_stay, all_twice, ok_always}
+use Rattle.std.proofs.Common.{◌≡◌, [], ap, ◌∙◌}
+use Rattle.kc_files.specs.HeaderText.{header_text_of}
+use Rattle.kc_value.specs.Solution.{solution}
+use Rattle.kc_session.proofs.AskedLaws.{all_solved}
 use Rattle.kc_session.proofs.kept_resolver.KeptResolver.header.Goals as goal
 
-pub returns-clause-asked : goal.returns-clause-asked
-returns-clause-asked c = all_twice c.args.self.now c.fill_all.new.self c.header_text.new.resolver c.fill_all.ensures.asked c.header_text.ensures.grew
-
-pub returns-clause-done : goal.returns-clause-done
-returns-clause-done c =
-    ok_always c.header_text.result
-    (all_stay c.args.self.now c.fill_all.new.self c.header_text.new.resolver c.fill_all.ensures.asked c.in_ok-fill_all.ensures.done c.header_text.ensures.grew)
+pub returns-clause-text : goal.returns-clause-text
+returns-clause-text c =
+    let old = c.args.self.now in
+    let asked = c.fill_all.ensures.asked in
+    let same : c.tree.result.now ≡ old.tree = c.tree.ensures ∙ asked.tree in
+    let solved = all_solved old c.fill_all.new.self c.tree.result.now c.values.result.now c.tree.ensures c.values.ensures.values asked c.in_ok-fill_all.ensures.done c.values.ensures.sound in
+    c.in_ok-text.ensures old.user solved ∙ (λ i. header_text_of (same i) c.args.prefix.now (solution (same i) old.user))

@@ -3,12 +3,13 @@ use Rattle.std.specs.List.{Contains}
 use Rattle.std.proofs.lemmas.List.Elements.{Contains-push}
 use Rattle.kc_value.specs.DropWalk.{DropsAll}
 use Rattle.kc_value.specs.Kept.{KeptValue}
-use Rattle.kc_value.proofs.DropSteps.{IsDropping, kept_count_within, walk_begun, walk_next, walk_closed, walk_ended}
+use Rattle.kc_value.proofs.KeptCounts.{kept_count-within}
+use Rattle.kc_value.proofs.DropSteps.{IsDropping, walk_begun, walk_next, walk_closed, walk_ended}
 use Rattle.kc_value.proofs.UsesLaws.{user_node}
 use Rattle.kc_value.proofs.kept_values.KeptValues.drop_node.Goals as goal
 
 pub drop_one-requires-clause-room : goal.drop_one-requires-clause-room
-drop_one-requires-clause-room c = omega (arith, ap length c.clear.ensures.items, c.clear.ensures.capacity, kept_count_within c.self.inside.values.items, c.self.invariant)
+drop_one-requires-clause-room c = omega (arith, ap length c.clear.ensures.items, c.clear.ensures.capacity, kept_count-within c.self.inside.values.items, c.self.invariant)
 
 pub loop-next-init : goal.loop-next-init
 loop-next-init c =
