@@ -1,5 +1,5 @@
 //! The tests of kc_value, kc_files and kc_session, over their public calls alone, that no file of cases can hold: streams
-//! that fail at a given call, limits of a line, what a session keeps, prefixes and resolvers.
+//! that fail at a given call, limits of a line and of a `.config`, what a session keeps, prefixes and resolvers.
 //!
 //! A crate with tests is proved twice, with them and without. As they stand here, each library is proved once.
 #![tactic(auto)]
@@ -12,6 +12,8 @@ mod failures;
 mod kept;
 #[cfg(test)]
 mod lines;
+#[cfg(test)]
+mod opening;
 #[cfg(test)]
 mod prefixes;
 #[cfg(test)]

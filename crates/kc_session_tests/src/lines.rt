@@ -85,6 +85,35 @@ fn a_line_is_too_long_past_its_limit(rt: HostRuntime) -> Result<(), Fail> {
 }
 
 #[test]
+fn a_body_has_at_most_16_mebibytes(rt: HostRuntime) -> Result<(), Fail> {
+    let alloc = rt.alloc();
+    let comment = repeated(alloc, "#", 65_535)?;
+    let comment = format!(in alloc; "{comment}\n")?;
+    let comments = repeated(alloc, comment.as_str(), 256)?;
+    for (lines, end, want) in [
+        (256, "config\n", "ok\nCONFIG_S=\"\"\nCONFIG_T=\"\"\nok\n"),
+        (257, "", "refused 5\n"),
+        (
+            257,
+            "\nconfig\n",
+            "refused 6\nCONFIG_S=\"\"\nCONFIG_T=\"\"\nok\n",
+        ),
+    ] {
+        let stream = format!(in alloc; "load {lines}\n{comments}{end}")?;
+        let reader = FailingReader::new(stream.as_bytes(), 4_096, NEVER);
+        let writer = FailingWriter::new(alloc, 5, NEVER, NEVER);
+        let served = serve(alloc, TWO_STRINGS, reader, writer, "")?;
+        assert_eq!(rt; served.result, Ok(()), "at {lines} and {end:?}");
+        assert_eq!(rt;
+            served.taken.as_slice(),
+            want.as_bytes(),
+            "at {lines} and {end:?}"
+        );
+    }
+    Ok(())
+}
+
+#[test]
 fn a_failed_read_ends_the_stream(rt: HostRuntime) -> Result<(), Fail> {
     // One byte a call: the read fails behind the first line and seven bytes of the second, which is not run.
     let reader = FailingReader::new(b"set S a\nset S bc\n", 1, 15);
