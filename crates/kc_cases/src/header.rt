@@ -1,5 +1,16 @@
 //! The headers of sections.
 
+/// What is cut off.
+#[derive(Clone, Copy)]
+pub(crate) enum Subject {
+    /// The Kconfig.
+    Kconfig,
+    /// The `.config`.
+    Config,
+    /// The commands.
+    Commands,
+}
+
 /// What a section has.
 #[derive(Clone, Copy)]
 pub(crate) enum Kind<'a> {
@@ -17,6 +28,8 @@ pub(crate) enum Kind<'a> {
     Loop,
     /// The names of the nodes of its loop, in their order from any of them on.
     LoopInOrder,
+    /// Rows with a text, and with what each of its beginnings gives.
+    Cut(Subject),
 }
 
 /// The header of a section.
@@ -72,6 +85,9 @@ fn kind_of(text: &str) -> Option<Kind<'_>> {
         "fault" => Some(Kind::Fault),
         "loop" => Some(Kind::Loop),
         "loop in order" => Some(Kind::LoopInOrder),
+        "cut Kconfig" => Some(Kind::Cut(Subject::Kconfig)),
+        "cut .config" => Some(Kind::Cut(Subject::Config)),
+        "cut commands" => Some(Kind::Cut(Subject::Commands)),
         _ => file_kind(text),
     }
 }

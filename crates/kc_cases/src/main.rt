@@ -4,6 +4,7 @@
 #![tactic(auto)]
 
 mod blocks;
+mod cuts;
 mod escapes;
 mod fault_text;
 mod files;

@@ -32,6 +32,10 @@ pub(crate) enum Problem {
     SecondFault,
     #[error("replies and a fault")]
     RepliesAndFault,
+    #[error("a cut beside replies or a fault")]
+    CutAndOther,
+    #[error("a line of a cut that is not WANTED [PIECE]")]
+    NoRow,
     #[error("a case without a Kconfig")]
     NoKconfig,
     #[error("a case without replies and without a fault")]

@@ -1,6 +1,7 @@
 //! What a case comes to: it passes, or what is wanted is not what is found.
 
 use crate::blocks::Block;
+use crate::cuts::cut_outcome;
 use crate::fault_text::{fault_text, is_wanted, loop_names};
 use crate::header::Kind;
 use crate::malformed::CaseFault;
@@ -26,9 +27,9 @@ pub(crate) struct Difference {
 
 /// The texts and the variables of a Kconfig.
 #[derive(Drop)]
-struct Texts {
-    sources: Sources,
-    vars: Vars,
+pub(crate) struct Texts {
+    pub(crate) sources: Sources,
+    pub(crate) vars: Vars,
 }
 
 /// Runs a case as it stands in its file. It gives the first difference, `None` where the case passes.
@@ -44,7 +45,7 @@ pub(crate) fn outcome_of(alloc: Global, case: &Block<'_>) -> Result<Option<Diffe
         return Err(CaseFault::NoMemory);
     };
     let outcome = match texts_of(alloc, parts.as_slice(), pairs.as_slice()) {
-        Ok(texts) => opened_outcome(alloc, &texts, &prefix, parts.as_slice())?,
+        Ok(mut texts) => texts_outcome(alloc, &mut texts, &prefix, parts.as_slice())?,
         Err(fault) => fault_outcome(alloc, &OpenFault::Text(fault), parts.as_slice())?,
     };
     Ok(outcome)
@@ -61,6 +62,27 @@ fn texts_of(alloc: Global, parts: &[Part<'_>], pairs: &[(&str, &str)]) -> Result
         }
     }
     Ok(Texts { sources, vars })
+}
+
+/// Compares what a case wants of its texts: what each beginning of its cuts gives, or the replies or the fault.
+fn texts_outcome(
+    alloc: Global,
+    texts: &mut Texts,
+    prefix: &Prefix,
+    parts: &[Part<'_>],
+) -> Result<Option<Difference>, CaseFault> {
+    if !parts.iter().any(|part| matches!(part.kind, Kind::Cut(_))) {
+        return Ok(opened_outcome(alloc, texts, prefix, parts)?);
+    }
+    for part in parts {
+        if let Kind::Cut(subject) = part.kind {
+            let outcome = cut_outcome(alloc, texts, prefix, part, subject)?;
+            if outcome.is_some() {
+                return Ok(outcome);
+            }
+        }
+    }
+    Ok(None)
 }
 
 /// Opens a Kconfig, and compares its replies or its fault.
@@ -107,7 +129,7 @@ fn session_outcome(
         if outcome.is_some() {
             return Ok(outcome);
         }
-        let _ok = replies_to(alloc, "reset\n", piece, session)?;
+        let _ok = replies_to(alloc, b"reset\n", piece, session)?;
     }
     Ok(None)
 }
@@ -125,7 +147,7 @@ fn replies_outcome(
             commands.push_str(part.text.as_str())?;
         }
         if let Kind::Replies = part.kind {
-            let found = replies_to(alloc, commands.as_str(), piece, session)?;
+            let found = replies_to(alloc, commands.as_bytes(), piece, session)?;
             if found.as_slice() != part.text.as_bytes() {
                 return Ok(Some(reply_difference(alloc, part, found.as_slice())?));
             }
@@ -136,13 +158,13 @@ fn replies_outcome(
 }
 
 /// The replies of a session to commands. Over memory a stream fails only where memory is refused.
-fn replies_to(
+pub(crate) fn replies_to(
     alloc: Global,
-    commands: &str,
+    commands: &[u8],
     piece: usize,
     session: &mut Session,
 ) -> Result<Vec<u8>, AllocError> {
-    let mut reader = PieceReader::new(commands.as_bytes(), piece);
+    let mut reader = PieceReader::new(commands, piece);
     let mut replies = Vec::new(alloc);
     match run(alloc, &mut reader, &mut replies, session) {
         Ok(()) => Ok(replies),
@@ -173,7 +195,7 @@ fn all_wanted(
     let mut line = 0;
     for part in parts {
         match part.kind {
-            Kind::File(_) | Kind::Variables | Kind::Commands => {}
+            Kind::File(_) | Kind::Variables | Kind::Commands | Kind::Cut(_) => {}
             Kind::Replies | Kind::Fault | Kind::Loop | Kind::LoopInOrder => {
                 line = part.line;
                 wanted.push_str(part.text.as_str())?;

@@ -62,7 +62,9 @@ fn part_of<'a>(alloc: Global, section: &Block<'a>) -> Result<Part<'a>, CaseFault
 fn lines_of<'a>(header: &Header<'_>, body: Option<&'a str>) -> Option<&'a str> {
     match header.kind {
         Kind::File(_) | Kind::Variables | Kind::Commands => body,
-        Kind::Replies | Kind::Fault | Kind::Loop | Kind::LoopInOrder => without_empty_lines(body?),
+        Kind::Replies | Kind::Fault | Kind::Loop | Kind::LoopInOrder | Kind::Cut(_) => {
+            without_empty_lines(body?)
+        }
     }
 }
 

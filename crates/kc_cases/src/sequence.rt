@@ -1,6 +1,6 @@
 //! Which parts make a case, and in which order.
 
-use crate::header::Kind;
+use crate::header::{Kind, Subject};
 use crate::malformed::{CaseFault, Problem};
 use crate::parts::Part;
 
@@ -13,6 +13,7 @@ struct Seen {
     has_replies: bool,
     has_fault: bool,
     has_loop: bool,
+    has_cut: bool,
 }
 
 impl Seen {
@@ -25,6 +26,7 @@ impl Seen {
             Kind::Replies => return self.add_replies(),
             Kind::Fault => return self.add_fault(part),
             Kind::Loop | Kind::LoopInOrder => return self.add_loop(part),
+            Kind::Cut(subject) => return self.add_cut(part, subject),
         }
         None
     }
@@ -56,6 +58,15 @@ impl Seen {
         empty_problem(part)
     }
 
+    /// Adds a text whose beginnings are wanted. It may be the Kconfig itself.
+    fn add_cut(&mut self, part: &Part<'_>, subject: Subject) -> Option<Problem> {
+        if let Subject::Kconfig = subject {
+            self.has_kconfig = true;
+        }
+        self.has_cut = true;
+        empty_problem(part)
+    }
+
     /// What is wrong with a case that has no further parts.
     fn ending_problem(&self) -> Option<Problem> {
         let wants_fault = self.has_fault || self.has_loop;
@@ -65,7 +76,9 @@ impl Seen {
             Some(Problem::CommandsWithoutReplies)
         } else if self.has_replies && wants_fault {
             Some(Problem::RepliesAndFault)
-        } else if !self.has_replies && !wants_fault {
+        } else if self.has_cut && (self.has_replies || wants_fault) {
+            Some(Problem::CutAndOther)
+        } else if !self.has_replies && !wants_fault && !self.has_cut {
             Some(Problem::NothingWanted)
         } else {
             None
@@ -82,7 +95,7 @@ fn empty_problem(part: &Part<'_>) -> Option<Problem> {
 }
 
 /// Checks that parts make a case, which begins at this line: one or more files with a Kconfig among them, and then
-/// commands with replies, or one fault, or loops.
+/// commands with replies, or one fault, or loops, or cuts.
 ///
 /// # Errors
 ///
@@ -95,6 +108,7 @@ pub(crate) fn check_sequence(parts: &[Part<'_>], line: usize) -> Result<(), Case
         has_replies: false,
         has_fault: false,
         has_loop: false,
+        has_cut: false,
     };
     for part in parts {
         if let Some(problem) = seen.add(part) {
