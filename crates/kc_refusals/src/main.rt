@@ -1,0 +1,47 @@
+//! Makes calls that can be refused memory, and checks what they answer, what stands behind them where they are out of
+//! memory, and that they answer the next time.
+//!
+//! Each word of the command line names a call, and without words all are made. It writes a line for each, the same
+//! whether the call was refused memory or not. The status is 0 where none was, 4 where one was and all is as it should
+//! be, 3 where the program was refused memory of its own, 1 where something is wrong, which the line says, and 2 where
+//! a word names no call. What refuses memory is beside the program: tools/refuse_each_request.sh.
+#![tactic(auto)]
+
+mod asking;
+mod checks;
+mod commands;
+mod counting;
+mod finding;
+mod sessions;
+mod showing;
+mod streams;
+mod text_calls;
+mod texts;
+mod tree_calls;
+
+use crate::checks::{Ending, run_words};
+use std::process::ExitCode;
+use std::rt::Env;
+use std::{env, io};
+
+/// The words of the command line.
+fn read_words<R: Env + AllocGlobal>(rt: &R) -> io::Result<Vec<String>> {
+    Ok(env::args(rt)?.collect(rt.alloc())?)
+}
+
+/// Runs the checks of the words behind the program's name.
+fn run_checks(rt: &HostRuntime) -> io::Result<Ending> {
+    let words = read_words(rt)?;
+    match words.as_slice().split_first() {
+        Some((_program, words)) => run_words(rt.alloc(), words, &mut rt.stdout()),
+        None => Ok(Ending::Usage),
+    }
+}
+
+fn main(rt: HostRuntime) -> ExitCode {
+    let ending = match run_checks(&rt) {
+        Ok(ending) => ending,
+        Err(_) => Ending::Unprepared,
+    };
+    ExitCode::from(ending.status())
+}

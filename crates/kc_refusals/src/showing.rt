@@ -1,0 +1,165 @@
+//! Lines, readings and user values as short texts, which are compared with those of `texts.rt`.
+
+use kc_files::{Assign, Warning};
+use kc_text::{Line, LineKind, Operator, Token};
+use kc_tree::{ChoiceId, Node, Tree, UserVal};
+use kc_value::{User, tri_letter};
+use std::alloc::{AllocError, Global};
+
+/// How an operator is written.
+fn sign_of(operator: Operator) -> &'static str {
+    match operator {
+        Operator::And => "&&",
+        Operator::Or => "||",
+        Operator::Equal => "=",
+        Operator::NotEqual => "!=",
+        Operator::Less => "<",
+        Operator::LessOrEqual => "<=",
+        Operator::Greater => ">",
+        Operator::GreaterOrEqual => ">=",
+        Operator::Not => "!",
+        Operator::Open => "(",
+        Operator::Close => ")",
+    }
+}
+
+/// Appends a token: a word as it is, one with a reference as `<text>`, a quoted one as `"text"`.
+fn push_token(out: &mut String, token: &Token<'_>) -> Result<(), AllocError> {
+    let (before, text, after) = match token {
+        Token::Word(text) => ("", text.as_str(), ""),
+        Token::Expanded(text) => ("<", text.as_str(), ">"),
+        Token::Quoted(text) => ("\"", text.as_str(), "\""),
+        Token::Operator(operator) => ("", sign_of(*operator), ""),
+    };
+    out.push_str(" ")?;
+    out.push_str(before)?;
+    out.push_str(text)?;
+    out.push_str(after)
+}
+
+/// Appends the help text of a line that has one.
+fn push_help(alloc: Global, out: &mut String, line: &Line<'_>) -> Result<(), AllocError> {
+    if let Some(help) = line.help() {
+        let help = help.to_text(alloc)?;
+        out.push_str(format!(in alloc; " {{{help}}}")?.as_str())?;
+    }
+    Ok(())
+}
+
+/// Appends a line, as `texts::LINES` has it.
+fn push_line(alloc: Global, out: &mut String, line: &Line<'_>) -> Result<(), AllocError> {
+    let (path, number) = (line.path(), line.number());
+    out.push_str(format!(in alloc; "{path}:{number}")?.as_str())?;
+    for token in line.tokens() {
+        push_token(out, token)?;
+    }
+    push_help(alloc, out, line)?;
+    if line.kind() == LineKind::EndOfFile {
+        out.push_str(" end")?;
+    }
+    out.push_str("\n")
+}
+
+/// Logical lines, a line each.
+pub(crate) fn lines_text(alloc: Global, lines: &[Line<'_>]) -> Result<String, AllocError> {
+    let mut out = String::new(alloc);
+    for line in lines {
+        push_line(alloc, &mut out, line)?;
+    }
+    Ok(out)
+}
+
+/// Appends a word behind a space, or the first one.
+fn push_word(out: &mut String, word: &str) -> Result<(), AllocError> {
+    if !out.is_empty() {
+        out.push_str(" ")?;
+    }
+    out.push_str(word)
+}
+
+/// Appends a user value behind the name of its symbol.
+fn push_value(
+    alloc: Global,
+    out: &mut String,
+    name: &str,
+    value: &UserVal,
+) -> Result<(), AllocError> {
+    let value = match value {
+        UserVal::Tri(tri) => tri_letter(*tri),
+        UserVal::Text(text) => text.as_str(),
+    };
+    push_word(out, format!(in alloc; "{name}={value}")?.as_str())
+}
+
+/// Appends warnings: the line and the number of each.
+fn push_warnings(alloc: Global, out: &mut String, warnings: &[Warning]) -> Result<(), AllocError> {
+    for warning in warnings {
+        let (line, number) = (warning.line, warning.kind.number());
+        push_word(out, format!(in alloc; "{line}:{number}")?.as_str())?;
+    }
+    Ok(())
+}
+
+/// Warnings, as `texts::WARNINGS` has them.
+pub(crate) fn warnings_text(alloc: Global, warnings: &[Warning]) -> Result<String, AllocError> {
+    let mut out = String::new(alloc);
+    push_warnings(alloc, &mut out, warnings)?;
+    Ok(out)
+}
+
+/// What was read of a `.config`, as `texts::READING` has it.
+pub(crate) fn reading_text(
+    alloc: Global,
+    tree: &Tree,
+    assigns: &[Assign],
+    warnings: &[Warning],
+) -> Result<String, AllocError> {
+    let mut out = String::new(alloc);
+    for assign in assigns {
+        push_value(alloc, &mut out, tree.name(assign.symbol), &assign.value)?;
+    }
+    out.push_str(" |")?;
+    push_warnings(alloc, &mut out, warnings)?;
+    Ok(out)
+}
+
+/// Appends what the user gave of a node: the value of its symbol, or the chosen member of its choice.
+fn push_given(
+    alloc: Global,
+    out: &mut String,
+    tree: &Tree,
+    user: &User,
+    node: Node,
+) -> Result<(), AllocError> {
+    match node {
+        Node::Val(symbol) => match user.get(symbol) {
+            Some(value) => push_value(alloc, out, tree.name(symbol), value),
+            None => Ok(()),
+        },
+        Node::Sel(choice) => match user.chosen(choice) {
+            Some(member) => push_chosen(alloc, out, choice, tree.name(member)),
+            None => Ok(()),
+        },
+        Node::Vis(_) | Node::Mode(_) => Ok(()),
+    }
+}
+
+/// Appends the chosen member of a choice behind its number.
+fn push_chosen(
+    alloc: Global,
+    out: &mut String,
+    choice: ChoiceId,
+    name: &str,
+) -> Result<(), AllocError> {
+    let number = choice.0;
+    push_word(out, format!(in alloc; "{number}={name}")?.as_str())
+}
+
+/// The user values and the chosen members, as `texts::USER` has them.
+pub(crate) fn user_text(alloc: Global, tree: &Tree, user: &User) -> Result<String, AllocError> {
+    let mut out = String::new(alloc);
+    for node in tree.nodes() {
+        push_given(alloc, &mut out, tree, user, node)?;
+    }
+    Ok(out)
+}
