@@ -11,6 +11,12 @@ const MOST_EXPECTED: u64 = 16_777_216;
 /// How many bytes of a `.config` are read: more than are accepted, so that one that is too long is found so.
 const MOST_CONFIG: u64 = MOST_EXPECTED + 1;
 
+/// How many bytes of another file are read: more than are accepted, also without the last character.
+const MOST_READ: u64 = MOST_EXPECTED + 8;
+
+/// The most bytes of a character in UTF-8.
+const MOST_OF_CHARACTER: usize = 4;
+
 /// Why a file gave no bytes.
 #[derive(Clone, Copy, Debug, PartialEq, Eq)]
 pub enum FolderFault {
@@ -31,7 +37,8 @@ impl From<io::Error> for FolderFault {
 
 /// Files that are read whole.
 pub trait Folder {
-    /// All bytes of the file of a path.
+    /// All bytes of the file of a path. Past 16,777,217 bytes, which are more than all files may have together, the rest
+    /// may be left out, and what is there ends with a whole character then.
     fn read_bytes(&self, alloc: Global, path: &str) -> Result<Vec<u8>, FolderFault>;
 
     /// The same for a `.config`. Past 16,777,217 bytes, which are more than one may have, the rest may be left out.
@@ -65,7 +72,7 @@ impl<R: Files> SystemFolder<'_, R> {
         path: &str,
         expected: u64,
     ) -> Result<Vec<u8>, FolderFault> {
-        let mut file = fs::open(self.rt, path)?;
+        let mut file = fs::open(self.rt, path)?.take(MOST_READ);
         let expected = expected.min(MOST_EXPECTED) as usize;
         let Ok(mut bytes) = vec![in alloc; 0u8; expected + 1] else {
             return Err(FolderFault::NoMemory);
@@ -76,8 +83,23 @@ impl<R: Files> SystemFolder<'_, R> {
         if count == 0 || count != expected {
             file.read_to_end(&mut bytes)?;
         }
+        if bytes.len() as u64 == MOST_READ {
+            bytes.truncate(before_last_character(bytes.as_slice()));
+        }
         Ok(bytes)
     }
+}
+
+/// How many bytes stand before the last character, of which some may not be there. All of them where none begins at the
+/// end: they are no text.
+fn before_last_character(bytes: &[u8]) -> usize {
+    for back in 1..=MOST_OF_CHARACTER {
+        let start = bytes.len().saturating_sub(back);
+        if bytes.get(start).is_some_and(|byte| byte & 0xC0 != 0x80) {
+            return start;
+        }
+    }
+    bytes.len()
 }
 
 impl<R: Files> Folder for SystemFolder<'_, R> {

@@ -38,9 +38,11 @@ fn a_file_of_unknown_length_is_read_whole(rt: HostRuntime) -> Result<(), Fail> {
 }
 
 #[test]
-fn a_config_without_end_is_cut(rt: HostRuntime) -> Result<(), Fail> {
+fn a_file_without_end_is_cut(rt: HostRuntime) -> Result<(), Fail> {
     let folder = SystemFolder::new(&rt);
-    let bytes = folder.read_config(rt.alloc(), "/dev/zero")?;
-    assert_eq!(rt; bytes.len(), 16_777_217);
+    let config = folder.read_config(rt.alloc(), "/dev/zero")?;
+    assert_eq!(rt; config.len(), 16_777_217);
+    let bytes = folder.read_bytes(rt.alloc(), "/dev/zero")?;
+    assert_eq!(rt; bytes.len(), 16_777_223);
     Ok(())
 }
