@@ -6,3 +6,11 @@ build_kconf() {
     (cd "$crate" && rt run -- --help >/dev/null)
     realpath "$crate/out/kconf"
 }
+
+# Installs Debian's packages of these names.
+install_packages() {
+    local as_root=()
+    [ "$(id -u)" -eq 0 ] || as_root=(sudo)
+    "${as_root[@]}" apt-get update >/dev/null
+    "${as_root[@]}" apt-get install --yes "$@" >/dev/null
+}

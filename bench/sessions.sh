@@ -1,10 +1,11 @@
 #!/usr/bin/env bash
 # What edits and queries of a session cost, beside a live session of Kconfiglib (Debian's package python3-kconfiglib).
 #
-#     bench/sessions.sh [PROGRAM]
+#     bench/sessions.sh [PROGRAM [TREE [WORD..]]]
 #
-# Without PROGRAM it builds kconf by rt. On the one file of bench/make_tree.py it compares, each the median of eleven
-# rounds:
+# Without PROGRAM it builds kconf by rt. Without TREE it takes the one file of bench/make_tree.py; else the Kconfig of the
+# folder TREE, which tools/expand_kconfig.py wrote, with the words NAME=VALUE that it printed. It compares, each the
+# median of eleven rounds:
 #
 # - an edit with the `show` of its symbol, 400 of them in one stream, with the same in Kconfiglib: set the value, then
 #   read value, visibility and assignable values (wanted: at most 0.2);
@@ -22,19 +23,17 @@ readonly bench
 # shellcheck source=bench/build.sh
 source "$bench/build.sh"
 
-# Installs Kconfiglib where it is missing.
-install_kconfiglib() {
-    python3 -c "import kconfiglib" 2>/dev/null && return
-    local as_root=()
-    [ "$(id -u)" -eq 0 ] || as_root=(sudo)
-    "${as_root[@]}" apt-get update >/dev/null
-    "${as_root[@]}" apt-get install --yes python3-kconfiglib >/dev/null
-}
-
 kconf=$(realpath "${1:-$(build_kconf)}")
-install_kconfiglib
+python3 -c "import kconfiglib" 2>/dev/null || install_packages python3-kconfiglib
 work=$(mktemp -d)
 trap 'rm -rf "$work"' EXIT
-mkdir "$work/tree"
-python3 "$bench/make_tree.py" one "$work/tree"
-PYTHONPATH=${PYTHONPATH:-/usr/lib/python3/dist-packages} python3 "$bench/time_sessions.py" "$kconf" "$work"
+if [ $# -ge 2 ]; then
+    # Kconfiglib knows `option modules` alone.
+    cp -r "$2" "$work/tree"
+    find "$work/tree" -type f -exec sed -i 's/^\([[:blank:]]*\)modules$/\1option modules/' {} +
+else
+    mkdir "$work/tree"
+    python3 "$bench/make_tree.py" one "$work/tree"
+fi
+PYTHONPATH=${PYTHONPATH:-/usr/lib/python3/dist-packages} \
+    python3 "$bench/time_sessions.py" "$kconf" "$work" "${@:3}"

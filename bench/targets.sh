@@ -23,17 +23,8 @@ readonly bench
 # shellcheck source=bench/build.sh
 source "$bench/build.sh"
 
-# Installs conf where it is missing.
-install_conf() {
-    [ -x "$CONF" ] && return
-    local as_root=()
-    [ "$(id -u)" -eq 0 ] || as_root=(sudo)
-    "${as_root[@]}" apt-get update >/dev/null
-    "${as_root[@]}" apt-get install --yes linux-kbuild-6.1 >/dev/null
-}
-
 kconf=$(realpath "${1:-$(build_kconf)}")
-install_conf
+[ -x "$CONF" ] || install_packages linux-kbuild-6.1
 work=$(mktemp -d)
 trap 'rm -rf "$work"' EXIT
 if [ $# -lt 2 ]; then

@@ -22,15 +22,6 @@ readonly bench
 # shellcheck source=bench/build.sh
 source "$bench/build.sh"
 
-# Installs kconfig-conf where it is missing.
-install_conf() {
-    command -v kconfig-conf >/dev/null && return
-    local as_root=()
-    [ "$(id -u)" -eq 0 ] || as_root=(sudo)
-    "${as_root[@]}" apt-get update >/dev/null
-    "${as_root[@]}" apt-get install --yes kconfig-frontends-nox >/dev/null
-}
-
 # Runs a command in a folder, and prints how many microseconds that took.
 microseconds() {
     local folder=$1 begin end
@@ -81,7 +72,7 @@ ratio() {
     }'
 }
 
-install_conf
+command -v kconfig-conf >/dev/null || install_packages kconfig-frontends-nox
 kconf=$(realpath "${1:-$(build_kconf)}")
 work=$(mktemp -d)
 trap 'rm -rf "$work"' EXIT

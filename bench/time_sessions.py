@@ -1,4 +1,7 @@
-"""The measurements of bench/sessions.sh: time_sessions.py PROGRAM FOLDER, with the tree in FOLDER/tree."""
+"""The measurements of bench/sessions.sh: time_sessions.py PROGRAM FOLDER [WORD..].
+
+The tree is in FOLDER/tree, and the words NAME=VALUE are its variables.
+"""
 
 import os
 import statistics
@@ -12,16 +15,15 @@ import kconfiglib
 ROUNDS = 11
 EDITS = 400
 SHOWS = 10_000
-program, work = sys.argv[1:3]
+program, work, *words = sys.argv[1:]
 
 
 class Session:
     """A session of kconf that is driven through pipes."""
 
-    def __init__(self, folder):
-        self.child = subprocess.Popen(
-            [program, "session", "Kconfig", "-"], cwd=folder, stdin=subprocess.PIPE, stdout=subprocess.PIPE
-        )
+    def __init__(self, folder, words=()):
+        command = [program, "session", "Kconfig", "-", *words]
+        self.child = subprocess.Popen(command, cwd=folder, stdin=subprocess.PIPE, stdout=subprocess.PIPE)
         self.ask([])  # the tree is there when the first reply is
 
     def ask(self, commands):
@@ -51,8 +53,14 @@ class Library:
 
     def __init__(self, folder):
         os.chdir(folder)
+        os.environ.update(word.split("=", 1) for word in words)
         self.tree = kconfiglib.Kconfig("Kconfig", warn=False)
-        self.config = os.path.join(work, "config")
+
+    def names(self):
+        """The names of some symbols that can be n and y, from all over the tree."""
+        symbols = (symbol for symbol in self.tree.unique_defined_syms if symbol.choice is None)
+        names = [symbol.name for symbol in symbols if {0, 2} <= set(symbol.assignable)]
+        return [names[at * 37 % len(names)] for at in range(EDITS)]
 
     def edit_and_show(self, names, values):
         begin = time.perf_counter()
@@ -83,11 +91,11 @@ def report(name, over, under, most):
 
 def against_kconfiglib():
     folder = os.path.join(work, "tree")
-    names = [f"OPTION_{number * 37 % 16_000:05}" for number in range(EDITS)]
     shows, library_shows, configs, library_configs, firsts, library_firsts = [], [], [], [], [], []
-    session, library = Session(folder), Library(folder)
+    session, library = Session(folder, words), Library(folder)
     firsts.append(session.ask(["config"]))
     library_firsts.append(library.write())
+    names = library.names()
     for turn in range(ROUNDS):
         values = ["ny"[(turn + at) % 2] for at in range(EDITS)]
         commands = [line for name, value in zip(names, values) for line in (f"set {name} {value}", f"show {name}")]

@@ -1,0 +1,26 @@
+#!/usr/bin/env bash
+# What input costs that is made to cost much, at two sizes, beside `conf` of the kernel (Debian's package
+# linux-kbuild-6.1).
+#
+#     bench/hostile.sh [PROGRAM [WORD..]]
+#
+# Without PROGRAM it builds kconf by rt. With words it measures only the shapes whose names have one of them. The shapes
+# are those of bench/make_hostile.py. For each of them it prints a row: user and system time and memory at its peak at
+# the greater size, the time for each symbol, line, byte or command there, how these grow for each of them from the
+# smaller size (wanted: at most 1.5 each), and what conf takes where it ends within 20 seconds. Medians of five runs, or
+# one run where that takes a second. The status is 0 where all are kept, else 1.
+set -euo pipefail
+shopt -s inherit_errexit
+
+readonly CONF=/usr/lib/linux-kbuild-6.1/scripts/kconfig/conf
+
+bench=$(cd "$(dirname "${BASH_SOURCE[0]}")" && pwd)
+readonly bench
+# shellcheck source=bench/build.sh
+source "$bench/build.sh"
+
+kconf=$(realpath "${1:-$(build_kconf)}")
+{ [ -x "$CONF" ] && [ -x /usr/bin/time ]; } || install_packages linux-kbuild-6.1 time
+work=$(mktemp -d)
+trap 'rm -rf "$work"' EXIT
+python3 "$bench/time_hostile.py" "$kconf" "$CONF" "$work" "${@:2}"

@@ -1,0 +1,223 @@
+"""Writes a tree that is meant to cost much: make_hostile.py SHAPE SIZE FOLDER.
+
+It writes FOLDER/Kconfig, and where the shape has them FOLDER/config, FOLDER/stdin and further files. What the size
+counts is in the table of time_hostile.py.
+"""
+
+import os
+import sys
+
+MOST_TEXT = 16_777_216
+LINE = 65_000
+
+BOOL = 'config {0}\n\tbool "{0}"\n'
+
+
+def bools(count, more=""):
+    """So many bools, with more lines in each."""
+    return "".join(f'config S{at}\n\tbool "s"\n{more.replace("{at}", str(at))}' for at in range(count))
+
+
+def chained(count, line):
+    """So many bools, each with a line on the one before."""
+    return "".join(BOOL.format(f"S{at}") + (f"\t{line} S{at - 1}\n" if at else "\tdefault y\n") for at in range(count))
+
+
+def repeated_term(term, joint, size):
+    """A term again and again, in so many bytes at most."""
+    return joint.join([term] * max(1, size // (len(term) + len(joint))))
+
+
+def appended(sign, size):
+    return f"V {sign} a\n" + "V += \n" * size + 'config A\n\tstring "a"\n\tdefault "$(V)"\n'
+
+
+def long_condition(size):
+    """So many symbols in a menu whose condition names that many others, as far as a line has room."""
+    names = [f"C{at}" for at in range(size)]
+    condition = " || ".join(names)
+    named = "".join(f"config {name}\n\tbool\n" for name in names)
+    return f'{named}menu "m"\n\tdepends on {condition}\n{bools(size)}endmenu\n'
+
+
+def nested(size):
+    """So many symbols in 64 open blocks, each with a condition of its own."""
+    conditions = [f"C{at}" for at in range(64)]
+    opened = "".join(f"if {name}\n" for name in conditions)
+    return "".join(BOOL.format(name) for name in conditions) + opened + bools(size) + "endif\n" * 64
+
+
+def stacks(size):
+    """So many times 64 menus in one another."""
+    return ('menu "m"\n\tvisible if y\n' * 64 + "endmenu\n" * 64) * size
+
+
+def references(size):
+    """So many lines that follow some 65,000 references each, which stand for nothing."""
+    return f'A :=\nB = {"$(A)" * 1000}\nC = {"$(B)" * 64}\nconfig S\n\tstring "s"\n' + '\tdefault "$(C)"\n' * size
+
+
+def long_texts(size):
+    """So many lines that each put a variable of 65,000 bytes in place."""
+    return f"V := {'a' * LINE}\n" + "".join(f'config S{at}\n\tstring "s"\n\tdefault "$(V)"\n' for at in range(size))
+
+
+def with_expression(term, joint):
+    """A hundred symbols that depend on an expression of so many bytes."""
+    return lambda size: BOOL.format("A") + bools(100, f"\tdepends on {repeated_term(term, joint, size)}\n")
+
+
+def parentheses(size):
+    """The same with 64 parentheses in one another, again and again."""
+    return with_expression("(" * 64 + "A" + ")" * 64, " && ")(size)
+
+
+def sourced(size):
+    return 'source "part"\n' * size
+
+
+def sourced_files(size):
+    return "".join(f'source "part{at}"\n' for at in range(size))
+
+
+def files_behind_comments(size):
+    """So many lines that source a file in a form that is not read ahead, behind 75 times as many comments."""
+    return comments(61 * 75 * size) + "".join(f"source 'part{at}'\n" for at in range(size))
+
+
+def definitions(size):
+    return 'config A\n\tbool "a"\n' + "config A\n\tdefault y\n" * size
+
+
+def ranges(size):
+    bounds = "config L\n\tint\n\tdefault 1\nconfig H\n\tint\n\tdefault 9\n"
+    return bounds + 'config A\n\tint "a"\n' + "\trange L H if L > H\n" * size
+
+
+def help_text(size):
+    return BOOL.format("A") + "\thelp\n" + "\t  a line of a help text, which goes on and on, to here\n" * (size // 55)
+
+
+def members(size):
+    return 'choice\n\tprompt "c"\n' + bools(size) + "endchoice\n"
+
+
+def long_lines(size):
+    return "".join(f'config S{at}\n\tbool "{"p" * (65_536 - 8)}"\n' for at in range(size))
+
+
+def comments(size):
+    return "# a comment of a Kconfig that goes on to its end here, or so\n" * (size // 61)
+
+
+def loop(size):
+    return chained(size, "depends on") + f"config S0\n\tdepends on S{size - 1}\n"
+
+
+def filled(line):
+    """So many bytes of a line of one symbol, behind a bool."""
+    return lambda size: BOOL.format("A") + line * ((size - 40) // len(line))
+
+
+def expressions(size):
+    """So many bytes of lines that are as long as they may be, each one expression."""
+    line = f"\tdefault y if {repeated_term('A', '&&', LINE)}\n"
+    return BOOL.format("A") + BOOL.format("B") + line * ((size - 80) // len(line))
+
+
+ONE_SYMBOL = BOOL.format("A")
+
+KCONFIGS = {
+    "all empty lines": filled("\n"),
+    "all `config A`": filled("config A\n"),
+    "all `default y`": filled("\tdefault y\n"),
+    "all `comment \"c\"`": filled('comment "c"\n'),
+    "all menus": filled('menu "m"\nendmenu\n'),
+    "all `if A`": filled("if A\nendif\n"),
+    "all `A&&A`": expressions,
+    "all variables": filled("V := a\n"),
+    "append to :=": lambda size: appended(":=", size),
+    "append to =": lambda size: appended("=", size),
+    "long condition": long_condition,
+    "blocks in one another": nested,
+    "menus in one another": stacks,
+    "selected": lambda size: BOOL.format("T") + bools(size, "\tselect T\n"),
+    "implied": lambda size: BOOL.format("T") + bools(size, "\timply T\n"),
+    "chain of defaults": lambda size: chained(size, "default"),
+    "chain of dependencies": lambda size: chained(size, "depends on"),
+    "chain of selects": lambda size: bools(size, "\tselect S{at}0\n"),
+    "loop": loop,
+    "defaults of one symbol": lambda size: bools(10) + 'config A\n\tbool "a"\n' + "\tdefault y if S1 && S2\n" * size,
+    "depends on of one symbol": lambda size: bools(10) + 'config A\n\tbool "a"\n' + "\tdepends on S1 || S2\n" * size,
+    "ranges of one symbol": ranges,
+    "definitions of one symbol": definitions,
+    "members of a choice": members,
+    "members, savedefconfig": members,
+    "flat, savedefconfig": bools,
+    "flat, list": bools,
+    "help text": help_text,
+    "comments": comments,
+    "one file sourced": sourced,
+    "files sourced": sourced_files,
+    "files behind comments": files_behind_comments,
+    "references": references,
+    "long texts": long_texts,
+    "A && A": with_expression("A", " && "),
+    "A && !A": with_expression("A && !A", " || "),
+    "! in a row": with_expression("!" * 64 + "A", " && "),
+    "parentheses": parentheses,
+    "comparisons": with_expression('A = "y"', " && "),
+    "long lines": long_lines,
+}
+
+# The shapes of a `.config` or a stream, over one symbol.
+CONFIGS = {
+    ".config: comments": b"# a comment\n",
+    ".config: warnings": b"CONFIG_NOWHERE=y\n",
+    ".config: no lines": b"what\n",
+    ".config: one symbol": b"CONFIG_A=y\n",
+}
+STREAMS = {
+    "session: refused 1": (b"frob\n", 1),
+    "session: refused 2": (b"set NOWHERE y\n", 1),
+    "session: edits": (b"set A y\nset A n\n", 2),
+    "session: small loads": (b"load 1\nCONFIG_A=y\n", 1),
+}
+
+
+def body_of(size):
+    """A load of so many bytes of lines with warnings."""
+    line = b"CONFIG_NOWHERE=y\n"
+    count = size // len(line)
+    return b"load %d\n" % count + line * count
+
+
+def write_all(shape, size):
+    """What the files of a shape hold, by their names."""
+    if shape in CONFIGS:
+        line = CONFIGS[shape]
+        return {"Kconfig": ONE_SYMBOL.encode(), "config": line * (size // len(line))}
+    if shape in STREAMS:
+        text, commands = STREAMS[shape]
+        return {"Kconfig": ONE_SYMBOL.encode(), "stdin": text * (size // commands)}
+    if shape == "session: a load":
+        return {"Kconfig": ONE_SYMBOL.encode(), "stdin": body_of(size)}
+    files = {"Kconfig": KCONFIGS[shape](size).encode()}
+    if shape == "flat, list":
+        files["stdin"] = b"list\n"
+    if shape == "one file sourced":
+        files["part"] = b"comment \"c\"\n"
+    if shape in ("files sourced", "files behind comments"):
+        files.update({f"part{at}": f'config S{at}\n\tbool "s"\n'.encode() for at in range(size)})
+    return files
+
+
+def main():
+    shape, size, folder = sys.argv[1], int(sys.argv[2]), sys.argv[3]
+    for name, data in write_all(shape, size).items():
+        with open(os.path.join(folder, name), "wb") as file:
+            file.write(data[:MOST_TEXT])
+
+
+if __name__ == "__main__":
+    main()

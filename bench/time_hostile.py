@@ -1,0 +1,209 @@
+"""The measurements of bench/hostile.sh: time_hostile.py PROGRAM CONF FOLDER [WORD..].
+
+With words, only the shapes whose names have one of them are measured.
+"""
+
+import os
+import resource
+import shutil
+import signal
+import statistics
+import subprocess
+import sys
+
+RUNS = 5
+MOST = 1.5
+MOST_SECONDS = 20
+MOST_MEMORY = 3 << 30
+# Below these a cost is noise: a smaller one counts as this much.
+LEAST_SECONDS = 0.004
+LEAST_MEMORY = 2 << 20
+
+MIB16 = 16_777_000
+
+# A name, the target, what its size counts, a size and one that is greater; and the status where it is not 0.
+SHAPES = [
+    ("append to :=", "olddefconfig", "line", 6_000, 60_000, 0),
+    ("append to =", "olddefconfig", "line", 6_000, 60_000, 0),
+    ("long condition", "olddefconfig", "symbol", 500, 5_000, 0),
+    ("blocks in one another", "olddefconfig", "symbol", 6_000, 60_000, 0),
+    ("menus in one another", "olddefconfig", "64 menus", 60, 600, 0),
+    ("selected", "olddefconfig", "symbol", 6_000, 60_000, 0),
+    ("implied", "olddefconfig", "symbol", 6_000, 60_000, 0),
+    ("chain of defaults", "olddefconfig", "symbol", 6_000, 60_000, 0),
+    ("chain of dependencies", "olddefconfig", "symbol", 6_000, 60_000, 0),
+    ("chain of selects", "olddefconfig", "symbol", 6_000, 60_000, 0),
+    ("loop", "olddefconfig", "symbol", 6_000, 60_000, 1),
+    ("defaults of one symbol", "olddefconfig", "line", 6_000, 60_000, 0),
+    ("depends on of one symbol", "olddefconfig", "line", 6_000, 60_000, 0),
+    ("ranges of one symbol", "olddefconfig", "line", 6_000, 60_000, 0),
+    ("definitions of one symbol", "olddefconfig", "line", 6_000, 60_000, 0),
+    ("members of a choice", "olddefconfig", "symbol", 1_000, 10_000, 0),
+    ("members of a choice", "olddefconfig", "symbol", 6_000, 60_000, 0),
+    ("members, savedefconfig", "savedefconfig", "symbol", 6_000, 60_000, 0),
+    ("flat, savedefconfig", "savedefconfig", "symbol", 6_000, 60_000, 0),
+    ("flat, list", "session", "symbol", 6_000, 60_000, 0),
+    ("help text", "olddefconfig", "byte", MIB16 // 10, MIB16, 0),
+    ("comments", "olddefconfig", "byte", MIB16 // 10, MIB16, 0),
+    ("one file sourced", "olddefconfig", "line", 409, 4_090, 0),
+    ("files sourced", "olddefconfig", "file", 409, 4_090, 0),
+    ("files behind comments", "olddefconfig", "file", 40, 400, 0),
+    ("references", "olddefconfig", "line", 10, 100, 0),
+    ("long texts", "olddefconfig", "line", 100, 1_000, 0),
+    ("A && A", "olddefconfig", "byte of 100 lines", 6_500, 65_000, 0),
+    ("A && !A", "olddefconfig", "byte of 100 lines", 6_500, 65_000, 0),
+    ("! in a row", "olddefconfig", "byte of 100 lines", 6_500, 65_000, 0),
+    ("parentheses", "olddefconfig", "byte of 100 lines", 6_500, 65_000, 0),
+    ("comparisons", "olddefconfig", "byte of 100 lines", 6_500, 65_000, 0),
+    ("long lines", "olddefconfig", "line", 25, 250, 0),
+    (".config: comments", "olddefconfig", "byte", MIB16 // 10, MIB16, 0),
+    (".config: warnings", "olddefconfig", "byte", MIB16 // 10, MIB16, 0),
+    (".config: no lines", "olddefconfig", "byte", MIB16 // 10, MIB16, 0),
+    (".config: one symbol", "olddefconfig", "byte", MIB16 // 10, MIB16, 0),
+    ("session: refused 1", "session", "command", 10_000, 100_000, 0),
+    ("session: refused 2", "session", "command", 10_000, 100_000, 0),
+    ("session: edits", "session", "command", 10_000, 100_000, 0),
+    ("session: small loads", "session", "command", 10_000, 100_000, 0),
+    ("session: a load", "session", "byte", MIB16 // 10, MIB16, 0),
+]
+SHAPES += [
+    (f"all {what}", "olddefconfig", "byte", MIB16 // 10, MIB16, 0)
+    for what in ("empty lines", "`config A`", "`default y`", '`comment "c"`', "menus", "`if A`", "`A&&A`", "variables")
+]
+
+program, conf, work = sys.argv[1:4]
+wanted = sys.argv[4:]
+bench = os.path.dirname(os.path.abspath(__file__))
+
+
+class Failed(Exception):
+    """A command did not end in time, or with another status."""
+
+
+def limit_memory():
+    resource.setrlimit(resource.RLIMIT_AS, (MOST_MEMORY, MOST_MEMORY))
+
+
+def cost_of(folder, command, environment=None, wanted_status=0):
+    """The seconds of processor time, and the bytes of memory at its peak, of one run. What wait4 says of memory would
+    count this program's own, from which the other is started, so time(1) stands between them."""
+    memory = os.path.join(work, "memory")
+    stdin = os.path.join(folder, "stdin")
+    with open(stdin if os.path.exists(stdin) else os.devnull, "rb") as stream:
+        child = subprocess.Popen(
+            ["/usr/bin/time", "--quiet", "--format", "%M", "--output", memory, *command],
+            cwd=folder,
+            env=environment or {},
+            stdin=stream,
+            stdout=subprocess.DEVNULL,
+            stderr=subprocess.DEVNULL,
+            preexec_fn=limit_memory,
+            start_new_session=True,
+        )
+    signal.signal(signal.SIGALRM, lambda *_: os.killpg(child.pid, signal.SIGKILL))
+    signal.setitimer(signal.ITIMER_REAL, MOST_SECONDS)
+    _, ended, usage = os.wait4(child.pid, 0)
+    signal.setitimer(signal.ITIMER_REAL, 0)
+    child.returncode = ended
+    if os.WIFSIGNALED(ended):
+        raise Failed(f"no end in {MOST_SECONDS} s")
+    status = os.WEXITSTATUS(ended)
+    if status != wanted_status:
+        raise Failed(f"signal {status - 128}" if status > 128 else f"status {status}")
+    with open(memory) as file:
+        return usage.ru_utime + usage.ru_stime, int(file.read()) * 1024
+
+
+def middle_cost(folder, command, environment=None, wanted_status=0):
+    """The medians of the costs of some runs; one of a second or more stands for all."""
+    found = [cost_of(folder, command, environment, wanted_status)]
+    while len(found) < RUNS and found[0][0] < 1:
+        found.append(cost_of(folder, command, environment, wanted_status))
+    return tuple(statistics.median(costs) for costs in zip(*found))
+
+
+def make(shape, size):
+    """The folder of a shape of a size, which was written anew."""
+    folder = os.path.join(work, "shape")
+    shutil.rmtree(folder, ignore_errors=True)
+    os.mkdir(folder)
+    command = [sys.executable, os.path.join(bench, "make_hostile.py"), shape, str(size), folder]
+    subprocess.run(command, check=True)
+    return folder
+
+
+def kconf_cost(folder, target, status):
+    """What a target costs on what a folder has."""
+    config = "config" if os.path.exists(os.path.join(folder, "config")) else "-"
+    return middle_cost(folder, [program, target, "Kconfig", config], wanted_status=status)
+
+
+def conf_cost(folder, target):
+    """What conf takes for the same, in words."""
+    if target != "olddefconfig":
+        return "-"
+    out = os.path.join(work, "out.config")
+    source = os.path.join(folder, "config")
+    try:
+        if os.path.exists(source):
+            shutil.copyfile(source, out)
+        elif os.path.exists(out):
+            os.remove(out)
+        seconds, memory = cost_of(folder, [conf, "--olddefconfig", "Kconfig"], {"KCONFIG_CONFIG": out})
+        return f"{seconds:.3f} s, {memory / 2**20:.0f} MiB"
+    except Failed as failed:
+        return str(failed)
+
+
+def growth(small, great, least, times):
+    """What each unit costs in the greater tree, against the smaller."""
+    return max(great, least) / max(small, least) / times
+
+
+def measure(shape, target, unit, few, many, status, base):
+    """Prints what a shape costs at both sizes, and says whether it is kept."""
+    costs = []
+    for size in (few, many):
+        folder = make(shape, size)
+        try:
+            seconds, memory = kconf_cost(folder, target, status)
+        except Failed as failed:
+            beside = conf_cost(folder, target)
+            print(f"| {shape} | {few:,}, {many:,} | {size:,}: {failed} | | | {beside} | no |", flush=True)
+            return False
+        costs.append((seconds - base[0], memory - base[1], seconds, memory))
+    beside = conf_cost(folder, target)
+    time_growth = growth(costs[0][0], costs[1][0], LEAST_SECONDS, many / few)
+    memory_growth = growth(costs[0][1], costs[1][1], LEAST_MEMORY, many / few)
+    kept = time_growth <= MOST and memory_growth <= MOST
+    each = f"{max(costs[1][0], 0) / many * 1e6:.3f} us a {unit}"
+    greatest = f"{costs[1][2]:.3f} s, {costs[1][3] / 2**20:.0f} MiB"
+    ratios = f"{time_growth:.2f}, {memory_growth:.2f}"
+    verdict = "yes" if kept else "no"
+    print(f"| {shape} | {few:,}, {many:,} | {greatest} | {each} | {ratios} | {beside} | {verdict} |", flush=True)
+    return kept
+
+
+def base_cost():
+    """What the program costs on one symbol."""
+    folder = os.path.join(work, "base")
+    os.makedirs(folder, exist_ok=True)
+    with open(os.path.join(folder, "Kconfig"), "w") as file:
+        file.write('config A\n\tbool "a"\n')
+    return middle_cost(folder, [program, "olddefconfig", "Kconfig", "-"])
+
+
+def main():
+    shapes = [shape for shape in SHAPES if not wanted or any(word in shape[0] for word in wanted)]
+    base = base_cost()
+    print(f"One symbol: {base[0] * 1000:.1f} ms, {base[1] / 2**20:.0f} MiB, which the growths leave out.")
+    print("| Shape | Sizes | The greater | Each | Growth: time, memory | `conf`, the greater | Kept |")
+    print("|---|---|---|---|---|---|---|", flush=True)
+    kept = True
+    for shape in shapes:
+        kept = measure(*shape, base) and kept
+    return kept
+
+
+if __name__ == "__main__":
+    sys.exit(not main())
