@@ -1,0 +1,59 @@
+#!/usr/bin/env python3
+"""Checks that the tests and cases that docs/LIMITS.md names are there.
+
+    tools/check_limits.py
+
+It is run by hand, after a change of a limit, or of the name of a test or the title of a case. What stands between
+backticks is a case, as `FILE: TITLE`, or tests, as `CRATE/FILE.rt NAME..`. A line is written for each mistake, and the
+status is 1 where there is one:
+
+- a row whose last cell names no test and no case;
+- a file that is not there, a case that its file does not have, and a test that its file does not define;
+- a page without a row.
+"""
+
+import re
+import sys
+from typing import Iterator
+
+from check_rules import DATA, DOCS, cells_of, has_item, item_mistakes, shown, text_of
+
+PAGE = DOCS / "LIMITS.md"
+
+
+def names_of(text: str) -> Iterator[str]:
+    """What stands between backticks and is a case or a test."""
+    for item in re.findall(r"`([^`]+)`", text):
+        if re.match(r"(?!kconf)[a-z-]+: |\w+/[\w/]+\.rt ", item):
+            yield item
+
+
+def case_mistakes(item: str) -> Iterator[str]:
+    file, _, title = item.partition(": ")
+    path = DATA / f"{file}.cases"
+    if not path.is_file():
+        yield f"no file {shown(path)}"
+    elif f"=== {title}" not in text_of(path).split("\n"):
+        yield f"{shown(path)} has no case {title!r}"
+
+
+def mistakes_of(item: str) -> Iterator[str]:
+    if re.match(r"\w+/", item):
+        return item_mistakes(item, "src", "", has_item)
+    return case_mistakes(item)
+
+
+def main() -> int:
+    text = text_of(PAGE)
+    rows = [cells_of(line) for line in text.split("\n") if line.startswith("|")]
+    rows = [row for row in rows if row[0] != "What" and not row[0].startswith("---")]
+    mistakes = [f"{row[0]}: nothing is named" for row in rows if not list(names_of(row[-1]))]
+    mistakes += [mistake for item in names_of(text) for mistake in mistakes_of(item)]
+    if not rows:
+        mistakes.append("no row")
+    print("\n".join(f"docs/LIMITS.md: {mistake}" for mistake in mistakes) if mistakes else f"{len(rows)} limits")
+    return 1 if mistakes else 0
+
+
+if __name__ == "__main__":
+    sys.exit(main())
