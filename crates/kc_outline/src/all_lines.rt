@@ -17,7 +17,7 @@ use crate::fault::{LineFault, LineProblem};
 use crate::limits::MOST_LINES;
 use crate::line_faults::{early_problem, late_problem};
 use crate::outline::Outline;
-use kc_statement::{Statement, read_keyword, read_names, read_statement};
+use kc_statement::{Seed, Statement, read_keyword, read_names, read_statement};
 use kc_text::{Line, Text};
 use std::alloc::{AllocError, Global};
 
@@ -114,7 +114,8 @@ fn line_fault(alloc: Global, stop: Stop, line: &Line<'_>) -> LineFault
     }
 }
 
-/// What logical lines define (kconfig-language.rst, "Menu entries" and "Menu structure").
+/// What logical lines define (kconfig-language.rst, "Menu entries" and "Menu structure"). Its names are kept under the
+/// hash of a seed.
 ///
 /// # Errors
 ///
@@ -122,7 +123,7 @@ fn line_fault(alloc: Global, stop: Stop, line: &Line<'_>) -> LineFault
 ///   attribute belongs to nothing that takes it, K07 a block is closed wrongly or left open, K05 its form, and K01 a limit
 ///   of parentheses, blocks or symbols.
 /// - `LineFault::NoMemory` where memory was refused, and for more than 2^30 lines.
-pub fn read_outline(alloc: Global, lines: &[Line<'_>]) -> Result<Outline, LineFault>
+pub fn read_outline(alloc: Global, seed: Seed, lines: &[Line<'_>]) -> Result<Outline, LineFault>
     ensures outline { IfOk result (IsOutlineOf lines.now) }
     ensures few { IfOk result (λ o. length o.symbols ≤ MOST_SYMBOLS) }
     ensures few_choices { IfOk result (λ o. length o.choices ≤ 2 ^ 30) }
@@ -138,7 +139,7 @@ pub fn read_outline(alloc: Global, lines: &[Line<'_>]) -> Result<Outline, LineFa
     if are_too_many(lines) {
         return Err(LineFault::NoMemory);
     }
-    let names = read_names(alloc, lines)?;
+    let names = read_names(alloc, seed, lines)?;
     let mut outline = Outline::new(alloc, names)?;
     let mut context = Context::new(alloc);
     for (index, line) in lines.iter().enumerate() {

@@ -31,6 +31,6 @@ mod writing;
 pub use body::Body;
 pub use command::{Command, Refusal, Reply};
 pub use fault::IoFault;
-pub use opening::{OpenFault, open};
+pub use opening::{OpenFault, open, open_seeded};
 pub use serving::run;
 pub use session::Session;

@@ -17,7 +17,7 @@ use crate::session::Session;
 use bumpalo::Bump;
 use kc_files::{Assign, Load, Prefix, Warning, apply};
 use kc_text::{Line, Sources, TextFault, Vars, logical_lines};
-use kc_tree::{Tree, TreeFault};
+use kc_tree::{Seed, Tree, TreeFault};
 use kc_value::User;
 use std::alloc::Global;
 
@@ -52,12 +52,12 @@ fn read_lines<'a>(
     }
 }
 
-/// The tree of logical lines.
-fn read_tree(alloc: Global, lines: &[Line<'_>]) -> Result<Tree, OpenFault>
+/// The tree of logical lines, whose names are kept under the hash of a seed.
+fn read_tree(alloc: Global, seed: Seed, lines: &[Line<'_>]) -> Result<Tree, OpenFault>
     ensures tree { IfOk result (IsTreeOf lines.now) }
     ensures fault { IfErr result (IsTreeFaultOf lines.now) }
 {
-    match Tree::parse(alloc, lines) {
+    match Tree::parse_seeded(alloc, seed, lines) {
         Ok(tree) => Ok(tree),
         Err(TreeFault::NoMemory) => Err(OpenFault::NoMemory),
         Err(fault) => Err(OpenFault::Tree(fault)),
@@ -118,7 +118,6 @@ fn read_user(
 /// - `OpenFault::Limit` where these have none either, and the `.config` has more than 16,777,216 bytes, or a line of more
 ///   than 65,536.
 /// - `OpenFault::NoMemory` where memory was refused.
-#[tactic(auto, using(crate::proofs::OpenLaws::text_fault, crate::proofs::OpenLaws::tree_fault, crate::proofs::OpenLaws::config_fault))]
 pub fn open(
     alloc: Global,
     sources: &Sources,
@@ -133,9 +132,34 @@ pub fn open(
     ensures solved { IfOk result (λ r. IsOnlySolution r.0.session.tree r.0.session.user (solution r.0.session.tree r.0.session.user)) }
     ensures fault { IfErr result (IsOpenFault sources.now vars.now top.now config.now) }
 {
+    open_seeded(alloc, Seed::fixed(), sources, vars, top, prefix, config)
+}
+
+/// The same for texts of strangers: the names of symbols are kept under the hash of a seed, so that they can't be chosen
+/// to be slow to find. The session or the fault is that of `open`.
+///
+/// # Errors
+///
+/// Those of `open`.
+#[tactic(auto, using(crate::proofs::OpenLaws::text_fault, crate::proofs::OpenLaws::tree_fault, crate::proofs::OpenLaws::config_fault))]
+pub fn open_seeded(
+    alloc: Global,
+    seed: Seed,
+    sources: &Sources,
+    vars: &Vars,
+    top: &str,
+    prefix: &Prefix,
+    config: &[u8],
+) -> Result<(Session, Vec<Warning>), OpenFault>
+    ensures opened { IfOk result (λ r. IsOpened sources.now vars.now top.now prefix.now config.now r.0.session) }
+    ensures warnings { IfOk result (λ r. r.1.items ≡ warnings_in r.0.session.tree prefix.now config.now) }
+    ensures nothing_kept { IfOk result (λ r. r.0.kept ≡ nothing_kept r.0.session.tree) }
+    ensures solved { IfOk result (λ r. IsOnlySolution r.0.session.tree r.0.session.user (solution r.0.session.tree r.0.session.user)) }
+    ensures fault { IfErr result (IsOpenFault sources.now vars.now top.now config.now) }
+{
     let arena = Bump::new(alloc);
     let lines = read_lines(alloc, &arena, sources, vars, top)?;
-    let tree = read_tree(alloc, lines.as_slice())?;
+    let tree = read_tree(alloc, seed, lines.as_slice())?;
     let (user, warnings) = read_user(alloc, &tree, prefix, config)?;
     let Ok(prefix) = prefix.copy(alloc) else {
         return Err(OpenFault::NoMemory);

@@ -13,6 +13,7 @@ use crate::id::SymId;
 use crate::keyword::is_config;
 use crate::limits::MOST_SYMBOLS;
 use crate::names::Names;
+use crate::seed::Seed;
 use crate::tri::Tri;
 use kc_text::{Line, TextRef, Token};
 use std::alloc::{AllocError, Global};
@@ -159,13 +160,13 @@ fn add_defined(alloc: Global, line: &Line<'_>, names: &mut Names) -> Result<(), 
 }
 
 /// The names that lines define (kconfig-language.rst, "Menu entries"), in the order of their first definitions, as many
-/// as a tree may have; or `AllocError` where there is no memory for them.
-pub fn read_names(alloc: Global, lines: &[Line<'_>]) -> Result<Names, AllocError>
+/// as a tree may have, kept under the hash of a seed; or `AllocError` where there is no memory for them.
+pub fn read_names(alloc: Global, seed: Seed, lines: &[Line<'_>]) -> Result<Names, AllocError>
     ensures names { IfOk result (λ names. names ≡ names_of lines.now) }
     ensures few { IfOk result (λ names. length names ≤ MOST_SYMBOLS) }
 {
     let room = (lines.len() / USUAL_LINES).min(MOST_SYMBOLS);
-    let mut names = Names::with_capacity(alloc, room)?;
+    let mut names = Names::with_capacity(alloc, seed, room)?;
     for line in lines {
         add_defined(alloc, line, &mut names)?;
     }

@@ -3,6 +3,7 @@ ghost use Rattle.std.specs.List.{list_any};
 ghost use Rattle.std.specs.Str.{bytes_eq};
 ghost use Rattle.std.specs.Option.{option_copied};
 
+use crate::seed::Seed;
 use indexmap::IndexSet;
 use std::alloc::{AllocError, Global};
 use std::marker::Model;
@@ -10,7 +11,7 @@ use std::marker::Model;
 /// The names of the symbols in the order of their first definitions. Contracts see the list of the names.
 #[derive(Drop)]
 pub struct Names {
-    set: IndexSet<String>,
+    set: IndexSet<String, Seed>,
 }
 
 impl Model for Names {
@@ -28,12 +29,13 @@ impl Model for Names {
 }
 
 impl Names {
-    /// No names, with room for some, or `AllocError` where there is no memory for them.
-    pub fn with_capacity(alloc: Global, room: usize) -> Result<Names, AllocError>
+    /// No names, with room for some, which are kept under the hash of a seed; or `AllocError` where there is no memory
+    /// for them.
+    pub fn with_capacity(alloc: Global, seed: Seed, room: usize) -> Result<Names, AllocError>
         ensures { IfOk result (λ names. names ≡ []) }
     {
         Ok(Names {
-            set: IndexSet::with_capacity(alloc, room)?,
+            set: IndexSet::with_capacity_and_hasher(alloc, room, seed)?,
         })
     }
 

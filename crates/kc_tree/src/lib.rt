@@ -20,7 +20,7 @@ pub use kc_outline::{
     Entry, LineProblem, Reverse, Symbol,
 };
 pub use kc_statement::{
-    BoxedText, Comparison, DefaultValue, Expr, Negations, Operands, Prompt, Range, SymId,
+    BoxedText, Comparison, DefaultValue, Expr, Negations, Operands, Prompt, Range, Seed, SymId,
     SymbolType, Term, Tri, lone_term, numeral,
 };
 pub use node::Node;

@@ -13,7 +13,7 @@ use crate::node_rows::NodeRows;
 use crate::nodes::Nodes;
 use crate::user_value::UserVal;
 use kc_outline::{Block, Choice, Comment, Definition, Entry, Outline, Symbol, read_outline};
-use kc_statement::{SymId, SymbolType, Tri, numeral};
+use kc_statement::{Seed, SymId, SymbolType, Tri, numeral};
 use kc_text::Line;
 use std::alloc::Global;
 use std::marker::Model;
@@ -89,7 +89,21 @@ impl Tree {
         ensures accepted { IfOk result IsAccepted }
         ensures fault { IfErr result (IsFaultOf lines.now) }
     {
-        let outline = read_outline(alloc, lines)?;
+        Tree::parse_seeded(alloc, Seed::fixed(), lines)
+    }
+
+    /// The same for lines of strangers: the names of symbols are kept under the hash of a seed, so that they can't be
+    /// chosen to be slow to find. The tree or the fault is that of `parse`.
+    ///
+    /// # Errors
+    ///
+    /// Those of `parse`.
+    pub fn parse_seeded(alloc: Global, seed: Seed, lines: &[Line<'_>]) -> Result<Tree, TreeFault>
+        ensures tree { IfOk result (IsTreeOf lines.now) }
+        ensures accepted { IfOk result IsAccepted }
+        ensures fault { IfErr result (IsFaultOf lines.now) }
+    {
+        let outline = read_outline(alloc, seed, lines)?;
         link(alloc, lines, outline)
     }
 

@@ -4,4 +4,4 @@ use Rattle.kc_statement.proofs.NamesLemmas.{none_distinct}
 use Rattle.kc_statement.proofs.names.Names.with_capacity.Goals as goal
 
 pub invariant_of-result : goal.invariant_of-result
-invariant_of-result c = rw (ap (map string_bytes) c.in_ok-with_capacity.ensures.empty) none_distinct
+invariant_of-result c = rw (ap (map string_bytes) c.in_ok-with_capacity_and_hasher.ensures.empty) none_distinct

@@ -2,7 +2,7 @@ use Rattle.std.proofs.Common.{sym, subst}
 use Rattle.kc_value.specs.Solution.{solution, IsOnlySolution}
 use Rattle.kc_session.specs.KeptResolver.{ResolverState}
 use Rattle.kc_session.specs.Session.{SessionState}
-use Rattle.kc_session.proofs.opening.open.Goals as goal
+use Rattle.kc_session.proofs.opening.open_seeded.Goals as goal
 
 pub returns-clause-solved : goal.returns-clause-solved
 returns-clause-solved c =
