@@ -27,6 +27,7 @@ pub mod ReplayLaws
 pub mod SameLaws
 pub mod SlotLemmas
 pub mod SolutionLaws
+pub mod StepLemmas
 pub mod UserLemmas
 pub mod UsesLaws
 pub mod VisibilityLaws

@@ -1,10 +1,8 @@
 //! Evaluating what a node is computed from, and the node, as far as it is not kept.
 
-ghost use Rattle.std.specs.Prelude.{◌≡◌, [], ◌∷◌, false, None, IfSome, OnOk, IsOk};
+ghost use Rattle.std.specs.Prelude.{◌≡◌, ◌⊎◌, [], ◌∷◌, false, Contains, IfSome, IfNone, OnOk, IsOk};
 ghost use Rattle.kc_tree.specs.declared.node.Node.{Node};
-ghost use Rattle.kc_tree.specs.Accepted.{IsAccepted};
 ghost use Rattle.kc_tree.specs.Nodes.{IsNodeOf};
-ghost use Rattle.kc_tree.specs.Uses.{Uses};
 ghost use Rattle.kc_value.specs.Kept.{is_kept, IsKept, AreKept, Fills};
 
 use crate::kept_values::KeptValues;
@@ -12,46 +10,30 @@ use crate::user::User;
 use kc_tree::{Node, Tree};
 use std::alloc::{AllocError, Global};
 
-/// A node that is wanted, and from which of the nodes that it uses on one without a value is searched.
+/// A node that is wanted, and those of the nodes that it uses which are still to be looked at: the others are kept.
 #[derive(Clone, Copy)]
-struct Step {
+struct Step<'a> {
     node: Node,
-    next: usize,
+    left: &'a [Node],
 }
 
 impl KeptValues {
-    /// The first of the nodes that a node uses, from a place on, that is not kept, with its place.
-    fn missing_from(&self, tree: &Tree, node: Node, from: usize) -> Option<(usize, Node)>
-        requires { IsNodeOf tree.now node }
-        ensures used { IfSome result (λ r. Uses tree.now node r.1) }
-        ensures missing { IfSome result (λ r. is_kept tree.now self.now.values r.1 ≡ false) }
-        ensures none { from ≡ 0 → result ≡ None → (m : Node) → Uses tree.now node m → IsKept tree.now self.now.values m }
-        ensures accepted { IsAccepted tree.now }
+    /// The first of some nodes that is not kept, and these nodes from it on.
+    fn missing_from<'a>(&self, tree: &Tree, nodes: &'a [Node]) -> Option<(Node, &'a [Node])>
+        ensures missing { IfSome result (λ r. is_kept tree.now self.now.values r.0 ≡ false) }
+        ensures among { IfSome result (λ r. Contains nodes.now r.0) }
+        ensures within { IfSome result (λ r. (m : Node) → Contains r.1.now m → Contains nodes.now m) }
+        ensures passed { IfSome result (λ r. (m : Node) → Contains nodes.now m → Contains r.1.now m ⊎ IsKept tree.now self.now.values m) }
+        ensures none { IfNone result ((m : Node) → Contains nodes.now m → IsKept tree.now self.now.values m) }
     {
-        let uses = tree.uses(node);
-        for place in from..uses.len() {
-            let used = uses[place];
-            if !self.is_kept(tree, used) {
-                return Some((place, used));
+        let mut left = nodes;
+        while let [first, behind @ ..] = left {
+            if !self.is_kept(tree, *first) {
+                return Some((*first, left));
             }
+            left = behind;
         }
         None
-    }
-
-    /// One of the nodes that the node of a step uses and that are not kept, with its place. Where the step goes on comes
-    /// first, and then all of them.
-    fn missing_use(&self, tree: &Tree, step: Step) -> Option<(usize, Node)>
-        requires { IsNodeOf tree.now step.node }
-        ensures used { IfSome result (λ r. Uses tree.now step.node r.1) }
-        ensures missing { IfSome result (λ r. is_kept tree.now self.now.values r.1 ≡ false) }
-        ensures none { result ≡ None → (m : Node) → Uses tree.now step.node m → IsKept tree.now self.now.values m }
-        ensures accepted { IsAccepted tree.now }
-    {
-        match self.missing_from(tree, step.node, step.next) {
-            Some(missing) => Some(missing),
-            None if step.next == 0 => None,
-            None => self.missing_from(tree, step.node, 0),
-        }
     }
 
     /// Evaluates a node and all that it is computed from, itself and through others, as far as they are not kept, each
@@ -79,17 +61,20 @@ impl KeptValues {
             return Ok(());
         }
         let mut path = Vec::new(alloc);
-        path.push(Step { node, next: 0 })?;
+        path.push(Step {
+            node,
+            left: tree.uses(node),
+        })?;
         while let Some(step) = path.pop() {
-            match self.missing_use(tree, step) {
-                Some((next, used)) => {
+            match self.missing_from(tree, step.left) {
+                Some((used, left)) => {
                     path.push(Step {
                         node: step.node,
-                        next,
+                        left,
                     })?;
                     path.push(Step {
                         node: used,
-                        next: 0,
+                        left: tree.uses(used),
                     })?;
                 }
                 None => self.evaluate(alloc, tree, user, step.node)?,

@@ -1,6 +1,8 @@
 use Rattle.std.proofs.Common.{[], ◌∷◌, map}
+use Rattle.kc_tree.specs.Accepted.{IsAccepted}
 use Rattle.kc_value.specs.Kept.{AreKept, Fills}
 use Rattle.kc_value.proofs.PathLemmas.{IsPath, work_left}
+use Rattle.kc_value.proofs.StepLemmas.{AreSteps}
 use Rattle.kc_value.proofs.kept_values.KeptValues.fill.Given as goal
 
 abbrev pub invariant-loop-step : goal.invariant-loop-step
@@ -8,6 +10,8 @@ invariant-loop-step l = record {
   kept : AreKept l.tree l.user l.self.values;
   fills : Fills l.tree (l.fn.node ∷ []) l.fn.self l.self;
   path : IsPath l.tree l.fn.node l.self.values (map (λ s. s.node) l.path.items);
+  steps : AreSteps l.tree l.self.values l.path.items;
+  accepted : IsAccepted l.tree;
 }
 
 abbrev pub decreases-loop-step : goal.decreases-loop-step
