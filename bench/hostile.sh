@@ -23,4 +23,6 @@ kconf=$(realpath "${1:-$(build_kconf)}")
 { [ -x "$CONF" ] && [ -x /usr/bin/time ]; } || install_packages linux-kbuild-6.1 time
 work=$(mktemp -d)
 trap 'rm -rf "$work"' EXIT
+gcc -O2 -o "$work/colliding_names" "$bench/colliding_names.c"
+export COLLIDING_NAMES="$work/colliding_names"
 python3 "$bench/time_hostile.py" "$kconf" "$CONF" "$work" "${@:2}"

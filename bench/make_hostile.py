@@ -1,10 +1,11 @@
 """Writes a tree that is meant to cost much: make_hostile.py SHAPE SIZE FOLDER.
 
 It writes FOLDER/Kconfig, and where the shape has them FOLDER/config, FOLDER/stdin and further files. What the size
-counts is in the table of time_hostile.py.
+counts is in the table of time_hostile.py. COLLIDING_NAMES is the path of the program of colliding_names.c.
 """
 
 import os
+import subprocess
 import sys
 
 MOST_TEXT = 16_777_216
@@ -119,6 +120,17 @@ def filled(line):
     return lambda size: BOOL.format("A") + line * ((size - 40) // len(line))
 
 
+def named(groups):
+    """So many symbols with names that begin at one of so many groups of a table of a hash without a seed."""
+
+    def tree(size):
+        command = [os.environ["COLLIDING_NAMES"], str(size), str(groups)]
+        names = subprocess.run(command, check=True, stdout=subprocess.PIPE, text=True).stdout.split()
+        return "".join(f'config {name}\n\tbool "s"\n' for name in names)
+
+    return tree
+
+
 def expressions(size):
     """So many bytes of lines that are as long as they may be, each one expression."""
     line = f"\tdefault y if {repeated_term('A', '&&', LINE)}\n"
@@ -155,6 +167,8 @@ KCONFIGS = {
     "members, savedefconfig": members,
     "flat, savedefconfig": bools,
     "flat, list": bools,
+    "names that collide": named(4096),
+    "names that do not": named(1),
     "help text": help_text,
     "comments": comments,
     "one file sourced": sourced,

@@ -43,6 +43,8 @@ SHAPES = [
     ("members, savedefconfig", "savedefconfig", "symbol", 6_000, 60_000, 0),
     ("flat, savedefconfig", "savedefconfig", "symbol", 6_000, 60_000, 0),
     ("flat, list", "session", "symbol", 6_000, 60_000, 0),
+    ("names that collide", "olddefconfig", "symbol", 4_000, 40_000, 0),
+    ("names that do not", "olddefconfig", "symbol", 4_000, 40_000, 0),
     ("help text", "olddefconfig", "byte", MIB16 // 10, MIB16, 0),
     ("comments", "olddefconfig", "byte", MIB16 // 10, MIB16, 0),
     ("one file sourced", "olddefconfig", "line", 409, 4_090, 0),

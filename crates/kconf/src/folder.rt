@@ -1,8 +1,10 @@
 //! Where the bytes of files come from.
 
+use kc_tree::Seed;
 use std::alloc::Global;
 use std::fs;
 use std::io::{self, ErrorKind, Read};
+use std::random::RandomSource;
 use std::rt::Files;
 
 /// The most bytes that are expected of a file: more are never accepted.
@@ -49,6 +51,11 @@ pub trait Folder {
     /// The same for a file that may never be wanted: `CannotRead` also where it has more than 16,777,216 bytes, and
     /// where reading it might not end, or might take bytes from others, as from a pipe.
     fn read_plain(&self, alloc: Global, path: &str) -> Result<Vec<u8>, FolderFault>;
+
+    /// The seed of the hash under which the paths of the files, and the names in them, are kept.
+    fn seed(&self) -> Seed {
+        Seed::fixed()
+    }
 }
 
 /// The files of the system. A path that does not begin with `/` is taken from the working directory.
@@ -102,7 +109,7 @@ fn before_last_character(bytes: &[u8]) -> usize {
     bytes.len()
 }
 
-impl<R: Files> Folder for SystemFolder<'_, R> {
+impl<R: Files + RandomSource> Folder for SystemFolder<'_, R> {
     fn read_bytes(&self, alloc: Global, path: &str) -> Result<Vec<u8>, FolderFault> {
         let metadata = fs::metadata(self.rt, path)?;
         self.read_expected(alloc, path, metadata.len())
@@ -122,5 +129,10 @@ impl<R: Files> Folder for SystemFolder<'_, R> {
         } else {
             Err(FolderFault::CannotRead)
         }
+    }
+
+    /// A seed that the system draws, and the fixed one where it gives no random bytes.
+    fn seed(&self) -> Seed {
+        Seed::drawn(self.rt).unwrap_or_else(|_| Seed::fixed())
     }
 }

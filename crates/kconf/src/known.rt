@@ -1,6 +1,7 @@
 //! What is known of the texts of variables before the lines are read in their order: what was passed in, and what lines
 //! define. It serves the guess of `read_ahead` alone.
 
+use kc_tree::Seed;
 use memchr::{memchr, memchr_iter, memrchr};
 use std::alloc::{AllocError, Global};
 use std::collections::HashMap;
@@ -12,13 +13,17 @@ const MAX_PATH_BYTES: usize = 4_096;
 #[derive(Drop)]
 pub(crate) struct Known {
     alloc: Global,
-    texts: HashMap<String, String>,
+    texts: HashMap<String, String, Seed>,
 }
 
 impl Known {
-    /// The variables that are passed in, each as its name and its text.
-    pub(crate) fn new(alloc: Global, variables: &[(&str, &str)]) -> Result<Known, AllocError> {
-        let mut texts = HashMap::new(alloc);
+    /// The variables that are passed in, each as its name and its text, kept under the hash of a seed.
+    pub(crate) fn new(
+        alloc: Global,
+        seed: Seed,
+        variables: &[(&str, &str)],
+    ) -> Result<Known, AllocError> {
+        let mut texts = HashMap::with_hasher(alloc, seed);
         for (name, text) in variables {
             let name = String::from_str(alloc, name)?;
             texts.insert(name, String::from_str(alloc, text)?)?;

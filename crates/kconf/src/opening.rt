@@ -9,8 +9,9 @@ use crate::messages::Fault;
 use crate::read_ahead::{Reach, Waiting};
 use bumpalo::Bump;
 use kc_files::{Prefix, Warning};
-use kc_session::{OpenFault, Session, open};
+use kc_session::{OpenFault, Session, open_seeded};
 use kc_text::{Line, Sources, Text, TextFault, TextProblem, Vars, logical_lines};
+use kc_tree::Seed;
 use std::alloc::Global;
 use std::collections::{HashMap, HashSet};
 
@@ -111,6 +112,8 @@ struct Want {
 struct Files<'a, F> {
     alloc: Global,
     folder: &'a F,
+    /// The seed of the hash under which names and paths are kept.
+    seed: Seed,
     reach: Reach,
     sources: Sources,
     waiting: Waiting,
@@ -119,21 +122,23 @@ struct Files<'a, F> {
     /// How many of them were read ahead.
     ahead: usize,
     /// The texts of files that were wanted, by their paths, for another start.
-    kept: HashMap<String, String>,
+    kept: HashMap<String, String, Seed>,
 }
 
 impl<'a, F: Folder> Files<'a, F> {
     /// No files, of a Kconfig whose files are read as far ahead as can be.
     fn new(alloc: Global, kconfig: &Kconfig<'a, F>) -> Result<Files<'a, F>, Fault> {
+        let seed = kconfig.folder.seed();
         Ok(Files {
             alloc,
             folder: kconfig.folder,
+            seed,
             reach: Reach::Everything,
             sources: Sources::new(alloc),
-            waiting: Waiting::new(alloc, kconfig.variables)?,
+            waiting: Waiting::new(alloc, seed, kconfig.variables)?,
             count: 0,
             ahead: 0,
-            kept: HashMap::new(alloc),
+            kept: HashMap::with_hasher(alloc, seed),
         })
     }
 
@@ -167,8 +172,9 @@ impl<'a, F: Folder> Files<'a, F> {
 
     /// What the Kconfig is with these files alone.
     fn open_sources(&self, kconfig: &Kconfig<'_, F>) -> Result<Opened, OpenFault> {
-        open(
+        open_seeded(
             self.alloc,
+            self.seed,
             &self.sources,
             kconfig.vars,
             kconfig.top,
@@ -219,7 +225,7 @@ impl<'a, F: Folder> Files<'a, F> {
             .add(top, lines_before(text.as_str(), want.line))?;
         let arena = Bump::new(self.alloc);
         let lines = logical_lines(self.alloc, &arena, &self.sources, kconfig.vars, top)?;
-        Ok(count_files(self.alloc, lines.as_slice())? == self.count)
+        Ok(count_files(self.alloc, self.seed, lines.as_slice())? == self.count)
     }
 
     /// The text of a path that is wanted. It is kept where another start may want it.
@@ -278,8 +284,8 @@ fn lines_before(text: &str, number: usize) -> &str {
 }
 
 /// How many files have a line, as the last line of each file is its end.
-fn count_files(alloc: Global, lines: &[Line<'_>]) -> Result<usize, Fault> {
-    let mut paths = HashSet::new(alloc);
+fn count_files(alloc: Global, seed: Seed, lines: &[Line<'_>]) -> Result<usize, Fault> {
+    let mut paths = HashSet::with_hasher(alloc, seed);
     for line in lines {
         if !paths.contains(line.path()) {
             paths.insert(String::from_str(alloc, line.path())?)?;

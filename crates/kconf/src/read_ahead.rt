@@ -5,6 +5,7 @@
 //! each file.
 
 use crate::known::Known;
+use kc_tree::Seed;
 use memchr::{memchr, memchr2, memmem};
 use std::alloc::{AllocError, Global};
 use std::collections::HashSet;
@@ -27,28 +28,35 @@ pub(crate) enum Reach {
 #[derive(Drop)]
 pub(crate) struct Waiting {
     alloc: Global,
+    seed: Seed,
     /// The paths that wait, the first to be read behind.
     paths: Vec<String>,
     /// These, and all that were read or passed.
-    seen: HashSet<String>,
+    seen: HashSet<String, Seed>,
     known: Known,
 }
 
 impl Waiting {
-    /// No path waits, of files that see variables, each with its name and its text.
-    pub(crate) fn new(alloc: Global, variables: &[(&str, &str)]) -> Result<Waiting, AllocError> {
+    /// No path waits, of files that see variables, each with its name and its text. Paths and names are kept under the
+    /// hash of a seed.
+    pub(crate) fn new(
+        alloc: Global,
+        seed: Seed,
+        variables: &[(&str, &str)],
+    ) -> Result<Waiting, AllocError> {
         Ok(Waiting {
             alloc,
+            seed,
             paths: Vec::new(alloc),
-            seen: HashSet::new(alloc),
-            known: Known::new(alloc, variables)?,
+            seen: HashSet::with_hasher(alloc, seed),
+            known: Known::new(alloc, seed, variables)?,
         })
     }
 
     /// Forgets all paths.
     pub(crate) fn start(&mut self) {
         self.paths = Vec::new(self.alloc);
-        self.seen = HashSet::new(self.alloc);
+        self.seen = HashSet::with_hasher(self.alloc, self.seed);
     }
 
     /// Takes a path that waits.
