@@ -1,3 +1,4 @@
+pub mod FilterPlaces
 pub mod FirstRooms
 pub mod GraphLaws
 pub mod ListLaws
@@ -5,5 +6,9 @@ pub mod MarkLaws
 pub mod RoomLaws
 pub mod RowLaws
 pub mod SearchSteps
+pub mod SharedLaws
+pub mod SharedLoops
+pub mod SharedOrder
+pub mod SharedUsers
 pub mod UseCounts
 pub mod UsersSteps

@@ -79,12 +79,3 @@ module _ (spans spans' : List Span) (numbers numbers' more : List ℕ) (start en
         few_numbers = omega arith;
         held = omega (arith, s.held, ap number_count rows_in-added, sum_by_push (λ row. length row) (rows_in numbers spans) more);
       }
-
--- where a function is mapped over the elements, it is mapped over those of each row
-module _ {A B : Type 0} (f : A → B) (xs : List A) where
-  pub row_in-map : (s : Span) → row_in (map f xs) s ≡ map f (row_in xs s)
-  row_in-map s = ap (take (s.end - s.start)) (drop-map f s.start xs) ∙ take-map f (s.end - s.start) (drop s.start xs)
-
-  pub rows_in-map : (spans : List Span) → rows_in (map f xs) spans ≡ map (map f) (rows_in xs spans)
-  rows_in-map [] = refl
-  rows_in-map (s ∷ ss) = ap (λ r. r ∷ rows_in (map f xs) ss) (row_in-map s) ∙ ap (λ rs. map f (row_in xs s) ∷ rs) (rows_in-map ss)

@@ -2,4 +2,5 @@ pub mod Graph
 pub mod OrderFault
 pub mod Rows
 pub mod Search
+pub mod Shared
 pub mod Users

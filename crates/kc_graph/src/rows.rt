@@ -1,7 +1,7 @@
 //! Rows of numbers in one vector, of which a row takes no memory of its own.
 
-ghost use Rattle.std.specs.Prelude.{◌≡◌, ◌<◌, ◌≤◌, ◌^◌, [], ◌∷◌, ◌++◌, All, IfErr, IfOk, OnErr, OnOk, length, slice_index_or};
-ghost use Rattle.kc_graph.specs.Rows.{rows_in, number_count, FitsIn, AreRowsIn};
+ghost use Rattle.std.specs.Prelude.{◌≡◌, ◌<◌, ◌≤◌, ◌^◌, [], ◌∷◌, ◌++◌, IfErr, IfOk, OnErr, OnOk, length, slice_index_or};
+ghost use Rattle.kc_graph.specs.Rows.{rows_in, number_count, AreRowsIn};
 
 use std::alloc::{AllocError, Global};
 use std::marker::Model;
@@ -101,17 +101,5 @@ impl Rows {
             Some(span) => &self.numbers[span.start as usize..span.end as usize],
             None => &[],
         }
-    }
-
-    /// The results are the spans of the rows, and the numbers that the rows stand among. A caller that keeps something
-    /// else for each number, as the node that it means, keeps the spans with these.
-    pub fn into_parts(self) -> (Vec<Span>, Vec<u32>)
-        ensures rows { self ≡ rows_in result.1.items result.0.items }
-        ensures fit { All (FitsIn (length result.1.items)) result.0.items }
-        ensures few { length result.0.items < 2 ^ 32 }
-        ensures few_numbers { length result.1.items < 2 ^ 32 }
-    {
-        let Rows { spans, numbers } = self;
-        (spans, numbers)
     }
 }
