@@ -17,7 +17,7 @@ use Rattle.kc_tree.specs.Uses.{formula_nodes, value_nodes}
 use Rattle.kc_tree.specs.Collected.{has_number, has_node, Adds, HaveSame, HasNodes, Holds}
 
 -- ---- tests of lists
-same_tests : (a b : Bool) → (a ≡ true → b ≡ true) → (b ≡ true → a ≡ true) → a ≡ b
+pub same_tests : (a b : Bool) → (a ≡ true → b ≡ true) → (b ≡ true → a ≡ true) → a ≡ b
 same_tests true b f g = sym (f refl)
 same_tests false true f g = g refl
 same_tests false false f g = refl
@@ -27,7 +27,7 @@ pub any_contains : {X : Type 0} (p : X → Bool) (xs : List X) (x : X) → Conta
 any_contains p xs x c e = list_any_at p xs c.0 x c.1 (ap p c.2 ∙ e)
 
 -- an element that a test finds
-found : {X : Type 0} (p : X → Bool) (xs : List X) → list_any p xs ≡ true → (x : X) × Contains xs x × (p x ≡ true)
+pub found : {X : Type 0} (p : X → Bool) (xs : List X) → list_any p xs ≡ true → (x : X) × Contains xs x × (p x ≡ true)
 found p [] e = cc
 found p (x ∷ xs) e =
     elim (or_cases (p x) (list_any p xs) e) [

@@ -13,7 +13,7 @@ use Rattle.kc_tree.specs.declared.node.Node.{Node}
 use Rattle.kc_tree.specs.Nodes.{number_in}
 use Rattle.kc_outline.specs.TreeValue.{TreeValue, BlockValue, DefinitionValue, blocks_from, blocks_around}
 use Rattle.kc_tree.specs.Uses.{symbol_nodes, conditions_nodes, own_condition_nodes, depends_nodes, visible_nodes, dependency_nodes, default_nodes, range_nodes, definition_nodes, prompt_nodes, reverse_nodes}
-use Rattle.kc_tree.specs.Collected.{has_number, has_node, HaveSame, Holds, own_lists, depends_lists, visible_lists, dependency_at, depends_at, visible_at, block_numbers, block_numbers_at, innermost_at, defaults_at, ranges_at, prompt_own_at, prompted_at, source_nodes}
+use Rattle.kc_tree.specs.Collected.{has_number, has_node, HaveSame, Holds, own_lists, depends_lists, visible_lists, own_at, dependency_at, depends_at, visible_at, block_numbers, block_numbers_at, innermost_at, defaults_at, ranges_at, prompt_own_at, prompted_at, source_nodes}
 use Rattle.kc_tree.proofs.CollectedLaws.{any_same, any_alike, any_or, any_flat, any_map, or_false}
 
 -- ---- lists and options
@@ -129,11 +129,10 @@ module _ (symbols : ℕ) where
   has_both : (xs ys : List Node) (k : ℕ) → has_node symbols (xs ++ ys) k ≡ (has_node symbols xs k || has_node symbols ys k)
   has_both xs ys k = list_any-append (λ n. eqb (number_in symbols n) k) xs ys
 
-  pub around_same : (t : TreeValue) (f : BlockValue → List Node) (rows : List (List ℕ)) (js bs : List ℕ) (k : ℕ) → Holds symbols (map f t.blocks) rows → HaveSame bs (flat_map (block_numbers_at t) js) → has_number (flat_map (λ b. get_or rows b []) bs) k ≡ list_any (λ j. has_node symbols (option_map_or (λ d. flat_map f (blocks_around t d.block)) (slice_get t.definitions j) []) k) js
-  around_same t f rows js bs k h e =
-      any_flat (λ j. eqb j k) (λ b. get_or rows b []) bs
-      ∙ any_same (λ b. has_number (get_or rows b []) k) bs (flat_map (block_numbers_at t) js) e
-      ∙ any_alike (λ b. has_number (get_or rows b []) k) (λ b. has_node symbols (get_or (map f t.blocks) b []) k) (flat_map (block_numbers_at t) js) (λ b. h.each b k)
+  pub around_same : (t : TreeValue) (f : BlockValue → List Node) (js bs : List ℕ) (k : ℕ) → HaveSame bs (flat_map (block_numbers_at t) js) → has_node symbols (flat_map (λ b. get_or (map f t.blocks) b []) bs) k ≡ list_any (λ j. has_node symbols (option_map_or (λ d. flat_map f (blocks_around t d.block)) (slice_get t.definitions j) []) k) js
+  around_same t f js bs k e =
+      any_flat test (λ b. get_or (map f t.blocks) b []) bs
+      ∙ any_same (λ b. has_node symbols (get_or (map f t.blocks) b []) k) bs (flat_map (block_numbers_at t) js) e
       ∙ any_flat (λ b. has_node symbols (get_or (map f t.blocks) b []) k) (block_numbers_at t) js
       ∙ any_alike (λ j. list_any (λ b. has_node symbols (get_or (map f t.blocks) b []) k) (block_numbers_at t j)) (λ j. has_node symbols (option_map_or (λ d. flat_map f (blocks_around t d.block)) (slice_get t.definitions j) []) k) js
       (λ j. sym (any_flat test (λ b. get_or (map f t.blocks) b []) (block_numbers_at t j)) ∙ ap (λ ns. has_node symbols ns k) (around_nodes t f j))
@@ -142,11 +141,11 @@ module _ (symbols : ℕ) where
       test n = eqb (number_in symbols n) k
 
   -- what the blocks from one outwards read
-  pub blocks_alike : (t : TreeValue) (f : BlockValue → List Node) (rows : List (List ℕ)) (id : Option BlockId) (bs : List ℕ) → Holds symbols (map f t.blocks) rows → bs ≡ block_numbers t.blocks 64 id → (k : ℕ) → has_number (flat_map (λ b. get_or rows b []) bs) k ≡ has_node symbols (flat_map f (blocks_around t id)) k
-  blocks_alike t f rows id bs h e k =
-      any_flat (λ j. eqb j k) (λ b. get_or rows b []) bs
-      ∙ ap (list_any (λ b. has_number (get_or rows b []) k)) e
-      ∙ any_alike (λ b. has_number (get_or rows b []) k) (λ b. has_node symbols (option_map_or f (slice_get t.blocks b) []) k) (block_numbers t.blocks 64 id) (λ b. h.each b k ∙ ap (λ ns. has_node symbols ns k) (get_or_mapped f t.blocks b))
+  pub blocks_alike : (t : TreeValue) (f : BlockValue → List Node) (id : Option BlockId) (bs : List ℕ) → bs ≡ block_numbers t.blocks 64 id → (k : ℕ) → has_node symbols (flat_map (λ b. get_or (map f t.blocks) b []) bs) k ≡ has_node symbols (flat_map f (blocks_around t id)) k
+  blocks_alike t f id bs e k =
+      any_flat test (λ b. get_or (map f t.blocks) b []) bs
+      ∙ ap (list_any (λ b. has_node symbols (get_or (map f t.blocks) b []) k)) e
+      ∙ any_alike (λ b. has_node symbols (get_or (map f t.blocks) b []) k) (λ b. has_node symbols (option_map_or f (slice_get t.blocks b) []) k) (block_numbers t.blocks 64 id) (λ b. ap (λ ns. has_node symbols ns k) (get_or_mapped f t.blocks b))
       ∙ sym (any_flat test (λ b. option_map_or f (slice_get t.blocks b) []) (block_numbers t.blocks 64 id))
       ∙ ap (λ ns. has_node symbols ns k) (sym (block_nodes f t.blocks 64 id))
     where
@@ -161,24 +160,26 @@ module _ (symbols : ℕ) where
       at None = refl
       at (Some d) = sym (has_both (conditions_nodes t d.depends) (depends_nodes t (blocks_around t d.block)) k)
 
-  pub dependencies : (t : TreeValue) (own depends : List (List ℕ)) (js js₂ bs : List ℕ) → Holds symbols (own_lists t) own → Holds symbols (depends_lists t) depends → HaveSame js₂ js → HaveSame bs (flat_map (block_numbers_at t) js₂) → (k : ℕ) → has_number (flat_map (λ j. get_or own j []) js₂ ++ flat_map (λ b. get_or depends b []) bs) k ≡ has_node symbols (flat_map (dependency_at t) js) k
-  dependencies t own depends js js₂ bs f g e h k =
-      list_any-append (λ i. eqb i k) (flat_map (λ j. get_or own j []) js₂) (flat_map (λ b. get_or depends b []) bs)
-      ∙ ap (λ b. b || has_number (flat_map (λ b. get_or depends b []) bs) k) first
-      ∙ ap (λ b. list_any (λ j. has_node symbols (option_map_or (λ d. conditions_nodes t d.depends) (slice_get t.definitions j) []) k) js₂ || b) (around_same t (λ b. conditions_nodes t b.depends) depends js₂ bs k g h)
-      ∙ sym (any_or (λ j. has_node symbols (option_map_or (λ d. conditions_nodes t d.depends) (slice_get t.definitions j) []) k) (λ j. has_node symbols (depends_at t j) k) js₂)
-      ∙ any_alike (λ j. has_node symbols (option_map_or (λ d. conditions_nodes t d.depends) (slice_get t.definitions j) []) k || has_node symbols (depends_at t j) k) (λ j. has_node symbols (dependency_at t j) k) js₂ (dependency_parts t k)
+  -- what their own lines read, from a table of it
+  pub own_alike : (t : TreeValue) (own : List (List ℕ)) (js : List ℕ) → Holds symbols (own_lists t) own → (k : ℕ) → has_number (flat_map (λ j. get_or own j []) js) k ≡ has_node symbols (flat_map (own_at t) js) k
+  own_alike t own js f k =
+      any_flat (λ i. eqb i k) (λ j. get_or own j []) js
+      ∙ any_alike (λ j. has_number (get_or own j []) k) (λ j. has_node symbols (own_at t j) k) js
+      (λ j. f.each j k ∙ ap (λ ns. has_node symbols ns k) (get_or_mapped (λ d. conditions_nodes t d.depends) t.definitions j))
+      ∙ sym (any_flat (λ n. eqb (number_in symbols n) k) (own_at t) js)
+
+  pub dependencies : (t : TreeValue) (js js₂ bs : List ℕ) → HaveSame js₂ js → HaveSame bs (flat_map (block_numbers_at t) js₂) → (k : ℕ) → has_node symbols (flat_map (own_at t) js₂ ++ flat_map (λ b. get_or (depends_lists t) b []) bs) k ≡ has_node symbols (flat_map (dependency_at t) js) k
+  dependencies t js js₂ bs e h k =
+      has_both (flat_map (own_at t) js₂) (flat_map (λ b. get_or (depends_lists t) b []) bs) k
+      ∙ ap (λ b. b || has_node symbols (flat_map (λ b. get_or (depends_lists t) b []) bs) k) (any_flat test (own_at t) js₂)
+      ∙ ap (λ b. list_any (λ j. has_node symbols (own_at t j) k) js₂ || b) (around_same t (λ b. conditions_nodes t b.depends) js₂ bs k h)
+      ∙ sym (any_or (λ j. has_node symbols (own_at t j) k) (λ j. has_node symbols (depends_at t j) k) js₂)
+      ∙ any_alike (λ j. has_node symbols (own_at t j) k || has_node symbols (depends_at t j) k) (λ j. has_node symbols (dependency_at t j) k) js₂ (dependency_parts t k)
       ∙ any_same (λ j. has_node symbols (dependency_at t j) k) js₂ js e
       ∙ sym (any_flat test (dependency_at t) js)
     where
       test : Node → Bool
       test n = eqb (number_in symbols n) k
-
-      first : has_number (flat_map (λ j. get_or own j []) js₂) k ≡ list_any (λ j. has_node symbols (option_map_or (λ d. conditions_nodes t d.depends) (slice_get t.definitions j) []) k) js₂
-      first =
-          any_flat (λ i. eqb i k) (λ j. get_or own j []) js₂
-          ∙ any_alike (λ j. has_number (get_or own j []) k) (λ j. has_node symbols (option_map_or (λ d. conditions_nodes t d.depends) (slice_get t.definitions j) []) k) js₂
-          (λ j. f.each j k ∙ ap (λ ns. has_node symbols ns k) (get_or_mapped (λ d. conditions_nodes t d.depends) t.definitions j))
 
   -- ---- what is computed from definitions
   definition_parts : (t : TreeValue) (k j : ℕ) → (has_node symbols (defaults_at t j) k || (has_node symbols (ranges_at t j) k || has_node symbols (dependency_at t j) k)) ≡ option_map_or (λ d. has_node symbols (definition_nodes t d) k) (slice_get t.definitions j) false
@@ -246,9 +247,9 @@ module _ (symbols : ℕ) where
       at (Some d) e = of_prompt d d.prompt e
 
   -- what the `visible if` lines around prompted definitions read
-  pub visible_same : (t : TreeValue) (visible : List (List ℕ)) (ps bs : List ℕ) → Holds symbols (visible_lists t) visible → HaveSame bs (flat_map (block_numbers_at t) ps) → (k : ℕ) → has_number (flat_map (λ b. get_or visible b []) bs) k ≡ has_node symbols (flat_map (visible_at t) ps) k
-  visible_same t visible ps bs h g k =
-      around_same t (λ b. conditions_nodes t b.visible) visible ps bs k h g
+  pub visible_same : (t : TreeValue) (ps bs : List ℕ) → HaveSame bs (flat_map (block_numbers_at t) ps) → (k : ℕ) → has_node symbols (flat_map (λ b. get_or (visible_lists t) b []) bs) k ≡ has_node symbols (flat_map (visible_at t) ps) k
+  visible_same t ps bs g k =
+      around_same t (λ b. conditions_nodes t b.visible) ps bs k g
       ∙ sym (any_flat (λ n. eqb (number_in symbols n) k) (visible_at t) ps)
 
   pub prompts_alike : (t : TreeValue) (js ps : List ℕ) → ps ≡ flat_map (prompted_at t) js → (k : ℕ) → has_node symbols (flat_map (prompt_own_at t) js ++ (flat_map (dependency_at t) ps ++ flat_map (visible_at t) ps)) k ≡ has_node symbols (flat_map (prompt_nodes t) (filter_map (slice_get t.definitions) js)) k

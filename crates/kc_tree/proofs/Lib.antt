@@ -4,10 +4,13 @@ pub mod DependencyLaws
 pub mod ExprLaws
 pub mod GroupLaws
 pub mod LinkLaws
+pub mod MeaningLaws
 pub mod NodeGraphLaws
 pub mod NodeNumbers
 pub mod OrderLaws
+pub mod PartsWithin
 pub mod ReachedLaws
+pub mod SharedListLaws
 pub mod SymbolFaultLaws
 pub mod UsedRowLaws
 pub mod WithinLaws

@@ -1,10 +1,11 @@
 -- The rows of all nodes are the graph of the nodes.
-use Rattle.std.proofs.Common.{◌≡◌, ℕ, zero, suc, ◌+◌, ◌*◌, ◌<◌, true, List, [], ◌∷◌, ◌++◌, length, get_or, Option, refl, sym, ap, subst, ◌∙◌, inl, inr, arith}
+use Rattle.std.proofs.Common.{◌≡◌, ℕ, zero, suc, ◌+◌, ◌-◌, ◌*◌, ◌<◌, ◌≤◌, true, eqb, cond, List, [], ◌∷◌, ◌++◌, append_assoc, length, get_or, take, map, Option, refl, sym, ap, subst, ◌∙◌, inl, inr, arith, get_or-take, length-take-le}
 use Rattle.std.specs.List.{All, Contains}
 use Rattle.std.specs.Option.{option_map_or}
 use Rattle.std.proofs.lemmas.List.Elements.{All-contains}
-use Rattle.std.proofs.lemmas.Bool.{cases_lt}
-use Rattle.std.proofs.lemmas.List.{get_or_push, get_or_past, get_or_append_left, length_push}
+use Rattle.std.proofs.Math.ListN.{get_or-map}
+use Rattle.std.proofs.lemmas.Bool.{cases_lt, lt-ltb, le-ltb}
+use Rattle.std.proofs.lemmas.List.{get_or_push, get_or_past, get_or_append_left, get_or-append_right, length_push, length-append, length-map}
 use Rattle.std.proofs.lemmas.Option.{slice_get_past}
 use Rattle.kc_tree.specs.declared.node.Node.{Node}
 use Rattle.kc_tree.specs.declared.node.Node.TheVariants.{Vis, Val, Mode, Sel}
@@ -12,9 +13,13 @@ use Rattle.kc_outline.specs.TreeValue.{TreeValue, SymbolValue, ChoiceValue}
 use Rattle.kc_tree.specs.Nodes.{number_in, node_in, node_count, IsNodeOf}
 use Rattle.kc_tree.specs.Uses.{visibility_nodes, symbol_value_nodes, choice_prompt_nodes, choice_value_nodes, used_nodes, Uses}
 use Rattle.kc_tree.specs.NodeGraph.{IsGraphOf}
-use Rattle.kc_tree.specs.Collected.{has_number, has_node, Holds, used_lists, used_lists_with}
+use Rattle.kc_tree.specs.Collected.{has_number, has_node, depends_lists, visible_lists, Holds, used_lists, used_lists_with}
+use Rattle.kc_tree.specs.SharedLists.{shared_lists, row_count, stands, means, AreMeant}
+use Rattle.kc_graph.specs.Shared.{stands_for, whole_row, whole_rows, IsShared}
 use Rattle.kc_tree.proofs.NodeNumbers.{number_in-node_in, node_in-number_in, at_below, below_at}
-use Rattle.kc_tree.proofs.CollectedLaws.{number_found, number_there, node_found, node_has}
+use Rattle.kc_tree.proofs.CollectedLaws.{any_alike, any_flat, or_false, number_found, number_there, node_found, node_has}
+use Rattle.kc_tree.proofs.MeaningLaws.{itself, of_list, below}
+use Rattle.kc_tree.proofs.SharedListLaws.{depends_shared, visible_shared}
 use Rattle.kc_tree.proofs.WithinLaws.{used_nodes_within}
 
 lists_count : (t : TreeValue) (n : ℕ) → length (used_lists t n) ≡ 2 * n
@@ -140,10 +145,6 @@ module _ (t : TreeValue) where
     | inr l ↦ get_or_past all p [] (omega (arith, l, count)) ∙ sym (none_used (node_in (length t.symbols) p) (λ i. absurd (omega (arith, l, below_at t p i))))
   ]
 
-  -- the node of a number among those of a list
-  there : (rows : List (List ℕ)) (p q : ℕ) → Holds (length t.symbols) all rows → has_number (get_or rows p []) q ≡ has_node (length t.symbols) (used_nodes t (node_in (length t.symbols) p)) q
-  there rows p q h = h.each p q ∙ ap (λ ns. has_node (length t.symbols) ns q) (list_of p)
-
   contains_at : (ns : List Node) (q : ℕ) → All (λ m. IsNodeOf t m) ns → has_node (length t.symbols) ns q ≡ true → Contains ns (node_in (length t.symbols) q)
   contains_at ns q w e =
       let r = node_found (length t.symbols) ns q e in
@@ -153,12 +154,122 @@ module _ (t : TreeValue) where
   has_at : (ns : List Node) (q : ℕ) → Contains ns (node_in (length t.symbols) q) → has_node (length t.symbols) ns q ≡ true
   has_at ns q c = ap (has_node (length t.symbols) ns) (sym (number_in-node_in (length t.symbols) q)) ∙ node_has (length t.symbols) ns (node_in (length t.symbols) q) c
 
-  pub graph_of_rows : (rows : List (List ℕ)) → Holds (length t.symbols) all rows → IsGraphOf t rows
-  unfolding Uses
-  graph_of_rows rows h = record {
-    whole = h.whole ∙ count;
-    exact = λ p q. (
-      λ u. contains_at (used_nodes t (node_in (length t.symbols) p)) q (used_nodes_within t (node_in (length t.symbols) p)) (sym (there rows p q h) ∙ number_found (get_or rows p []) q u),
-      λ u. number_there (get_or rows p []) q (there rows p q h ∙ has_at (used_nodes t (node_in (length t.symbols) p)) q u),
-    );
-  }
+  -- ---- the rows of all nodes, and behind them the lists that they share
+  module _ (own depends visible : List (List ℕ)) (are : AreMeant t all own) (depend : Holds (length t.symbols) (depends_lists t) depends) (see : Holds (length t.symbols) (visible_lists t) visible) where
+    abbrev table : List (List ℕ)
+    table = (own ++ depends) ++ visible
+
+    abbrev behind : List (List ℕ)
+    behind = depends ++ visible
+
+    own_count : length own ≡ node_count t
+    own_count = are.whole ∙ count
+
+    parted : table ≡ own ++ behind
+    parted = append_assoc own depends visible
+
+    long : length table ≡ row_count t
+    long = omega (arith, length-append (own ++ depends) visible, length-append own depends, length-append (depends_lists t) (visible_lists t), own_count, depend.whole, see.whole)
+
+    own_row : (p : ℕ) → p < node_count t → get_or table p [] ≡ get_or own p []
+    own_row p h = ap (λ rs. get_or rs p []) parted ∙ get_or_append_left own behind [] p (omega (arith, h, own_count))
+
+    shared_row : (p : ℕ) → node_count t ≤ p → get_or table p [] ≡ get_or behind (p - node_count t) []
+    shared_row p h = ap (λ rs. get_or rs p []) parted ∙ get_or-append_right own behind (node_count t) p [] own_count h
+
+    -- a shared list
+    list_row : (b k : ℕ) → has_number (get_or behind b []) k ≡ has_node (length t.symbols) (get_or (shared_lists t) b []) k
+    list_row b k = elim (cases_lt b (length (depends_lists t))) [
+      | inl h ↦
+          ap (λ ks. has_number ks k) (get_or_append_left depends visible [] b (omega (arith, h, depend.whole)))
+          ∙ depend.each b k
+          ∙ ap (λ ns. has_node (length t.symbols) ns k) (sym (get_or_append_left (depends_lists t) (visible_lists t) [] b h))
+      | inr h ↦
+          ap (λ ks. has_number ks k) (get_or-append_right depends visible (length (depends_lists t)) b [] depend.whole h)
+          ∙ see.each (b - length (depends_lists t)) k
+          ∙ ap (λ ns. has_node (length t.symbols) ns k) (sym (get_or-append_right (depends_lists t) (visible_lists t) (length (depends_lists t)) b [] refl h))
+    ]
+
+    -- what a number stands for in the table is what it means in the tree
+    number_stands : (k j : ℕ) → has_number (stands_for (node_count t) table j) k ≡ stands t j k
+    number_stands k j = elim (cases_lt j (node_count t)) [
+      | inl h ↦
+          ap (λ b. has_number (cond b (j ∷ []) (get_or table j [])) k) (lt-ltb j (node_count t) h)
+          ∙ sym (or_false (eqb j k))
+          ∙ sym (itself t j k h)
+      | inr h ↦
+          ap (λ b. has_number (cond b (j ∷ []) (get_or table j [])) k) (le-ltb j (node_count t) h)
+          ∙ ap (λ ks. has_number ks k) (shared_row j h)
+          ∙ list_row (j - node_count t) k
+          ∙ sym (of_list t j k h)
+    ]
+
+    row_meant : (row : List ℕ) (k : ℕ) → has_number (whole_row (node_count t) table row) k ≡ means t row k
+    row_meant row k =
+        any_flat (λ j. eqb j k) (stands_for (node_count t) table) row
+        ∙ any_alike (λ j. has_number (stands_for (node_count t) table j) k) (λ j. stands t j k) row (number_stands k)
+
+    whole : length (whole_rows (node_count t) table) ≡ node_count t
+    whole = length-map (take (node_count t) table) (whole_row (node_count t) table) ∙ length-take-le (node_count t) table (omega (arith, long))
+
+    -- the whole row of a node, empty past the last
+    whole_at : (p : ℕ) → get_or (whole_rows (node_count t) table) p [] ≡ whole_row (node_count t) table (get_or own p [])
+    whole_at p = elim (cases_lt p (node_count t)) [
+      | inl h ↦
+          get_or-map (whole_row (node_count t) table) (take (node_count t) table) p []
+          ∙ ap (whole_row (node_count t) table) (get_or-take (node_count t) table p [] h ∙ own_row p h)
+      | inr h ↦
+          get_or_past (whole_rows (node_count t) table) p [] (omega (arith, h, whole))
+          ∙ ap (whole_row (node_count t) table) (sym (get_or_past own p [] (omega (arith, h, own_count))))
+    ]
+
+    there : (p q : ℕ) → has_number (get_or (whole_rows (node_count t) table) p []) q ≡ has_node (length t.symbols) (used_nodes t (node_in (length t.symbols) p)) q
+    there p q =
+        ap (λ ks. has_number ks q) (whole_at p)
+        ∙ row_meant (get_or own p []) q
+        ∙ are.each p q
+        ∙ ap (λ ns. has_node (length t.symbols) ns q) (list_of p)
+
+    pub graph_of_rows : IsGraphOf t (whole_rows (node_count t) table)
+    unfolding Uses
+    graph_of_rows = record {
+      whole = whole;
+      exact = λ p q. (
+        λ u. contains_at (used_nodes t (node_in (length t.symbols) p)) q (used_nodes_within t (node_in (length t.symbols) p)) (sym (there p q) ∙ number_found (get_or (whole_rows (node_count t) table) p []) q u),
+        λ u. number_there (get_or (whole_rows (node_count t) table) p []) q (there p q ∙ has_at (used_nodes t (node_in (length t.symbols) p)) q u),
+      );
+    }
+
+    -- a list of a block is one of nodes of the tree
+    list_below : (b q : ℕ) → Contains (get_or behind b []) q → q < node_count t
+    list_below b q c = elim (cases_lt b (length (depends_lists t))) [
+      | inl h ↦
+          let is = get_or_append_left (depends_lists t) (visible_lists t) [] b h in
+          below t (get_or (depends_lists t) b []) q ((depends_shared t depends depend).nodes b)
+          (ap (λ ns. has_node (length t.symbols) ns q) (sym is) ∙ sym (list_row b q) ∙ number_found (get_or behind b []) q c)
+      | inr h ↦
+          let is = get_or-append_right (depends_lists t) (visible_lists t) (length (depends_lists t)) b [] refl h in
+          below t (get_or (visible_lists t) (b - length (depends_lists t)) []) q ((visible_shared t visible (node_count t + length t.blocks) refl see).nodes (b - length (depends_lists t)))
+          (ap (λ ns. has_node (length t.symbols) ns q) (sym is) ∙ sym (list_row b q) ∙ number_found (get_or behind b []) q c)
+    ]
+
+    pub rows_shared : IsShared (node_count t) table
+    rows_shared = record {
+      few = omega (arith, long);
+      own = λ p q h u. let inside = are.inside p q (subst (λ ks. Contains ks q) (own_row p h) u) in omega (arith, inside, long);
+      shared = λ p q h u. list_below (p - node_count t) q (subst (λ ks. Contains ks q) (shared_row p h) u);
+    }
+
+-- the table as it is made
+abbrev pub IsTable : TreeValue → ℕ → List (List ℕ) → Type 0
+IsTable t nodes rows = IsShared nodes rows × IsGraphOf t (whole_rows nodes rows)
+
+pub table_made : (t u : TreeValue) (nodes : ℕ) (own rows : List (List ℕ)) → u ≡ t → nodes ≡ node_count u → AreMeant u (used_lists_with u (length u.choices)) own
+    → ((depends visible : List (List ℕ)) × Holds (length u.symbols) (depends_lists u) depends × Holds (length u.symbols) (visible_lists u) visible × (rows ≡ (own ++ depends) ++ visible))
+    → IsTable t nodes rows
+table_made t u nodes own rows same count are parts =
+    let P : TreeValue → Type 0 = λ x. IsTable x nodes rows in
+    let Q : ℕ → Type 0 = λ n. IsTable u n rows in
+    let R : List (List ℕ) → Type 0 = λ rs. IsTable u (node_count u) rs in
+    let made : IsTable u (node_count u) ((own ++ parts.0) ++ parts.1) = (rows_shared u own parts.0 parts.1 are parts.2 parts.3, graph_of_rows u own parts.0 parts.1 are parts.2 parts.3) in
+    subst P same (subst Q (sym count) (subst R (sym parts.4) made))

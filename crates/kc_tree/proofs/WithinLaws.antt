@@ -29,17 +29,17 @@ module _ (P : Node → Type 0) where
   abbrev pub Are : List Node → Type 0
   Are ns = All (λ n. P n) ns
 
-  none : Are []
+  pub none : Are []
   none = All-nil (λ n. P n)
 
-  joined : (xs ys : List Node) → Are xs → Are ys → Are (xs ++ ys)
+  pub joined : (xs ys : List Node) → Are xs → Are ys → Are (xs ++ ys)
   joined xs ys f g = All-append (λ n. P n) xs ys f g
 
-  flat : {X : Type 0} (f : X → List Node) (xs : List X) → ((x : X) → Are (f x)) → Are (flat_map f xs)
+  pub flat : {X : Type 0} (f : X → List Node) (xs : List X) → ((x : X) → Are (f x)) → Are (flat_map f xs)
   flat f [] h = none
   flat f (x ∷ xs) h = joined (f x) (flat_map f xs) (h x) (flat f xs h)
 
-  option : {X : Type 0} (f : X → List Node) (o : Option X) → ((x : X) → Are (f x)) → Are (option_map_or f o [])
+  pub option : {X : Type 0} (f : X → List Node) (o : Option X) → ((x : X) → Are (f x)) → Are (option_map_or f o [])
   option f None h = none
   option f (Some x) h = h x
 
@@ -51,7 +51,7 @@ module _ (P : Node → Type 0) where
 
 -- what holds of the values of symbols of the tree
 module _ (t : TreeValue) (P : Node → Type 0) (val : (s : SymId) → s.0 < length t.symbols → P (Val s)) where
-  symbol : (s : SymId) → Are P (symbol_nodes t s)
+  pub symbol : (s : SymId) → Are P (symbol_nodes t s)
   symbol s = guarded P (Val s) t.symbols s.0 (val s)
 
   term : (x : Term) → Are P (term_nodes t x)
@@ -60,7 +60,7 @@ module _ (t : TreeValue) (P : Node → Type 0) (val : (s : SymId) → s.0 < leng
   term (Symbol s) = symbol s
   term (Undefined w) = none P
 
-  modules : Are P (modules_nodes t)
+  pub modules : Are P (modules_nodes t)
   modules = option P (symbol_nodes t) (modules_symbol t) symbol
 
   modules_if : (b : Bool) → Are P (nodes_if b (modules_nodes t))
@@ -99,10 +99,10 @@ module _ (t : TreeValue) (P : Node → Type 0) (val : (s : SymId) → s.0 < leng
   prompt d = option P (λ p. own_condition_nodes t p.condition ++ (dependency_nodes t d ++ visible_nodes t (blocks_around t d.block))) d.prompt
       (λ p. joined P (own_condition_nodes t p.condition) _ (own_condition p.condition) (joined P (dependency_nodes t d) _ (dependency d) (visible (blocks_around t d.block))))
 
-  default_value : (d : DefaultValue) → Are P (default_nodes t d)
+  pub default_value : (d : DefaultValue) → Are P (default_nodes t d)
   default_value d = joined P (value_nodes t d.value) _ (value (formula d.value)) (own_condition d.condition)
 
-  range : (r : Range) → Are P (range_nodes t r)
+  pub range : (r : Range) → Are P (range_nodes t r)
   range r = joined P (term_nodes t r.low) _ (term r.low) (joined P (term_nodes t r.high) _ (term r.high) (own_condition r.condition))
 
   pub definition : (d : DefinitionValue) → Are P (definition_nodes t d)
@@ -117,13 +117,13 @@ module _ (t : TreeValue) (P : Node → Type 0) (val : (s : SymId) → s.0 < leng
 
 -- what holds of all nodes of the tree
 module _ (t : TreeValue) (P : Node → Type 0) (vis : (s : SymId) → s.0 < length t.symbols → P (Vis s)) (val : (s : SymId) → s.0 < length t.symbols → P (Val s)) (mode : (c : ChoiceId) → c.0 < length t.choices → P (Mode c)) (sel : (c : ChoiceId) → c.0 < length t.choices → P (Sel c)) where
-  moded : (c : ChoiceId) → Are P (mode_nodes t c)
+  pub moded : (c : ChoiceId) → Are P (mode_nodes t c)
   moded c = guarded P (Mode c) t.choices c.0 (mode c)
 
-  selected : (c : ChoiceId) → Are P (selection_nodes t c)
+  pub selected : (c : ChoiceId) → Are P (selection_nodes t c)
   selected c = guarded P (Sel c) t.choices c.0 (sel c)
 
-  seen : (s : SymId) → Are P (visibility_node t s)
+  pub seen : (s : SymId) → Are P (visibility_node t s)
   seen s = guarded P (Vis s) t.symbols s.0 (vis s)
 
   pub visibility : (x : SymbolValue) → Are P (visibility_nodes t x)
@@ -147,7 +147,7 @@ module _ (t : TreeValue) (P : Node → Type 0) (vis : (s : SymId) → s.0 < leng
   choice_prompt x = option P (λ p. own_condition_nodes t p.condition ++ (depends_nodes t (blocks_around t (Some x.block)) ++ visible_nodes t (blocks_around t (Some x.block)))) x.prompt
       (λ p. joined P (own_condition_nodes t p.condition) _ (own_condition t P val p.condition) (joined P (depends_nodes t (blocks_around t (Some x.block))) _ (depends t P val (blocks_around t (Some x.block))) (visible t P val (blocks_around t (Some x.block)))))
 
-  chosen : (d : ChoiceDefault) → Are P (choice_default_nodes t d)
+  pub chosen : (d : ChoiceDefault) → Are P (choice_default_nodes t d)
   chosen d = joined P (option_map_or (visibility_node t) d.symbol []) _ (option P (visibility_node t) d.symbol seen) (own_condition t P val d.condition)
 
   pub choice_value : (c : ChoiceId) (x : ChoiceValue) → Are P (choice_value_nodes t c x)

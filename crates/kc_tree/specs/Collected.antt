@@ -53,6 +53,10 @@ visible_lists t = map (λ b. conditions_nodes t b.visible) t.blocks
 abbrev pub dependency_at : TreeValue → ℕ → List Node
 dependency_at t j = option_map_or (dependency_nodes t) (slice_get t.definitions j) []
 
+-- what its own lines read
+abbrev pub own_at : TreeValue → ℕ → List Node
+own_at t j = option_map_or (λ d. conditions_nodes t d.depends) (slice_get t.definitions j) []
+
 -- the numbers of the blocks around, from the innermost outwards
 abbrev pub block_numbers : List BlockValue → ℕ → Option BlockId → List ℕ
 block_numbers blocks zero id = []

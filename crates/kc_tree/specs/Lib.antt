@@ -11,6 +11,7 @@ pub mod Order
 pub mod OutlineFaults
 pub mod Parsed
 pub mod Reached
+pub mod SharedLists
 pub mod SymbolFaults
 pub mod SymbolTests
 pub mod Uses

@@ -24,6 +24,7 @@ pub use kc_statement::{
     SymbolType, Term, Tri, lone_term, numeral,
 };
 pub use node::Node;
+pub use node_rows::NodeRow;
 pub use nodes::Nodes;
 pub use tree::Tree;
 pub use user_value::UserVal;

@@ -19,11 +19,11 @@ ghost use Rattle.kc_statement.specs.declared.limits.TheConstants.{MOST_SYMBOLS};
 
 use crate::fault::{ChoiceProblem, NamedNode, TreeFault};
 use crate::node::Node;
-use crate::node_rows::{NodeRows, nodes_of};
+use crate::node_rows::NodeRows;
 use crate::outline_faults::{OutlineFault, outline_fault};
 use crate::tree::Tree;
 use crate::uses::used_rows;
-use kc_graph::{Graph, OrderFault};
+use kc_graph::{OrderFault, SharedRows};
 use kc_outline::{ChoiceId, Outline};
 use kc_statement::{Keyword, SymId, read_keyword};
 use kc_text::{Line, Text};
@@ -79,17 +79,28 @@ pub(crate) fn modules_symbol(outline: &Outline) -> Option<SymId>
     Some(SymId(number as u32))
 }
 
+/// The nodes of numbers, in a tree of so many symbols.
+fn nodes_of(alloc: Global, symbols: usize, numbers: &[u32]) -> Result<Vec<Node>, AllocError>
+    requires { symbols ≤ MOST_SYMBOLS }
+    ensures { IfOk result (λ nodes. nodes.items ≡ map (node_in symbols) numbers.now) }
+{
+    numbers
+        .iter()
+        .map(|number| Node::in_tree(symbols, *number as usize))
+        .collect(alloc)
+}
+
 /// The nodes in an order in which each comes after all that it uses.
 ///
 /// It fails where nodes form a loop, with the nodes of one, and where memory is refused.
-fn node_order(alloc: Global, outline: &Outline, graph: &Graph<'_>) -> Result<Vec<Node>, TreeFault>
+fn node_order(alloc: Global, outline: &Outline, used: &SharedRows) -> Result<Vec<Node>, TreeFault>
     requires few { length outline.now.symbols ≤ MOST_SYMBOLS }
-    requires graph { IsGraphOf outline.now graph.now }
+    requires graph { IsGraphOf outline.now used.now }
     ensures order { IfOk result (λ order. IsOrder outline.now order.items) }
     ensures loopless { OnOk result (IsLoopless outline.now) }
     ensures fault { IfErr result (IsLinkFault outline.now) }
 {
-    let numbers = match graph.order(alloc) {
+    let numbers = match used.order(alloc) {
         Ok(numbers) => numbers,
         Err(OrderFault::Loop(numbers)) => {
             let nodes = named_nodes(alloc, outline, numbers.as_slice())?;
@@ -191,14 +202,13 @@ pub(crate) fn link(alloc: Global, lines: &[Line<'_>], outline: Outline) -> Resul
     let symbols = outline.symbols().len();
     let modules = modules_symbol(&outline);
     let used = used_rows(alloc, &outline)?;
-    let graph = Graph::of(&used);
-    let order = node_order(alloc, &outline, &graph)?;
-    let users = graph.users(alloc)?;
+    let order = node_order(alloc, &outline, &used)?;
+    let users = used.users(alloc)?;
     Ok(Tree {
         outline,
         modules,
         order,
-        uses: NodeRows::of(alloc, symbols, used)?,
-        used_by: NodeRows::of(alloc, symbols, users)?,
+        uses: NodeRows::of(symbols, used),
+        used_by: NodeRows::of(symbols, users),
     })
 }

@@ -9,7 +9,7 @@ ghost use Rattle.kc_tree.specs.Fits.{fits, fits_type};
 use crate::fault::TreeFault;
 use crate::link::link;
 use crate::node::Node;
-use crate::node_rows::NodeRows;
+use crate::node_rows::{NodeRow, NodeRows};
 use crate::nodes::Nodes;
 use crate::user_value::UserVal;
 use kc_outline::{Block, Choice, Comment, Definition, Entry, Outline, Symbol, read_outline};
@@ -82,8 +82,8 @@ impl Tree {
     ///   `modules` (K18).
     /// - `TreeFault::Choice` where none of these up to K16 is there, with the line of the first choice with a fault (K17).
     /// - `TreeFault::Loop` where there is no other fault, with nodes that form a loop.
-    /// - `TreeFault::NoMemory` where memory was refused, for more than 2^30 lines, and where nodes use others more than
-    ///   2^32 - 1 times in all.
+    /// - `TreeFault::NoMemory` where memory was refused, for more than 2^30 lines, and where the rows of what nodes use are
+    ///   more than 2^32 - 1, or hold more than as many numbers together.
     pub fn parse(alloc: Global, lines: &[Line<'_>]) -> Result<Tree, TreeFault>
         ensures tree { IfOk result (IsTreeOf lines.now) }
         ensures accepted { IfOk result IsAccepted }
@@ -208,18 +208,18 @@ impl Tree {
     }
 
     /// The nodes that a node is computed from.
-    pub fn uses(&self, node: Node) -> &[Node]
+    pub fn uses(&self, node: Node) -> NodeRow<'_>
         requires { IsNodeOf self.now node }
-        ensures exact { (m : Node) → Contains result.now m ↔ Uses self.now node m }
+        ensures exact { (m : Node) → Contains result m ↔ Uses self.now node m }
         ensures accepted { IsAccepted self.now }
     {
         self.uses.row(self.number(node))
     }
 
     /// The nodes that are computed from a node.
-    pub fn used_by(&self, node: Node) -> &[Node]
+    pub fn used_by(&self, node: Node) -> NodeRow<'_>
         requires { IsNodeOf self.now node }
-        ensures exact { (m : Node) → Contains result.now m ↔ Uses self.now m node }
+        ensures exact { (m : Node) → Contains result m ↔ Uses self.now m node }
         ensures accepted { IsAccepted self.now }
     {
         self.used_by.row(self.number(node))

@@ -5,7 +5,8 @@ ghost use Rattle.kc_tree.specs.declared.node.Node.{Node};
 ghost use Rattle.kc_tree.specs.declared.node.Node.TheVariants.{Vis, Val, Mode, Sel};
 ghost use Rattle.kc_tree.specs.NodeGraph.{IsGraphOf};
 ghost use Rattle.kc_tree.specs.Uses.{used_nodes};
-ghost use Rattle.kc_tree.specs.Collected.{Holds, used_lists, used_lists_with};
+ghost use Rattle.kc_tree.specs.Collected.{used_lists, used_lists_with};
+ghost use Rattle.kc_tree.specs.SharedLists.{AreMeant};
 ghost use Rattle.kc_statement.specs.declared.limits.TheConstants.{MOST_SYMBOLS};
 
 mod collected;
@@ -13,7 +14,7 @@ mod reader;
 mod scratch;
 
 use collected::Collected;
-use kc_graph::Rows;
+use kc_graph::{Rows, SharedRows};
 use kc_outline::{Choice, ChoiceId, Outline, Symbol};
 use kc_statement::SymId;
 use scratch::Scratch;
@@ -31,8 +32,8 @@ fn add_symbol(
     requires few { length collected.now.reader.outline.now.symbols ≤ MOST_SYMBOLS }
     requires few_choices { length collected.now.reader.outline.now.choices ≤ 2 ^ 30 }
     requires symbol { slice_get collected.now.reader.outline.now.symbols id.0 ≡ Some symbol.now }
-    ensures { OnOk result ((lists : List (List Node)) → Holds (length collected.now.reader.outline.now.symbols) lists rows.old
-        → Holds (length collected.now.reader.outline.now.symbols) ((lists ++ used_nodes collected.now.reader.outline.now (Vis id) ∷ []) ++ used_nodes collected.now.reader.outline.now (Val id) ∷ []) rows.new) }
+    ensures { OnOk result ((lists : List (List Node)) → AreMeant collected.now.reader.outline.now lists rows.old
+        → AreMeant collected.now.reader.outline.now ((lists ++ used_nodes collected.now.reader.outline.now (Vis id) ∷ []) ++ used_nodes collected.now.reader.outline.now (Val id) ∷ []) rows.new) }
 {
     collected.visibility_row(row, scratch, symbol)?;
     rows.add_row(row.as_slice())?;
@@ -52,8 +53,8 @@ fn add_choice(
     requires few { length collected.now.reader.outline.now.symbols ≤ MOST_SYMBOLS }
     requires few_choices { length collected.now.reader.outline.now.choices ≤ 2 ^ 30 }
     requires choice { slice_get collected.now.reader.outline.now.choices id.0 ≡ Some choice.now }
-    ensures { OnOk result ((lists : List (List Node)) → Holds (length collected.now.reader.outline.now.symbols) lists rows.old
-        → Holds (length collected.now.reader.outline.now.symbols) ((lists ++ used_nodes collected.now.reader.outline.now (Mode id) ∷ []) ++ used_nodes collected.now.reader.outline.now (Sel id) ∷ []) rows.new) }
+    ensures { OnOk result ((lists : List (List Node)) → AreMeant collected.now.reader.outline.now lists rows.old
+        → AreMeant collected.now.reader.outline.now ((lists ++ used_nodes collected.now.reader.outline.now (Mode id) ∷ []) ++ used_nodes collected.now.reader.outline.now (Sel id) ∷ []) rows.new) }
 {
     collected.mode_row(row, scratch, choice)?;
     rows.add_row(row.as_slice())?;
@@ -71,7 +72,7 @@ fn add_symbols(
     requires few { length collected.now.reader.outline.now.symbols ≤ MOST_SYMBOLS }
     requires few_choices { length collected.now.reader.outline.now.choices ≤ 2 ^ 30 }
     requires empty { rows.old ≡ [] }
-    ensures { OnOk result (Holds (length collected.now.reader.outline.now.symbols) (used_lists collected.now.reader.outline.now (length collected.now.reader.outline.now.symbols)) rows.new) }
+    ensures { OnOk result (AreMeant collected.now.reader.outline.now (used_lists collected.now.reader.outline.now (length collected.now.reader.outline.now.symbols)) rows.new) }
 {
     let outline = collected.reader.outline;
     for (number, symbol) in outline.symbols().iter().enumerate() {
@@ -90,8 +91,8 @@ fn add_choices(
 ) -> Result<(), AllocError>
     requires few { length collected.now.reader.outline.now.symbols ≤ MOST_SYMBOLS }
     requires few_choices { length collected.now.reader.outline.now.choices ≤ 2 ^ 30 }
-    requires symbols { Holds (length collected.now.reader.outline.now.symbols) (used_lists collected.now.reader.outline.now (length collected.now.reader.outline.now.symbols)) rows.old }
-    ensures { OnOk result (Holds (length collected.now.reader.outline.now.symbols) (used_lists_with collected.now.reader.outline.now (length collected.now.reader.outline.now.choices)) rows.new) }
+    requires symbols { AreMeant collected.now.reader.outline.now (used_lists collected.now.reader.outline.now (length collected.now.reader.outline.now.symbols)) rows.old }
+    ensures { OnOk result (AreMeant collected.now.reader.outline.now (used_lists_with collected.now.reader.outline.now (length collected.now.reader.outline.now.choices)) rows.new) }
 {
     let outline = collected.reader.outline;
     for (number, choice) in outline.choices().iter().enumerate() {
@@ -102,8 +103,8 @@ fn add_choices(
 }
 
 /// The rows of all nodes by number, each without repeats: at a cost in proportion to the terms and the uses, but for
-/// the sort of each row. What the lines of a block read is collected once.
-pub(crate) fn used_rows(alloc: Global, outline: &Outline) -> Result<Rows, AllocError>
+/// the sort of each row. What the lines of a block read is collected once, and is shared by the rows of all inside.
+pub(crate) fn used_rows(alloc: Global, outline: &Outline) -> Result<SharedRows, AllocError>
     requires few { length outline.now.symbols ≤ MOST_SYMBOLS }
     requires few_choices { length outline.now.choices ≤ 2 ^ 30 }
     requires named { length outline.now.names ≡ length outline.now.symbols }
@@ -116,5 +117,6 @@ pub(crate) fn used_rows(alloc: Global, outline: &Outline) -> Result<Rows, AllocE
     let mut rows = Rows::with_capacity(alloc, nodes)?;
     add_symbols(&collected, &mut scratch, &mut row, &mut rows)?;
     add_choices(&collected, &mut scratch, &mut row, &mut rows)?;
-    Ok(rows)
+    collected.add_shared_rows(&mut rows)?;
+    Ok(SharedRows::of(nodes, rows))
 }

@@ -5,7 +5,7 @@ ghost use Rattle.kc_tree.specs.Nodes.{IsNodeOf};
 use crate::parsing::shown;
 use crate::showing::node_word;
 use kc_tables::{rows, two_fields};
-use kc_tree::{Node, Tree};
+use kc_tree::{Node, NodeRow, Tree};
 use std::alloc::{AllocError, Global};
 use std::test::Fail;
 
@@ -17,6 +17,8 @@ config A\nbool "a"\ndepends on B\nconfig B\nbool "b"\ndepends on C\nconfig C\nbo
 // A uses B and C, and both use D.
 config A\nbool\ndefault B && C\nconfig B\nbool\ndefault D\nconfig C\nbool\ndefault D\nconfig D\nbool | 8
 config A\nbool "a"\nchoice\nprompt "c" if A\ndefault Q if A\nconfig P\nbool "p"\nconfig Q\nbool "q"\nselect B\nendchoice\nconfig B\nbool | 10
+// The lines of a menu read more than a row copies, with one of the names twice.
+config A\nbool "a"\nconfig B\nbool "b"\nconfig C\nbool "c"\nconfig D\nbool "d"\nconfig E\nbool "e"\nconfig F\nbool "f"\nconfig G\nbool "g"\nconfig H\nbool "h"\nconfig I\nbool "i"\nconfig J\nbool "j"\nmenu "m"\ndepends on A || B || C || D || E || F || G || H || I || A\nvisible if A && B && C && D && E && F && G && H && J\nconfig P\nbool "p" if A\nchoice\nprompt "c"\nconfig Q\nbool "q"\nselect R\nendchoice\nendmenu\nconfig R\nbool | 28
 config N\nint "n" if S = "on"\nrange M 9\nconfig M\nint\ndefault 1\nconfig S\nstring "s" | 6
 "#;
 
@@ -31,7 +33,7 @@ fn is_node_of(tree: &Tree, node: Node) -> bool
 }
 
 /// What a node of a tree uses, nothing where it is not one of its nodes.
-fn uses(tree: &Tree, node: Node) -> Option<&[Node]> {
+fn uses(tree: &Tree, node: Node) -> Option<NodeRow<'_>> {
     if is_node_of(tree, node) {
         Some(tree.uses(node))
     } else {
@@ -40,7 +42,7 @@ fn uses(tree: &Tree, node: Node) -> Option<&[Node]> {
 }
 
 /// What uses a node of a tree, nothing where it is not one of its nodes.
-fn used_by(tree: &Tree, node: Node) -> Option<&[Node]> {
+fn used_by(tree: &Tree, node: Node) -> Option<NodeRow<'_>> {
     if is_node_of(tree, node) {
         Some(tree.used_by(node))
     } else {
@@ -57,7 +59,7 @@ fn has_each_node_once(tree: &Tree) -> bool {
 /// Whether all that a node of a tree uses is among these nodes.
 fn uses_only(tree: &Tree, node: Node, nodes: &[Node]) -> bool {
     match uses(tree, node) {
-        Some(used) => used.iter().all(|used| nodes.contains(used)),
+        Some(mut used) => used.all(|used| nodes.contains(&used)),
         None => false,
     }
 }
@@ -77,7 +79,9 @@ fn comes_after_uses(alloc: Global, tree: &Tree) -> Result<bool, AllocError> {
 /// Whether a node of a tree uses another one exactly where it is among the users of that one.
 fn is_use_from_both_sides(tree: &Tree, node: Node, other: Node) -> bool {
     match (uses(tree, node), used_by(tree, other)) {
-        (Some(used), Some(users)) => used.contains(&other) == users.contains(&node),
+        (Some(mut used), Some(mut users)) => {
+            used.any(|used| used == other) == users.any(|user| user == node)
+        }
         _ => false,
     }
 }
@@ -188,7 +192,8 @@ fn used_text(alloc: Global, tree: &Tree, node: Node) -> Result<String, AllocErro
     let Some(used) = uses(tree, node) else {
         return String::from_str(alloc, "no node of the tree");
     };
-    let sorted = sorted(alloc, tree, used)?;
+    let used: Vec<Node> = used.collect(alloc)?;
+    let sorted = sorted(alloc, tree, used.as_slice())?;
     let mut out = nodes_text(alloc, tree, sorted.as_slice())?;
     if used.len() != sorted.len() {
         out.push_str(" twice")?;

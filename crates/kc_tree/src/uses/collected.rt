@@ -1,17 +1,19 @@
 //! What the lines of each definition and of each block read, collected once, and the rows of nodes from it.
 
-ghost use Rattle.std.specs.Prelude.{◌≡◌, ◌≤◌, ◌<◌, ◌^◌, List, [], ◌∷◌, ◌++◌, flat_map, filter_map, length, map, slice_get, slice_index_or, IfOk, OnOk};
+ghost use Rattle.std.specs.Prelude.{ℕ, ◌≡◌, ◌≤◌, ◌<◌, ◌+◌, ◌^◌, List, [], ◌∷◌, ◌++◌, flat_map, filter_map, length, map, slice_get, slice_index_or, IfOk, IfSome, OnOk};
 ghost use Rattle.std.specs.Option.{option_map_or};
 ghost use Rattle.kc_outline.specs.TreeValue.{definitions_of};
 ghost use Rattle.kc_tree.specs.declared.node.Node.{Node};
-ghost use Rattle.kc_tree.specs.Nodes.{number_in};
-ghost use Rattle.kc_tree.specs.Uses.{conditions_nodes, definition_nodes, prompt_nodes, reverse_nodes, type_nodes, visibility_nodes, symbol_value_nodes, mode_nodes, choice_prompt_nodes, choice_value_nodes};
+ghost use Rattle.kc_tree.specs.declared.node.Node.TheVariants.{Vis};
+ghost use Rattle.kc_outline.specs.TreeValue.{TreeValue};
+ghost use Rattle.kc_tree.specs.Nodes.{node_count};
+ghost use Rattle.kc_tree.specs.SharedLists.{Takes, Means, AreShared, IsRowAdded};
+ghost use Rattle.kc_tree.specs.Uses.{conditions_nodes, definition_nodes, prompt_nodes, reverse_nodes, type_nodes, visibility_nodes, free_value_nodes, symbol_value_nodes, mode_nodes, selection_nodes, choice_prompt_nodes, choice_value_nodes};
 ghost use Rattle.kc_tree.specs.Collected.{Adds, HaveSame, HasNodes, Holds, own_lists, depends_lists, visible_lists, dependency_at, depends_at, visible_at, block_numbers_at, defaults_at, ranges_at, prompt_own_at, prompted_at};
 ghost use Rattle.kc_statement.specs.declared.limits.TheConstants.{MOST_SYMBOLS};
 
 use super::reader::Reader;
 use super::scratch::{Scratch, each_once, without_repeats};
-use crate::node::Node;
 use kc_graph::Rows;
 use kc_outline::{Choice, ChoiceId, Outline, Reverse, Symbol};
 use kc_statement::{Expr, SymId, SymbolType};
@@ -24,10 +26,16 @@ pub struct Collected<'a> {
     own: Rows,
     depends: Rows,
     visible: Rows,
+    /// How many nodes there are. From this number on, numbers stand for the lists that the rows of the blocks hold.
+    nodes: usize,
     ghost own_is: { Holds (length reader.outline.now.symbols) (own_lists reader.outline.now) own },
     ghost depends_is: { Holds (length reader.outline.now.symbols) (depends_lists reader.outline.now) depends },
     ghost visible_is: { Holds (length reader.outline.now.symbols) (visible_lists reader.outline.now) visible },
+    ghost nodes_is: { nodes ≡ node_count reader.outline.now },
 }
+
+/// A row with more numbers than this is shared by the rows of nodes; others are copied.
+const LONGEST_COPIED: usize = 8;
 
 /// Adds a row of what conditions read, each node once.
 fn collect_row(
@@ -105,6 +113,64 @@ fn add_rows(row: &mut Vec<u32>, rows: &Rows, numbers: &[usize]) -> Result<(), Al
     add_each_row(row, rows, numbers)
 }
 
+/// The number that stands for a row of a table, where the row is long. Those of the table begin at `first`.
+fn standing_for(rows: &Rows, first: usize, number: usize) -> Option<u32>
+    requires { first ≤ 2 ^ 33 }
+    ensures { IfSome result (λ standing. (number < length rows.now) × (standing ≡ first + number)) }
+{
+    if number >= rows.len() || rows.row(number).len() <= LONGEST_COPIED {
+        return None;
+    }
+    match u32::try_from(first + number) {
+        Ok(standing) => Some(standing),
+        Err(_) => None,
+    }
+}
+
+/// Adds a row of a table, by number: the number that stands for it where it is long, else the numbers that it holds.
+fn add_block_row(
+    row: &mut Vec<u32>,
+    rows: &Rows,
+    first: usize,
+    number: usize,
+) -> Result<(), AllocError>
+    requires { first ≤ 2 ^ 33 }
+    ensures { OnOk result (IsRowAdded first rows.now number row.old.items row.new.items) }
+{
+    match standing_for(rows, first, number) {
+        Some(standing) => row.push(standing)?,
+        None => row.extend_from_slice(rows.row(number))?,
+    }
+    Ok(())
+}
+
+/// Adds some rows of a table, by number. Often there are none.
+fn add_block_rows(
+    row: &mut Vec<u32>,
+    rows: &Rows,
+    first: usize,
+    numbers: &[usize],
+) -> Result<(), AllocError>
+    requires { first ≤ 2 ^ 33 }
+    ensures { OnOk result ((t : TreeValue) (lists : List (List Node)) → AreShared t first lists rows.now
+        → Takes t row.old.items row.new.items (flat_map (λ b. slice_index_or lists b []) numbers.now)) }
+{
+    for number in numbers {
+        add_block_row(row, rows, first, *number)?;
+    }
+    Ok(())
+}
+
+/// Adds the rows of a table behind others.
+fn append_rows(rows: &mut Rows, added: &Rows) -> Result<(), AllocError>
+    ensures { OnOk result (rows.new ≡ rows.old ++ added.now) }
+{
+    for number in 0..added.len() {
+        rows.add_row(added.row(number))?;
+    }
+    Ok(())
+}
+
 impl<'a> Collected<'a> {
     /// Of what lines define.
     pub fn new(alloc: Global, outline: &'a Outline) -> Result<Collected<'a>, AllocError>
@@ -122,18 +188,45 @@ impl<'a> Collected<'a> {
             own,
             depends,
             visible,
+            nodes: 2 * (outline.symbols().len() + outline.choices().len()),
         })
+    }
+
+    /// Adds what the `depends on` lines of some blocks read.
+    fn add_depends(&self, row: &mut Vec<u32>, blocks: &[usize]) -> Result<(), AllocError>
+        ensures { OnOk result (Takes self.now.reader.outline.now row.old.items row.new.items
+            (flat_map (λ b. slice_index_or (depends_lists self.now.reader.outline.now) b []) blocks.now)) }
+    {
+        add_block_rows(row, &self.depends, self.nodes, blocks)
+    }
+
+    /// Adds what the `visible if` lines of some blocks read.
+    fn add_visible(&self, row: &mut Vec<u32>, blocks: &[usize]) -> Result<(), AllocError>
+        ensures { OnOk result (Takes self.now.reader.outline.now row.old.items row.new.items
+            (flat_map (λ b. slice_index_or (visible_lists self.now.reader.outline.now) b []) blocks.now)) }
+    {
+        let first = self.nodes + self.depends.len();
+        add_block_rows(row, &self.visible, first, blocks)
+    }
+
+    /// Adds the rows that others share, behind those of all nodes.
+    pub fn add_shared_rows(&self, rows: &mut Rows) -> Result<(), AllocError>
+        ensures { OnOk result ((depends visible : List (List ℕ)) × Holds (length self.now.reader.outline.now.symbols) (depends_lists self.now.reader.outline.now) depends
+            × Holds (length self.now.reader.outline.now.symbols) (visible_lists self.now.reader.outline.now) visible × (rows.new ≡ (rows.old ++ depends) ++ visible)) }
+    {
+        append_rows(rows, &self.depends)?;
+        append_rows(rows, &self.visible)
     }
 
     /// Adds what the definitions depend on, and finds the blocks around them.
     fn add_dependencies(&self, row: &mut Vec<u32>, scratch: &mut Scratch) -> Result<(), AllocError>
-        ensures added { OnOk result (Adds (length self.now.reader.outline.now.symbols) row.old.items row.new.items (flat_map (dependency_at self.now.reader.outline.now) scratch.old.definitions.items)) }
+        ensures added { OnOk result (Takes self.now.reader.outline.now row.old.items row.new.items (flat_map (dependency_at self.now.reader.outline.now) scratch.old.definitions.items)) }
         ensures blocks { OnOk result (HaveSame scratch.new.blocks.items (flat_map (block_numbers_at self.now.reader.outline.now) scratch.old.definitions.items)) }
     {
         without_repeats(&mut scratch.definitions);
         add_rows(row, &self.own, scratch.definitions.as_slice())?;
         scratch.find_blocks(self.reader.outline)?;
-        add_rows(row, &self.depends, scratch.blocks.as_slice())
+        self.add_depends(row, scratch.blocks.as_slice())
     }
 
     /// Adds what the defaults of a definition read.
@@ -185,7 +278,7 @@ impl<'a> Collected<'a> {
         scratch: &mut Scratch,
         definitions: &[usize],
     ) -> Result<(), AllocError>
-        ensures { OnOk result (Adds (length self.now.reader.outline.now.symbols) row.old.items row.new.items (flat_map (definition_nodes self.now.reader.outline.now) (filter_map (slice_get self.now.reader.outline.now.definitions) definitions.now))) }
+        ensures { OnOk result (Takes self.now.reader.outline.now row.old.items row.new.items (flat_map (definition_nodes self.now.reader.outline.now) (filter_map (slice_get self.now.reader.outline.now.definitions) definitions.now))) }
     {
         self.add_all_defaults(row, definitions)?;
         self.add_all_ranges(row, definitions)?;
@@ -201,7 +294,7 @@ impl<'a> Collected<'a> {
         scratch: &mut Scratch,
         reverses: &[Reverse],
     ) -> Result<(), AllocError>
-        ensures { OnOk result (Adds (length self.now.reader.outline.now.symbols) row.old.items row.new.items (flat_map (reverse_nodes self.now.reader.outline.now) reverses.now)) }
+        ensures { OnOk result (Takes self.now.reader.outline.now row.old.items row.new.items (flat_map (reverse_nodes self.now.reader.outline.now) reverses.now)) }
     {
         self.reader.add_sources(row, reverses)?;
         scratch.set_reverses(reverses)?;
@@ -216,7 +309,7 @@ impl<'a> Collected<'a> {
         scratch: &mut Scratch,
         reverses: &[Reverse],
     ) -> Result<(), AllocError>
-        ensures { OnOk result (Adds (length self.now.reader.outline.now.symbols) row.old.items row.new.items (flat_map (reverse_nodes self.now.reader.outline.now) reverses.now)) }
+        ensures { OnOk result (Takes self.now.reader.outline.now row.old.items row.new.items (flat_map (reverse_nodes self.now.reader.outline.now) reverses.now)) }
     {
         if reverses.is_empty() {
             return Ok(());
@@ -269,12 +362,12 @@ impl<'a> Collected<'a> {
         scratch: &mut Scratch,
         definitions: &[usize],
     ) -> Result<(), AllocError>
-        ensures { OnOk result (Adds (length self.now.reader.outline.now.symbols) row.old.items row.new.items (flat_map (prompt_nodes self.now.reader.outline.now) (filter_map (slice_get self.now.reader.outline.now.definitions) definitions.now))) }
+        ensures { OnOk result (Takes self.now.reader.outline.now row.old.items row.new.items (flat_map (prompt_nodes self.now.reader.outline.now) (filter_map (slice_get self.now.reader.outline.now.definitions) definitions.now))) }
     {
         scratch.definitions.clear();
         self.add_all_prompts(row, &mut scratch.definitions, definitions)?;
         self.add_dependencies(row, scratch)?;
-        add_rows(row, &self.visible, scratch.blocks.as_slice())
+        self.add_visible(row, scratch.blocks.as_slice())
     }
 
     /// Adds `MODULES` for a tristate.
@@ -305,7 +398,7 @@ impl<'a> Collected<'a> {
         scratch: &mut Scratch,
         symbol: &Symbol,
     ) -> Result<(), AllocError>
-        ensures { OnOk result (HasNodes (length self.now.reader.outline.now.symbols) (visibility_nodes self.now.reader.outline.now symbol.now) row.new.items) }
+        ensures { OnOk result (Means self.now.reader.outline.now (visibility_nodes self.now.reader.outline.now symbol.now) row.new.items) }
     {
         row.clear();
         self.add_prompts(row, scratch, symbol.definitions())?;
@@ -324,14 +417,45 @@ impl<'a> Collected<'a> {
         symbol: &Symbol,
     ) -> Result<(), AllocError>
         requires { id.0 < length self.now.reader.outline.now.symbols }
-        ensures { OnOk result (HasNodes (length self.now.reader.outline.now.symbols) (symbol_value_nodes self.now.reader.outline.now id symbol.now) row.new.items) }
+        ensures { OnOk result (Means self.now.reader.outline.now (symbol_value_nodes self.now.reader.outline.now id symbol.now) row.new.items) }
+    {
+        match symbol.choice() {
+            Some(choice) => self.member_value_row(row, id, choice),
+            None => self.free_value_row(row, scratch, id, symbol),
+        }
+    }
+
+    /// Makes the row of the value of a member of a choice.
+    fn member_value_row(
+        &self,
+        row: &mut Vec<u32>,
+        id: SymId,
+        choice: ChoiceId,
+    ) -> Result<(), AllocError>
+        requires { id.0 < length self.now.reader.outline.now.symbols }
+        ensures { OnOk result (Means self.now.reader.outline.now (Vis id ∷ selection_nodes self.now.reader.outline.now choice) row.new.items) }
     {
         row.clear();
-        row.push(Node::Vis(id).index_in(self.reader.symbol_count()))?;
-        match symbol.choice() {
-            Some(choice) => self.reader.add_choice_selection(row, choice)?,
-            None => self.add_free_value(row, scratch, symbol)?,
-        }
+        self.reader.add_visibility(row, id)?;
+        self.reader.add_choice_selection(row, choice)?;
+        each_once(row);
+        Ok(())
+    }
+
+    /// Makes the row of the value of a symbol that is no member.
+    fn free_value_row(
+        &self,
+        row: &mut Vec<u32>,
+        scratch: &mut Scratch,
+        id: SymId,
+        symbol: &Symbol,
+    ) -> Result<(), AllocError>
+        requires { id.0 < length self.now.reader.outline.now.symbols }
+        ensures { OnOk result (Means self.now.reader.outline.now (free_value_nodes self.now.reader.outline.now id symbol.now) row.new.items) }
+    {
+        row.clear();
+        self.reader.add_visibility(row, id)?;
+        self.add_free_value(row, scratch, symbol)?;
         each_once(row);
         Ok(())
     }
@@ -343,7 +467,7 @@ impl<'a> Collected<'a> {
         scratch: &mut Scratch,
         symbol: &Symbol,
     ) -> Result<(), AllocError>
-        ensures { OnOk result (Adds (length self.now.reader.outline.now.symbols) row.old.items row.new.items
+        ensures { OnOk result (Takes self.now.reader.outline.now row.old.items row.new.items
             (flat_map (definition_nodes self.now.reader.outline.now) (definitions_of self.now.reader.outline.now symbol.now)
             ++ (flat_map (reverse_nodes self.now.reader.outline.now) symbol.now.selected
             ++ (flat_map (reverse_nodes self.now.reader.outline.now) symbol.now.implied
@@ -362,7 +486,7 @@ impl<'a> Collected<'a> {
         scratch: &mut Scratch,
         choice: &Choice,
     ) -> Result<(), AllocError>
-        ensures { OnOk result (HasNodes (length self.now.reader.outline.now.symbols) (choice_prompt_nodes self.now.reader.outline.now choice.now) row.new.items) }
+        ensures { OnOk result (Means self.now.reader.outline.now (choice_prompt_nodes self.now.reader.outline.now choice.now) row.new.items) }
     {
         row.clear();
         let Some(own_prompt) = choice.prompt() else {
@@ -371,8 +495,8 @@ impl<'a> Collected<'a> {
         self.reader.add_own_condition(row, &own_prompt.condition)?;
         scratch.find_blocks_from(self.reader.outline, choice.block())?;
         let blocks = scratch.blocks.as_slice();
-        add_rows(row, &self.depends, blocks)?;
-        add_rows(row, &self.visible, blocks)?;
+        self.add_depends(row, blocks)?;
+        self.add_visible(row, blocks)?;
         each_once(row);
         Ok(())
     }
@@ -384,7 +508,7 @@ impl<'a> Collected<'a> {
         id: ChoiceId,
         choice: &Choice,
     ) -> Result<(), AllocError>
-        ensures { OnOk result (HasNodes (length self.now.reader.outline.now.symbols) (choice_value_nodes self.now.reader.outline.now id choice.now) row.new.items) }
+        ensures { OnOk result (Means self.now.reader.outline.now (choice_value_nodes self.now.reader.outline.now id choice.now) row.new.items) }
     {
         row.clear();
         self.reader.add_mode(row, id)?;

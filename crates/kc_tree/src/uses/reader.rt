@@ -210,7 +210,7 @@ impl<'a> Reader<'a> {
     }
 
     /// Adds the visibility of a symbol, if there is one of its number.
-    fn add_visibility(&self, row: &mut Vec<u32>, symbol: SymId) -> Result<(), AllocError>
+    pub fn add_visibility(&self, row: &mut Vec<u32>, symbol: SymId) -> Result<(), AllocError>
         ensures { OnOk result (Adds (length self.now.outline.now.symbols) row.old.items row.new.items (visibility_node self.now.outline.now symbol)) }
     {
         let symbols = self.symbol_count();

@@ -1,7 +1,7 @@
-use Rattle.std.proofs.Common.{length}
-use Rattle.kc_tree.specs.Collected.{Holds, used_lists}
+use Rattle.kc_tree.specs.Collected.{used_lists}
+use Rattle.kc_tree.specs.SharedLists.{AreMeant}
 use Rattle.kc_tree.proofs.uses.add_symbols.Given as goal
 
 -- the rows are those of the symbols so far
 abbrev pub invariant-loop-number : goal.invariant-loop-number
-invariant-loop-number l = Holds (length l.collected.reader.outline.now.symbols) (used_lists l.collected.reader.outline.now l.number) l.rows
+invariant-loop-number l = AreMeant l.collected.reader.outline.now (used_lists l.collected.reader.outline.now l.number) l.rows

@@ -1,12 +1,26 @@
-use Rattle.std.proofs.Common.{◌≡◌, length, ap, subst}
-use Rattle.kc_outline.specs.TreeValue.{TreeValue}
-use Rattle.kc_tree.specs.Collected.{Holds, used_lists_with}
-use Rattle.kc_tree.proofs.UsedRowLaws.{graph_of_rows}
+use Rattle.std.proofs.Common.{◌≡◌, ℕ, ◌+◌, ◌*◌, List, length, sym, ap, subst, arith}
+use Rattle.kc_outline.specs.TreeValue.{SymbolValue, ChoiceValue}
+use Rattle.kc_tree.specs.Nodes.{node_count}
+use Rattle.kc_tree.specs.NodeGraph.{IsGraphOf}
+use Rattle.kc_tree.proofs.UsedRowLaws.{table_made}
 use Rattle.kc_tree.proofs.uses.used_rows.Goals as goal
+
+pub of-requires : goal.of-requires
+of-requires c =
+    let t = c.args.outline.now in
+    let u = c.in_ok-collected.collected.reader.outline.now in
+    let same : u ≡ t = ap (λ r. r.now) c.in_ok-collected.ensures in
+    let symbols : length c.symbols.result.now ≡ length u.symbols = omega (arith, ap (λ (xs : List SymbolValue). length xs) c.symbols.ensures, ap (λ x. length x.symbols) same) in
+    let choices : length c.choices.result.now ≡ length u.choices = omega (arith, ap (λ (xs : List ChoiceValue). length xs) c.choices.ensures, ap (λ x. length x.choices) same) in
+    (table_made t u _ c.add_choices.new.rows c.add_shared_rows.new.rows same (omega (arith, symbols, choices)) c.in_ok-add_choices.ensures c.in_ok-add_shared_rows.ensures).0
 
 pub returns : goal.returns
 returns c =
     let t = c.args.outline.now in
-    let same : c.in_ok-collected.collected.reader.outline.now ≡ t = ap (λ r. r.now) c.in_ok-collected.ensures in
-    graph_of_rows t c.add_choices.new.rows
-    (subst (λ (x : TreeValue). Holds (length x.symbols) (used_lists_with x (length x.choices)) c.add_choices.new.rows) same c.in_ok-add_choices.ensures)
+    let u = c.in_ok-collected.collected.reader.outline.now in
+    let same : u ≡ t = ap (λ r. r.now) c.in_ok-collected.ensures in
+    let symbols : length c.symbols.result.now ≡ length u.symbols = omega (arith, ap (λ (xs : List SymbolValue). length xs) c.symbols.ensures, ap (λ x. length x.symbols) same) in
+    let choices : length c.choices.result.now ≡ length u.choices = omega (arith, ap (λ (xs : List ChoiceValue). length xs) c.choices.ensures, ap (λ x. length x.choices) same) in
+    let P : List (List ℕ) → Type 0 = λ rows. IsGraphOf t rows in
+    subst P (sym c.of.ensures)
+    (table_made t u _ c.add_choices.new.rows c.add_shared_rows.new.rows same (omega (arith, symbols, choices)) c.in_ok-add_choices.ensures c.in_ok-add_shared_rows.ensures).1

@@ -2,8 +2,10 @@ use Rattle.std.proofs.Common.{length, List, ℕ, subst}
 use Rattle.std.specs.List.{flat_map}
 use Rattle.std.proofs.lemmas.Result.{on_ok_weaker}
 use Rattle.std.proofs.Common.{map}
-use Rattle.kc_tree.specs.Collected.{Adds, source_nodes, dependency_at}
-use Rattle.kc_tree.proofs.CollectedLaws.{adds_then, adds_alike}
+use Rattle.kc_tree.specs.Collected.{source_nodes, dependency_at}
+use Rattle.kc_tree.specs.SharedLists.{Takes}
+use Rattle.kc_tree.proofs.MeaningLaws.{takes_then, takes_alike, takes_nodes}
+use Rattle.kc_tree.proofs.PartsWithin.{sources_within}
 use Rattle.kc_tree.proofs.DependencyLaws.{reverses_alike}
 use Rattle.kc_tree.proofs.uses.collected.Collected.add_some_reverses.Goals as goal
 
@@ -12,7 +14,7 @@ returns c =
     let t = c.args.self.now.reader.outline.now in
     let rs = c.args.reverses.now in
     on_ok_weaker c.add_dependencies.result
-    (λ (h : Adds (length t.symbols) c.add_sources.new.row.items c.add_dependencies.new.row.items (flat_map (dependency_at t) c.set_reverses.new.self.definitions.items)).
-    adds_alike (length t.symbols) _ _ _ _ (adds_then (length t.symbols) _ _ _ (flat_map (source_nodes t) rs) (flat_map (dependency_at t) (map (λ r. r.definition) rs)) c.in_ok-add_sources.ensures
-    (subst (λ (xs : List ℕ). Adds (length t.symbols) c.add_sources.new.row.items c.add_dependencies.new.row.items (flat_map (dependency_at t) xs)) c.in_ok-set_reverses.ensures h)) (reverses_alike (length t.symbols) t rs))
+    (λ (h : Takes t c.add_sources.new.row.items c.add_dependencies.new.row.items (flat_map (dependency_at t) c.set_reverses.new.self.definitions.items)).
+    takes_alike t _ _ _ _ (takes_then t _ _ _ (flat_map (source_nodes t) rs) (flat_map (dependency_at t) (map (λ r. r.definition) rs)) (takes_nodes t _ _ (flat_map (source_nodes t) rs) (sources_within t rs) c.in_ok-add_sources.ensures)
+    (subst (λ (xs : List ℕ). Takes t c.add_sources.new.row.items c.add_dependencies.new.row.items (flat_map (dependency_at t) xs)) c.in_ok-set_reverses.ensures h)) (reverses_alike (length t.symbols) t rs))
     c.add_dependencies.ensures.added
