@@ -191,7 +191,7 @@ module _ (a b : Assignment) where
     blocks_depend_agrees blocks h =
         ap least_of (map_agrees (λ x. conditions_value t a x.depends) (λ x. conditions_value t b x.depends) (λ x. conditions_nodes t x.depends) (λ x k. conditions_agree x.depends k) blocks h)
 
-    blocks_visible_agrees : (blocks : List BlockValue) → Agree (visible_nodes t blocks) → blocks_visible t a blocks ≡ blocks_visible t b blocks
+    pub blocks_visible_agrees : (blocks : List BlockValue) → Agree (visible_nodes t blocks) → blocks_visible t a blocks ≡ blocks_visible t b blocks
     blocks_visible_agrees blocks h =
         ap least_of (map_agrees (λ x. conditions_value t a x.visible) (λ x. conditions_value t b x.visible) (λ x. conditions_nodes t x.visible) (λ x k. conditions_agree x.visible k) blocks h)
 

@@ -121,12 +121,6 @@ module _ (t : TreeValue) (p q : List Node) (old mid new : List (Option Value)) (
     room = omega (arith, a.room, b.room);
   }
 
--- the first nodes of a list, and one more
-pub drops_next : (t : TreeValue) (nodes : List Node) (i : ℕ) (d : Node) (old mid new : List (Option Value)) (first second third : List Node) → i < length nodes
-    → DropsAll t (take i nodes) old mid first second → DropsAll t (get_or nodes i d ∷ []) mid new second third → DropsAll t (take (i + 1) nodes) old new first third
-drops_next t nodes i d old mid new first second third within a b =
-    subst (λ xs. DropsAll t xs old new first third) (sym (take_more nodes i d within)) (drops_then t (take i nodes) (get_or nodes i d ∷ []) old mid new first second third a b)
-
 -- ---- the walk
 -- The start has no value, nor have some nodes that are computed from it, and the others are as they were. What a kept
 -- node uses is kept, or listed.

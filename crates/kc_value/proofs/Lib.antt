@@ -18,8 +18,10 @@ pub mod HeightLemmas
 pub mod KeptCounts
 pub mod KeptLaws
 pub mod KeptReading
+pub mod KnownLaws
 pub mod ModeLaws
 pub mod NumeralLemmas
+pub mod OrderSteps
 pub mod PartLemmas
 pub mod PathLemmas
 pub mod ReadNodes

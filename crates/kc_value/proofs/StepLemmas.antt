@@ -1,7 +1,7 @@
 -- The steps of a fill: what a step has not looked at yet.
 use Rattle.std.proofs.Common.{◌≡◌, ◌⊎◌, ◌↔◌, List, [], ◌∷◌, ◌++◌, Option, inl, inr, refl, sym, subst, ⊎_elim, arith}
 use Rattle.std.specs.List.{Contains}
-use Rattle.std.proofs.lemmas.List.Elements.{Contains-push_cases, Contains-append_left, Contains-append_right}
+use Rattle.std.proofs.lemmas.List.Elements.{Contains-push_cases, Contains-append_left, Contains-append_right, Contains-append_cases}
 use Rattle.kc_tree.specs.declared.node.Node.{Node}
 use Rattle.kc_outline.specs.TreeValue.{TreeValue}
 use Rattle.kc_tree.specs.Uses.{Uses}
@@ -31,6 +31,18 @@ module _ (t : TreeValue) (kept : List (Option Value)) (node : Node) where
   pub step_done : (left : List Node) → ((m : Node) → Contains left m → IsKept t kept m) → IsStep t kept node left → (m : Node) → Uses t node m → IsKept t kept m
   step_done left kept is m u = ⊎_elim (λ c. kept m c) (λ k. k) (is.passed m u)
 
+-- ---- the first of the nodes that are left is kept
+module _ (t : TreeValue) (kept : List (Option Value)) (left behind later : List Node) (n m : Node) (next : left ≡ n ∷ behind) (again : later ≡ behind) where
+  pub passed_over : IsKept t kept n → Contains left m → Contains later m ⊎ IsKept t kept m
+  passed_over is c =
+      ⊎_elim
+      (λ first. inr (⊎_elim (λ none. absurd (omega (arith, none.1))) (λ same. subst (λ k. IsKept t kept k) same is) (Contains-push_cases [] n m first)))
+      (λ rest. inl (subst (λ xs. Contains xs m) (sym again) rest))
+      (Contains-append_cases (n ∷ []) behind m (subst (λ xs. Contains xs m) next c))
+
+  pub still_left : Contains later m → Contains left m
+  still_left c = subst (λ xs. Contains xs m) (sym next) (Contains-append_right (n ∷ []) behind m (subst (λ xs. Contains xs m) again c))
+
 -- where more is kept it stays one
 pub step_stays : (t : TreeValue) (kept more : List (Option Value)) (node : Node) (left : List Node) → ((m : Node) → IsKept t kept m → IsKept t more m)
     → IsStep t kept node left → IsStep t more node left
@@ -41,18 +53,18 @@ step_stays t kept more node left stays is = record {
 
 -- ---- the steps of a path
 abbrev pub AreSteps : TreeValue → List (Option Value) → List Step → Type 0
-AreSteps t kept steps = (s : Step) → Contains steps s → IsStep t kept s.node s.left.now
+AreSteps t kept steps = (s : Step) → Contains steps s → IsStep t kept s.node s.left
 
 module _ (t : TreeValue) (kept : List (Option Value)) where
-  pub steps_push : (front steps : List Step) (s : Step) → steps ≡ front ++ s ∷ [] → AreSteps t kept front → IsStep t kept s.node s.left.now → AreSteps t kept steps
+  pub steps_push : (front steps : List Step) (s : Step) → steps ≡ front ++ s ∷ [] → AreSteps t kept front → IsStep t kept s.node s.left → AreSteps t kept steps
   steps_push front steps s same are is =
       subst (λ all. AreSteps t kept all) (sym same)
-      (λ r c. ⊎_elim (λ before. are r before) (λ last. subst (λ k. IsStep t kept k.node k.left.now) last is) (Contains-push_cases front s r c))
+      (λ r c. ⊎_elim (λ before. are r before) (λ last. subst (λ k. IsStep t kept k.node k.left) last is) (Contains-push_cases front s r c))
 
   pub steps_front : (front steps : List Step) (s : Step) → steps ≡ front ++ s ∷ [] → AreSteps t kept steps → AreSteps t kept front
   steps_front front steps s same are r c = subst (λ all. AreSteps t kept all) same are r (Contains-append_left front (s ∷ []) r c)
 
-  pub steps_last : (front steps : List Step) (s : Step) → steps ≡ front ++ s ∷ [] → AreSteps t kept steps → IsStep t kept s.node s.left.now
+  pub steps_last : (front steps : List Step) (s : Step) → steps ≡ front ++ s ∷ [] → AreSteps t kept steps → IsStep t kept s.node s.left
   steps_last front steps s same are = subst (λ all. AreSteps t kept all) same are s (Contains-append_right front (s ∷ []) s (0, omega arith, refl))
 
   pub no_steps : AreSteps t kept []
@@ -60,4 +72,4 @@ module _ (t : TreeValue) (kept : List (Option Value)) where
 
 pub steps_stay : (t : TreeValue) (kept more : List (Option Value)) (steps : List Step) → ((m : Node) → IsKept t kept m → IsKept t more m)
     → AreSteps t kept steps → AreSteps t more steps
-steps_stay t kept more steps stays are s c = step_stays t kept more s.node s.left.now stays (are s c)
+steps_stay t kept more steps stays are s c = step_stays t kept more s.node s.left stays (are s c)

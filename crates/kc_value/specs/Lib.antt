@@ -11,6 +11,7 @@ pub mod DropWalk
 pub mod ExprValue
 pub mod Fresh
 pub mod Kept
+pub mod KnownConditions
 pub mod Numerals
 pub mod Replay
 pub mod Rule

@@ -20,6 +20,7 @@ ghost use Rattle.kc_value.specs.UserValues.{UserValues, IsUserFor};
 
 use crate::expr_value::node_tri;
 use crate::gathering::used_values;
+use crate::known_conditions::KnownConditions;
 use crate::resolver::Resolver;
 use crate::symbol_value::tri_value;
 use crate::value::Value;
@@ -42,7 +43,16 @@ fn shown_with(tree: &Tree, id: SymId, symbol: &Symbol, value: Tri, env: &[Option
         (as_tri (assignment_of tree.now env.now (Vis id))) (Some (TriVal value))) }
 {
     let visibility = node_tri(tree, env, Node::Vis(id));
-    tri_value(tree, symbol, visibility, Some(&UserVal::Tri(value)), env).as_tri()
+    let known = KnownConditions::none();
+    tri_value(
+        tree,
+        symbol,
+        visibility,
+        Some(&UserVal::Tri(value)),
+        known,
+        env,
+    )
+    .as_tri()
 }
 
 /// Whether a value is among those that are shown with n, with m and with y; m counts for a tristate alone, and a type

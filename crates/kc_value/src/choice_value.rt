@@ -3,10 +3,12 @@
 ghost use Rattle.std.specs.Prelude.{◌≡◌, ◌&&◌, find, filter_map, slice_get};
 ghost use Rattle.kc_value.specs.Assignment.{assignment_of};
 ghost use Rattle.kc_value.specs.ExprValue.{yes_if};
+ghost use Rattle.kc_value.specs.KnownConditions.{AreKnown};
 ghost use Rattle.kc_value.specs.ChoiceRule.{mode, is_visible, is_symbol, chosen_member, default_member, selection, selected_in, member_rule};
 
 use crate::conditions::choice_prompt_tri;
 use crate::expr_value::{node_tri, own_condition_tri, value_of};
+use crate::known_conditions::KnownConditions;
 use crate::value::Value;
 use kc_tree::{Choice, ChoiceDefault, ChoiceId, Node, SymId, Tree, Tri, UserVal};
 
@@ -23,12 +25,14 @@ pub(crate) fn mode_value(
     tree: &Tree,
     choice: &Choice,
     chosen: Option<SymId>,
+    known: KnownConditions<'_>,
     env: &[Option<Value>],
 ) -> Tri
+    requires known { AreKnown tree.now env.now known.depends.now known.visible.now }
     ensures { result ≡ mode tree.now (assignment_of tree.now env.now) choice.now chosen }
 {
     let is_wanted = !choice.is_optional() || chosen.is_some();
-    yes_if(is_wanted && !choice_prompt_tri(tree, choice, env).is_no())
+    yes_if(is_wanted && !choice_prompt_tri(tree, choice, known, env).is_no())
 }
 
 /// Whether a symbol of the tree is visible.

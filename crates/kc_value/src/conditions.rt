@@ -6,9 +6,11 @@ ghost use Rattle.kc_tree.specs.Nodes.{IsNodeOf};
 ghost use Rattle.kc_tree.specs.declared.node.Node.{Node};
 ghost use Rattle.kc_value.specs.Assignment.{Assignment, assignment_of};
 ghost use Rattle.kc_outline.specs.TreeValue.{blocks_from, blocks_around};
+ghost use Rattle.kc_value.specs.KnownConditions.{AreKnown};
 ghost use Rattle.kc_value.specs.Conditions.{blocks_depend, blocks_visible, dependency, prompt_value, mode_around, choice_prompt_value, menu_value, comment_value, menu_condition, comment_condition};
 
 use crate::expr_value::{conditions_tri, node_tri, own_condition_tri};
+use crate::known_conditions::KnownConditions;
 use crate::value::Value;
 use kc_outline::MOST_OPEN_BLOCKS;
 use kc_tree::{Block, BlockId, Choice, ChoiceId, Comment, CommentId, Definition, Node, Tree, Tri};
@@ -64,38 +66,68 @@ fn visible_within(
 }
 
 /// What all inside the blocks around a place depends on.
-fn blocks_depend_tri(tree: &Tree, innermost: Option<BlockId>, env: &[Option<Value>]) -> Tri
+pub(crate) fn blocks_depend_tri(
+    tree: &Tree,
+    innermost: Option<BlockId>,
+    known: KnownConditions<'_>,
+    env: &[Option<Value>],
+) -> Tri
+    requires known { AreKnown tree.now env.now known.depends.now known.visible.now }
     ensures { result ≡ blocks_depend tree.now (assignment_of tree.now env.now) (blocks_around tree.now innermost) }
 {
-    depend_within(tree, MOST_OPEN_BLOCKS, innermost, env)
+    match known.depends_around(innermost) {
+        Some(value) => value,
+        None => depend_within(tree, MOST_OPEN_BLOCKS, innermost, env),
+    }
 }
 
 /// What the prompts inside the blocks around a place depend on besides.
-fn blocks_visible_tri(tree: &Tree, innermost: Option<BlockId>, env: &[Option<Value>]) -> Tri
+pub(crate) fn blocks_visible_tri(
+    tree: &Tree,
+    innermost: Option<BlockId>,
+    known: KnownConditions<'_>,
+    env: &[Option<Value>],
+) -> Tri
+    requires known { AreKnown tree.now env.now known.depends.now known.visible.now }
     ensures { result ≡ blocks_visible tree.now (assignment_of tree.now env.now) (blocks_around tree.now innermost) }
 {
-    visible_within(tree, MOST_OPEN_BLOCKS, innermost, env)
+    match known.visible_around(innermost) {
+        Some(value) => value,
+        None => visible_within(tree, MOST_OPEN_BLOCKS, innermost, env),
+    }
 }
 
 /// The dependencies of a definition (kconfig-language.rst, "Menu dependencies"): its own `depends on` lines, and those
 /// of all blocks around it.
-pub(crate) fn dependency_tri(tree: &Tree, definition: &Definition, env: &[Option<Value>]) -> Tri
+pub(crate) fn dependency_tri(
+    tree: &Tree,
+    definition: &Definition,
+    known: KnownConditions<'_>,
+    env: &[Option<Value>],
+) -> Tri
+    requires known { AreKnown tree.now env.now known.depends.now known.visible.now }
     ensures { result ≡ dependency tree.now (assignment_of tree.now env.now) definition.now }
 {
     let own = conditions_tri(tree, definition.depends(), env);
-    own.and(blocks_depend_tri(tree, definition.block(), env))
+    own.and(blocks_depend_tri(tree, definition.block(), known, env))
 }
 
 /// The condition of a definition's prompt, n without one.
-pub(crate) fn prompt_tri(tree: &Tree, definition: &Definition, env: &[Option<Value>]) -> Tri
+pub(crate) fn prompt_tri(
+    tree: &Tree,
+    definition: &Definition,
+    known: KnownConditions<'_>,
+    env: &[Option<Value>],
+) -> Tri
+    requires known { AreKnown tree.now env.now known.depends.now known.visible.now }
     ensures { result ≡ prompt_value tree.now (assignment_of tree.now env.now) definition.now }
 {
     let Some(prompt) = definition.prompt() else {
         return Tri::No;
     };
     let own = own_condition_tri(tree, prompt.condition.as_ref(), env);
-    let visible = blocks_visible_tri(tree, definition.block(), env);
-    own.and(dependency_tri(tree, definition, env).and(visible))
+    let visible = blocks_visible_tri(tree, definition.block(), known, env);
+    own.and(dependency_tri(tree, definition, known, env).and(visible))
 }
 
 /// The condition of a menu over the values of the nodes in `env`.
@@ -103,7 +135,7 @@ fn menu_tri(tree: &Tree, menu: &Block, env: &[Option<Value>]) -> Tri
     ensures { result ≡ menu_value tree.now (assignment_of tree.now env.now) menu.now }
 {
     let own = conditions_tri(tree, menu.depends(), env);
-    let around = blocks_depend_tri(tree, menu.parent(), env);
+    let around = blocks_depend_tri(tree, menu.parent(), KnownConditions::none(), env);
     own.and(around.and(conditions_tri(tree, menu.visible(), env)))
 }
 
@@ -112,7 +144,7 @@ fn comment_tri(tree: &Tree, comment: &Comment, env: &[Option<Value>]) -> Tri
     ensures { result ≡ comment_value tree.now (assignment_of tree.now env.now) comment.now }
 {
     let own = conditions_tri(tree, comment.depends(), env);
-    let around = blocks_depend_tri(tree, comment.block(), env);
+    let around = blocks_depend_tri(tree, comment.block(), KnownConditions::none(), env);
     own.and(around.and(mode_tri(tree, comment.choice(), env)))
 }
 
@@ -130,15 +162,21 @@ pub(crate) fn mode_tri(tree: &Tree, choice: Option<ChoiceId>, env: &[Option<Valu
 }
 
 /// The condition of a choice's prompt, n without one: what a definition's is, by the block of the choice.
-pub(crate) fn choice_prompt_tri(tree: &Tree, choice: &Choice, env: &[Option<Value>]) -> Tri
+pub(crate) fn choice_prompt_tri(
+    tree: &Tree,
+    choice: &Choice,
+    known: KnownConditions<'_>,
+    env: &[Option<Value>],
+) -> Tri
+    requires known { AreKnown tree.now env.now known.depends.now known.visible.now }
     ensures { result ≡ choice_prompt_value tree.now (assignment_of tree.now env.now) choice.now }
 {
     let Some(prompt) = choice.prompt() else {
         return Tri::No;
     };
     let own = own_condition_tri(tree, prompt.condition.as_ref(), env);
-    let depends = blocks_depend_tri(tree, Some(choice.block()), env);
-    own.and(depends.and(blocks_visible_tri(tree, Some(choice.block()), env)))
+    let depends = blocks_depend_tri(tree, Some(choice.block()), known, env);
+    own.and(depends.and(blocks_visible_tri(tree, Some(choice.block()), known, env)))
 }
 
 /// The condition of a menu: its own `depends on` and `visible if` lines, and what the blocks around it depend on, but

@@ -10,7 +10,7 @@ ghost use Rattle.kc_value.specs.Kept.{IsClosed, kept_count};
 
 use crate::kept_values::KeptValues;
 use crate::value::Value;
-use kc_tree::{Node, Tree};
+use kc_tree::{Node, NodeRow, Tree};
 
 /// Drops the value of a node, if it has one, and then lists the node. There is room for it, so that this takes no memory.
 fn drop_one(tree: &Tree, values: &mut Vec<Option<Value>>, list: &mut Vec<Node>, node: Node)
@@ -29,15 +29,15 @@ fn drop_one(tree: &Tree, values: &mut Vec<Option<Value>>, list: &mut Vec<Node>, 
 }
 
 /// Drops the values of some nodes, and lists those that had one.
-fn drop_all(tree: &Tree, values: &mut Vec<Option<Value>>, list: &mut Vec<Node>, nodes: &[Node])
-    requires inside { (n : Node) → Contains nodes.now n → IsNodeOf tree.now n }
+fn drop_all(tree: &Tree, values: &mut Vec<Option<Value>>, list: &mut Vec<Node>, nodes: NodeRow<'_>)
+    requires inside { (n : Node) → Contains nodes n → IsNodeOf tree.now n }
     requires whole { length values.old.items ≡ node_count tree.now }
     requires room { length list.old.items + kept_count values.old.items ≤ vec_capacity list.old }
-    ensures drops { DropsAll tree.now nodes.now values.old.items values.new.items list.old.items list.new.items }
+    ensures drops { DropsAll tree.now nodes.entry values.old.items values.new.items list.old.items list.new.items }
     ensures capacity { vec_capacity list.old ≤ vec_capacity list.new }
 {
     for node in nodes {
-        drop_one(tree, values, list, *node);
+        drop_one(tree, values, list, node);
     }
 }
 

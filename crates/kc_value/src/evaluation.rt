@@ -2,10 +2,12 @@ ghost use Rattle.std.specs.Prelude.{◌≡◌, IfOk, if◌then◌else◌, is_ok}
 ghost use Rattle.kc_tree.specs.declared.node.Node.TheVariants.{Vis, Val, Mode, Sel};
 ghost use Rattle.kc_value.specs.Assignment.{assignment_of};
 ghost use Rattle.kc_value.specs.Counting.{raised};
+ghost use Rattle.kc_value.specs.KnownConditions.{AreKnown};
 ghost use Rattle.kc_value.specs.Rule.{rule};
 
 use crate::choice_value::{mode_value, selection_value};
 use crate::expr_value::node_tri;
+use crate::known_conditions::KnownConditions;
 use crate::meter::Meter;
 use crate::symbol_value::{symbol_value, symbol_visibility};
 use crate::user::User;
@@ -15,11 +17,18 @@ use std::alloc::{AllocError, Global};
 
 /// What the rule of a visibility gives.
 #[tactic(auto, unfolding(crate::specs::Rule::rule))]
-fn visibility(tree: &Tree, user: &User, env: &[Option<Value>], id: SymId) -> Value
+fn visibility(
+    tree: &Tree,
+    user: &User,
+    known: KnownConditions<'_>,
+    env: &[Option<Value>],
+    id: SymId,
+) -> Value
+    requires known { AreKnown tree.now env.now known.depends.now known.visible.now }
     ensures { result ≡ rule tree.now user.now (assignment_of tree.now env.now) (Vis id) }
 {
     match tree.symbols().get(id.0 as usize) {
-        Some(symbol) => Value::Tri(symbol_visibility(tree, symbol, env)),
+        Some(symbol) => Value::Tri(symbol_visibility(tree, symbol, known, env)),
         None => Value::Tri(Tri::No),
     }
 }
@@ -30,25 +39,43 @@ fn value(
     alloc: Global,
     tree: &Tree,
     user: &User,
+    known: KnownConditions<'_>,
     env: &[Option<Value>],
     id: SymId,
 ) -> Result<Value, AllocError>
+    requires known { AreKnown tree.now env.now known.depends.now known.visible.now }
     ensures { IfOk result (λ v. v ≡ rule tree.now user.now (assignment_of tree.now env.now) (Val id)) }
 {
     let Some(symbol) = tree.symbols().get(id.0 as usize) else {
         return Ok(Value::Tri(Tri::No));
     };
     let visibility = node_tri(tree, env, Node::Vis(id));
-    symbol_value(alloc, tree, id, symbol, visibility, user.get(id), env)
+    symbol_value(
+        alloc,
+        tree,
+        id,
+        symbol,
+        visibility,
+        user.get(id),
+        known,
+        env,
+    )
 }
 
 /// What the rule of a mode gives.
 #[tactic(auto, unfolding(crate::specs::Rule::rule))]
-fn mode(tree: &Tree, user: &User, env: &[Option<Value>], id: ChoiceId) -> Value
+fn mode(
+    tree: &Tree,
+    user: &User,
+    known: KnownConditions<'_>,
+    env: &[Option<Value>],
+    id: ChoiceId,
+) -> Value
+    requires known { AreKnown tree.now env.now known.depends.now known.visible.now }
     ensures { result ≡ rule tree.now user.now (assignment_of tree.now env.now) (Mode id) }
 {
     match tree.choices().get(id.0 as usize) {
-        Some(choice) => Value::Tri(mode_value(tree, choice, user.chosen(id), env)),
+        Some(choice) => Value::Tri(mode_value(tree, choice, user.chosen(id), known, env)),
         None => Value::Tri(Tri::No),
     }
 }
@@ -70,15 +97,17 @@ fn apply_rule(
     alloc: Global,
     tree: &Tree,
     user: &User,
+    known: KnownConditions<'_>,
     env: &[Option<Value>],
     node: Node,
 ) -> Result<Value, AllocError>
+    requires known { AreKnown tree.now env.now known.depends.now known.visible.now }
     ensures { IfOk result (λ v. v ≡ rule tree.now user.now (assignment_of tree.now env.now) node) }
 {
     match node {
-        Node::Vis(id) => Ok(visibility(tree, user, env, id)),
-        Node::Val(id) => value(alloc, tree, user, env, id),
-        Node::Mode(id) => Ok(mode(tree, user, env, id)),
+        Node::Vis(id) => Ok(visibility(tree, user, known, env, id)),
+        Node::Val(id) => value(alloc, tree, user, known, env, id),
+        Node::Mode(id) => Ok(mode(tree, user, known, env, id)),
         Node::Sel(id) => Ok(selection(tree, user, env, id)),
     }
 }
@@ -99,7 +128,25 @@ pub fn eval(
     ensures value { IfOk result (λ v. v ≡ rule tree.now user.now (assignment_of tree.now env.now) node) }
     ensures counted { meter.new ≡ (if is_ok result then raised meter.old 1 else meter.old) }
 {
-    let value = apply_rule(alloc, tree, user, env, node)?;
+    let known = KnownConditions::none();
+    eval_over(alloc, tree, user, known, env, node, meter)
+}
+
+/// The same, where something is known of what the blocks around definitions depend on.
+pub(crate) fn eval_over(
+    alloc: Global,
+    tree: &Tree,
+    user: &User,
+    known: KnownConditions<'_>,
+    env: &[Option<Value>],
+    node: Node,
+    meter: &mut Meter,
+) -> Result<Value, AllocError>
+    requires known { AreKnown tree.now env.now known.depends.now known.visible.now }
+    ensures value { IfOk result (λ v. v ≡ rule tree.now user.now (assignment_of tree.now env.now) node) }
+    ensures counted { meter.new ≡ (if is_ok result then raised meter.old 1 else meter.old) }
+{
+    let value = apply_rule(alloc, tree, user, known, env, node)?;
     meter.raise();
     Ok(value)
 }

@@ -6,32 +6,34 @@ ghost use Rattle.kc_tree.specs.Nodes.{IsNodeOf};
 ghost use Rattle.kc_value.specs.Kept.{is_kept, IsKept, AreKept, Fills};
 
 use crate::kept_values::KeptValues;
+use crate::known_conditions::KnownConditions;
 use crate::user::User;
-use kc_tree::{Node, Tree};
+use kc_tree::{Node, NodeRow, Tree};
 use std::alloc::{AllocError, Global};
 
 /// A node that is wanted, and those of the nodes that it uses which are still to be looked at: the others are kept.
-#[derive(Clone, Copy)]
+#[derive(Drop)]
 struct Step<'a> {
     node: Node,
-    left: &'a [Node],
+    left: NodeRow<'a>,
 }
 
 impl KeptValues {
     /// The first of some nodes that is not kept, and these nodes from it on.
-    fn missing_from<'a>(&self, tree: &Tree, nodes: &'a [Node]) -> Option<(Node, &'a [Node])>
+    fn missing_from<'a>(&self, tree: &Tree, nodes: NodeRow<'a>) -> Option<(Node, NodeRow<'a>)>
         ensures missing { IfSome result (λ r. is_kept tree.now self.now.values r.0 ≡ false) }
-        ensures among { IfSome result (λ r. Contains nodes.now r.0) }
-        ensures within { IfSome result (λ r. (m : Node) → Contains r.1.now m → Contains nodes.now m) }
-        ensures passed { IfSome result (λ r. (m : Node) → Contains nodes.now m → Contains r.1.now m ⊎ IsKept tree.now self.now.values m) }
-        ensures none { IfNone result ((m : Node) → Contains nodes.now m → IsKept tree.now self.now.values m) }
+        ensures among { IfSome result (λ r. Contains nodes.entry r.0) }
+        ensures within { IfSome result (λ r. (m : Node) → Contains r.1 m → Contains nodes.entry m) }
+        ensures passed { IfSome result (λ r. (m : Node) → Contains nodes.entry m → Contains r.1 m ⊎ IsKept tree.now self.now.values m) }
+        ensures none { IfNone result ((m : Node) → Contains nodes.entry m → IsKept tree.now self.now.values m) }
     {
         let mut left = nodes;
-        while let [first, behind @ ..] = left {
-            if !self.is_kept(tree, *first) {
-                return Some((*first, left));
+        let mut behind = left.again();
+        while let Some(node) = behind.next() {
+            if !self.is_kept(tree, node) {
+                return Some((node, left));
             }
-            left = behind;
+            left = behind.again();
         }
         None
     }
@@ -77,7 +79,7 @@ impl KeptValues {
                         left: tree.uses(used),
                     })?;
                 }
-                None => self.evaluate(alloc, tree, user, step.node)?,
+                None => self.evaluate(alloc, tree, user, KnownConditions::none(), step.node)?,
             }
         }
         Ok(())

@@ -11,7 +11,7 @@ ghost use Rattle.kc_value.specs.Solution.{solution, AreSolved, IsOnlySolution};
 use crate::resolver::Resolver;
 use crate::slots::empty_slots;
 use crate::value::{Value, copy_of};
-use kc_tree::Node;
+use kc_tree::{Node, NodeRow};
 use std::alloc::{AllocError, Global};
 
 /// A copy of the value of a node. The error comes where memory is refused.
@@ -50,6 +50,13 @@ pub fn all_values<R: Resolver>(
     Ok(values)
 }
 
+/// The nodes of a row as a list. The error comes where memory is refused.
+fn listed(alloc: Global, row: NodeRow<'_>) -> Result<Vec<Node>, AllocError>
+    ensures { IfOk result (λ nodes. nodes.items ≡ row.entry) }
+{
+    row.collect(alloc)
+}
+
 /// A copy of the value of each node that a node is computed from, by number, with nothing for the others.
 ///
 /// The error comes where memory is refused.
@@ -65,7 +72,7 @@ pub(crate) fn used_values<R: Resolver>(
     ensures user { R.user_of resolver.new ≡ R.user_of resolver.old }
     ensures grew { R.grew resolver.old resolver.new (node ∷ []) }
 {
-    let nodes = Vec::from_slice(alloc, resolver.tree().uses(node))?;
+    let nodes = listed(alloc, resolver.tree().uses(node))?;
     let mut values = empty_slots(alloc, resolver.tree().node_count())?;
     for next in nodes.as_slice() {
         let value = value_at(alloc, resolver, *next)?;

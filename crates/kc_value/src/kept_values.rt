@@ -5,9 +5,11 @@ ghost use Rattle.kc_tree.specs.Nodes.{IsNodeOf, node_count, number_of};
 ghost use Rattle.kc_value.specs.Assignment.{assignment_of, value_at};
 ghost use Rattle.kc_value.specs.Counting.{raised};
 ghost use Rattle.kc_value.specs.Kept.{KeptValue, nothing_kept, is_kept, IsKept};
+ghost use Rattle.kc_value.specs.KnownConditions.{AreKnown};
 ghost use Rattle.kc_value.specs.Rule.{rule};
 
-use crate::evaluation::eval;
+use crate::evaluation::eval_over;
+use crate::known_conditions::KnownConditions;
 use crate::meter::Meter;
 use crate::slots::empty_slots;
 use crate::user::User;
@@ -95,19 +97,22 @@ impl KeptValues {
         alloc: Global,
         tree: &Tree,
         user: &User,
+        known: KnownConditions<'_>,
         node: Node,
     ) -> Result<(), AllocError>
         requires inside { IsNodeOf tree.now node }
         requires whole { length self.old.values ≡ node_count tree.now }
+        requires known { AreKnown tree.now self.old.values known.depends.now known.visible.now }
         ensures value { OnOk result (self.new.values
             ≡ slice_set self.old.values (number_of tree.now node) (Some (rule tree.now user.now (assignment_of tree.now self.old.values) node))) }
         ensures counted { OnOk result (self.new.evals ≡ raised self.old.evals 1) }
         ensures stays { OnErr result (self.new ≡ self.old) }
     {
-        let value = eval(
+        let value = eval_over(
             alloc,
             tree,
             user,
+            known,
             self.values.as_slice(),
             node,
             &mut self.meter,

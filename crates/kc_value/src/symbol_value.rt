@@ -8,12 +8,14 @@ ghost use Rattle.kc_outline.specs.TreeValue.{definitions_of};
 ghost use Rattle.kc_value.specs.Assignment.{assignment_of};
 ghost use Rattle.kc_value.specs.Conditions.{dependency, prompt_value};
 ghost use Rattle.kc_value.specs.ExprValue.{own_condition};
+ghost use Rattle.kc_value.specs.KnownConditions.{AreKnown};
 ghost use Rattle.kc_value.specs.Defaults.{is_active};
 ghost use Rattle.kc_value.specs.Rule.{in_bool, has_modules, in_type, visibility, definition_default, reverse_value, reverse_values, direct, user_part, tri_rule, symbol_rule};
 
 use crate::choice_value::member_value;
 use crate::conditions::{dependency_tri, mode_tri, prompt_tri};
 use crate::expr_value::{modules_tri, own_condition_tri, symbol_tri, tri};
+use crate::known_conditions::KnownConditions;
 use crate::text_value::text_value;
 use crate::value::Value;
 use itertools::Itertools;
@@ -52,24 +54,36 @@ fn in_type(has_modules: bool, value: Tri) -> Tri
 }
 
 /// The condition of the prompt of a definition by number, n where there is none.
-fn numbered_prompt_tri(tree: &Tree, number: usize, env: &[Option<Value>]) -> Tri
+fn numbered_prompt_tri(
+    tree: &Tree,
+    number: usize,
+    known: KnownConditions<'_>,
+    env: &[Option<Value>],
+) -> Tri
+    requires known { AreKnown tree.now env.now known.depends.now known.visible.now }
     ensures { result
         ≡ option_map_or (prompt_value tree.now (assignment_of tree.now env.now)) (slice_get tree.now.definitions number) No }
 {
     match tree.definitions().get(number) {
-        Some(definition) => prompt_tri(tree, definition, env),
+        Some(definition) => prompt_tri(tree, definition, known, env),
         None => Tri::No,
     }
 }
 
 /// The visibility of a symbol: the greatest condition of its prompts, with m as y unless it is a tristate and `MODULES`
 /// is not n.
-pub(crate) fn symbol_visibility(tree: &Tree, symbol: &Symbol, env: &[Option<Value>]) -> Tri
+pub(crate) fn symbol_visibility(
+    tree: &Tree,
+    symbol: &Symbol,
+    known: KnownConditions<'_>,
+    env: &[Option<Value>],
+) -> Tri
+    requires known { AreKnown tree.now env.now known.depends.now known.visible.now }
     ensures { result ≡ visibility tree.now (assignment_of tree.now env.now) symbol.now }
 {
     let mut greatest = Tri::No;
     for number in symbol.definitions() {
-        greatest = greatest.or(numbered_prompt_tri(tree, *number, env));
+        greatest = greatest.or(numbered_prompt_tri(tree, *number, known, env));
     }
     let within = greatest.and(mode_tri(tree, symbol.choice(), env));
     in_type(has_modules(tree, symbol, env), within)
@@ -138,7 +152,14 @@ struct Defined {
 }
 
 /// The same with one more definition, by number; a number without definition gives nothing.
-fn with_definition(tree: &Tree, defined: Defined, number: usize, env: &[Option<Value>]) -> Defined
+fn with_definition(
+    tree: &Tree,
+    defined: Defined,
+    number: usize,
+    known: KnownConditions<'_>,
+    env: &[Option<Value>],
+) -> Defined
+    requires known { AreKnown tree.now env.now known.depends.now known.visible.now }
     ensures default { result.default ≡ option_or defined.default
         (option_and_then (definition_default tree.now (assignment_of tree.now env.now))
         (slice_get tree.now.definitions number)) }
@@ -148,7 +169,7 @@ fn with_definition(tree: &Tree, defined: Defined, number: usize, env: &[Option<V
     let Some(definition) = tree.definitions().get(number) else {
         return defined;
     };
-    let depends = dependency_tri(tree, definition, env);
+    let depends = dependency_tri(tree, definition, known, env);
     let default = match defined.default {
         Some(value) => Some(value),
         None => definition_default_tri(tree, definition, depends, env),
@@ -160,7 +181,13 @@ fn with_definition(tree: &Tree, defined: Defined, number: usize, env: &[Option<V
 }
 
 /// What all definitions of a symbol give it.
-fn definitions_of(tree: &Tree, symbol: &Symbol, env: &[Option<Value>]) -> Defined
+fn definitions_of(
+    tree: &Tree,
+    symbol: &Symbol,
+    known: KnownConditions<'_>,
+    env: &[Option<Value>],
+) -> Defined
+    requires known { AreKnown tree.now env.now known.depends.now known.visible.now }
     ensures default { result.default
         ≡ slice_get
         (filter_map (definition_default tree.now (assignment_of tree.now env.now)) (definitions_of tree.now symbol.now)) 0 }
@@ -171,24 +198,36 @@ fn definitions_of(tree: &Tree, symbol: &Symbol, env: &[Option<Value>]) -> Define
         direct: Tri::No,
     };
     for number in symbol.definitions() {
-        defined = with_definition(tree, defined, *number, env);
+        defined = with_definition(tree, defined, *number, known, env);
     }
     defined
 }
 
 /// The dependencies of a definition by number, n where there is none.
-fn numbered_dependency_tri(tree: &Tree, number: usize, env: &[Option<Value>]) -> Tri
+fn numbered_dependency_tri(
+    tree: &Tree,
+    number: usize,
+    known: KnownConditions<'_>,
+    env: &[Option<Value>],
+) -> Tri
+    requires known { AreKnown tree.now env.now known.depends.now known.visible.now }
     ensures { result
         ≡ option_map_or (dependency tree.now (assignment_of tree.now env.now)) (slice_get tree.now.definitions number) No }
 {
     match tree.definitions().get(number) {
-        Some(definition) => dependency_tri(tree, definition, env),
+        Some(definition) => dependency_tri(tree, definition, known, env),
         None => Tri::No,
     }
 }
 
 /// What a `select` or `imply` gives: the least of the value of its symbol and its condition.
-fn reverse_tri(tree: &Tree, reverse: &Reverse, env: &[Option<Value>]) -> Tri
+fn reverse_tri(
+    tree: &Tree,
+    reverse: &Reverse,
+    known: KnownConditions<'_>,
+    env: &[Option<Value>],
+) -> Tri
+    requires known { AreKnown tree.now env.now known.depends.now known.visible.now }
     ensures { result ≡ reverse_value tree.now (assignment_of tree.now env.now) reverse.now }
 {
     let value = symbol_tri(tree, env, reverse.by);
@@ -196,16 +235,22 @@ fn reverse_tri(tree: &Tree, reverse: &Reverse, env: &[Option<Value>]) -> Tri
         return Tri::No;
     }
     let own = own_condition_tri(tree, reverse.condition.as_ref(), env);
-    value.and(own.and(numbered_dependency_tri(tree, reverse.definition, env)))
+    value.and(own.and(numbered_dependency_tri(tree, reverse.definition, known, env)))
 }
 
 /// The greatest that some `select` or `imply` lines give.
-fn reverses_tri(tree: &Tree, reverses: &[Reverse], env: &[Option<Value>]) -> Tri
+fn reverses_tri(
+    tree: &Tree,
+    reverses: &[Reverse],
+    known: KnownConditions<'_>,
+    env: &[Option<Value>],
+) -> Tri
+    requires known { AreKnown tree.now env.now known.depends.now known.visible.now }
     ensures { result ≡ reverse_values tree.now (assignment_of tree.now env.now) reverses.now }
 {
     let mut greatest = Tri::No;
     for reverse in reverses {
-        greatest = greatest.or(reverse_tri(tree, reverse, env));
+        greatest = greatest.or(reverse_tri(tree, reverse, known, env));
     }
     greatest
 }
@@ -229,14 +274,16 @@ pub(crate) fn tri_value(
     symbol: &Symbol,
     visibility: Tri,
     user: Option<&UserVal>,
+    known: KnownConditions<'_>,
     env: &[Option<Value>],
 ) -> Value
+    requires known { AreKnown tree.now env.now known.depends.now known.visible.now }
     ensures { result ≡ tri_rule tree.now (assignment_of tree.now env.now) symbol.now visibility (option_copied user.entry) }
 {
-    let defined = definitions_of(tree, symbol, env);
+    let defined = definitions_of(tree, symbol, known, env);
     let default = defined.default.unwrap_or(Tri::No);
-    let implied = reverses_tri(tree, symbol.implied(), env);
-    let selected = reverses_tri(tree, symbol.selected(), env);
+    let implied = reverses_tri(tree, symbol.implied(), known, env);
+    let selected = reverses_tri(tree, symbol.selected(), known, env);
     let otherwise = default.or(implied).and(defined.direct);
     let base = user_tri(visibility, user).unwrap_or(otherwise);
     let shown = in_type(has_modules(tree, symbol, env), base.or(selected));
@@ -256,8 +303,10 @@ pub(crate) fn symbol_value(
     symbol: &Symbol,
     visibility: Tri,
     user: Option<&UserVal>,
+    known: KnownConditions<'_>,
     env: &[Option<Value>],
 ) -> Result<Value, AllocError>
+    requires known { AreKnown tree.now env.now known.depends.now known.visible.now }
     ensures { IfOk result (λ v. v
         ≡ symbol_rule tree.now (assignment_of tree.now env.now) id symbol.now visibility (option_copied user.entry)) }
 {
@@ -266,10 +315,10 @@ pub(crate) fn symbol_value(
     }
     match symbol.kind() {
         SymbolType::Bool | SymbolType::Tristate => {
-            Ok(tri_value(tree, symbol, visibility, user, env))
+            Ok(tri_value(tree, symbol, visibility, user, known, env))
         }
         SymbolType::String | SymbolType::Int | SymbolType::Hex => {
-            text_value(alloc, tree, symbol, visibility, user, env)
+            text_value(alloc, tree, symbol, visibility, user, known, env)
         }
     }
 }

@@ -7,6 +7,7 @@ ghost use Rattle.kc_outline.specs.TreeValue.{kind_of};
 ghost use Rattle.kc_value.specs.Assignment.{assignment_of};
 ghost use Rattle.kc_value.specs.BoundsRange.{AreSmall};
 ghost use Rattle.kc_value.specs.Conditions.{dependency};
+ghost use Rattle.kc_value.specs.KnownConditions.{AreKnown};
 ghost use Rattle.kc_value.specs.ExprValue.{own_condition};
 ghost use Rattle.kc_value.specs.TextRule.{value_text, definition_text, default_text, bounds_in, definition_bounds, bounds_of, is_range_active, user_text, text_rule};
 
@@ -14,6 +15,7 @@ use crate::bounds::{Bounds, clamped, is_inside, number_or_zero};
 use crate::comparison::term_text;
 use crate::conditions::dependency_tri;
 use crate::expr_value::own_condition_tri;
+use crate::known_conditions::KnownConditions;
 use crate::symbol_value::first_active_default;
 use crate::value::Value;
 use itertools::Itertools;
@@ -35,31 +37,45 @@ fn value_text<'a>(tree: &Tree, value: &'a Expr, env: &'a [Option<Value>]) -> &'a
 fn definition_text<'a>(
     tree: &'a Tree,
     definition: &'a Definition,
+    known: KnownConditions<'_>,
     env: &'a [Option<Value>],
 ) -> Option<&'a str>
+    requires known { AreKnown tree.now env.now known.depends.now known.visible.now }
     ensures { option_map (λ w. w.now) result ≡ definition_text tree.now (assignment_of tree.now env.now) definition.now }
 {
-    let depends = dependency_tri(tree, definition, env);
+    let depends = dependency_tri(tree, definition, known, env);
     let default = first_active_default(tree, definition, depends, env)?;
     Some(value_text(tree, &default.value, env))
 }
 
 /// That of a definition by number.
-fn numbered_text<'a>(tree: &'a Tree, number: usize, env: &'a [Option<Value>]) -> Option<&'a str>
+fn numbered_text<'a>(
+    tree: &'a Tree,
+    number: usize,
+    known: KnownConditions<'_>,
+    env: &'a [Option<Value>],
+) -> Option<&'a str>
+    requires known { AreKnown tree.now env.now known.depends.now known.visible.now }
     ensures { option_map (λ w. w.now) result ≡ option_map_or (definition_text tree.now (assignment_of tree.now env.now)) (slice_get tree.now.definitions number) None }
 {
     match tree.definitions().get(number) {
-        Some(definition) => definition_text(tree, definition, env),
+        Some(definition) => definition_text(tree, definition, known, env),
         None => None,
     }
 }
 
 /// The text of the first active default of a symbol.
-fn default_text<'a>(tree: &'a Tree, symbol: &Symbol, env: &'a [Option<Value>]) -> Option<&'a str>
+fn default_text<'a>(
+    tree: &'a Tree,
+    symbol: &Symbol,
+    known: KnownConditions<'_>,
+    env: &'a [Option<Value>],
+) -> Option<&'a str>
+    requires known { AreKnown tree.now env.now known.depends.now known.visible.now }
     ensures { option_map (λ w. w.now) result ≡ default_text tree.now (assignment_of tree.now env.now) symbol.now }
 {
     for number in symbol.definitions() {
-        if let Some(text) = numbered_text(tree, *number, env) {
+        if let Some(text) = numbered_text(tree, *number, known, env) {
             return Some(text);
         }
     }
@@ -109,19 +125,27 @@ fn numbered_bounds(
     tree: &Tree,
     kind: SymbolType,
     number: usize,
+    known: KnownConditions<'_>,
     env: &[Option<Value>],
 ) -> Option<Bounds>
+    requires known { AreKnown tree.now env.now known.depends.now known.visible.now }
     ensures bounds { result ≡ option_map_or (definition_bounds tree.now (assignment_of tree.now env.now) kind) (slice_get tree.now.definitions number) None }
     ensures small { AreSmall kind result }
 {
     let definition = tree.definitions().get(number)?;
-    let depends = dependency_tri(tree, definition, env);
+    let depends = dependency_tri(tree, definition, known, env);
     let range = first_active_range(tree, definition, depends, env)?;
     Some(bounds_in(tree, kind, range, env))
 }
 
 /// Those of the first active range of a symbol, if it is an int or a hex.
-fn bounds_of(tree: &Tree, symbol: &Symbol, env: &[Option<Value>]) -> Option<Bounds>
+fn bounds_of(
+    tree: &Tree,
+    symbol: &Symbol,
+    known: KnownConditions<'_>,
+    env: &[Option<Value>],
+) -> Option<Bounds>
+    requires known { AreKnown tree.now env.now known.depends.now known.visible.now }
     ensures bounds { result ≡ bounds_of tree.now (assignment_of tree.now env.now) symbol.now }
     ensures small { AreSmall (kind_of symbol.now) result }
 {
@@ -130,7 +154,7 @@ fn bounds_of(tree: &Tree, symbol: &Symbol, env: &[Option<Value>]) -> Option<Boun
         return None;
     }
     for number in symbol.definitions() {
-        if let Some(bounds) = numbered_bounds(tree, kind, *number, env) {
+        if let Some(bounds) = numbered_bounds(tree, kind, *number, known, env) {
             return Some(bounds);
         }
     }
@@ -168,14 +192,16 @@ pub(crate) fn text_value(
     symbol: &Symbol,
     visibility: Tri,
     user: Option<&UserVal>,
+    known: KnownConditions<'_>,
     env: &[Option<Value>],
 ) -> Result<Value, AllocError>
+    requires known { AreKnown tree.now env.now known.depends.now known.visible.now }
     ensures { IfOk result (λ v. v
         ≡ text_rule tree.now (assignment_of tree.now env.now) symbol.now visibility (option_copied user.entry)) }
 {
     let kind = symbol.kind();
-    let bounds = bounds_of(tree, symbol, env);
-    let default = default_text(tree, symbol, env);
+    let bounds = bounds_of(tree, symbol, known, env);
+    let default = default_text(tree, symbol, known, env);
     let written = !visibility.is_no() || default.is_some();
     let text = match user_text(kind, bounds, visibility, user) {
         Some(text) => Text::copy_of(alloc, text)?,

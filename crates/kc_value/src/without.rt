@@ -12,6 +12,7 @@ ghost use Rattle.kc_value.specs.Without.{user_without, value_without, selects_no
 use crate::choice_value::selection_value;
 use crate::expr_value::node_tri;
 use crate::gathering::used_values;
+use crate::known_conditions::KnownConditions;
 use crate::resolver::Resolver;
 use crate::symbol_value::symbol_value;
 use crate::value::Value;
@@ -46,7 +47,16 @@ pub(crate) fn value_alone(
     match tree.symbols().get(symbol.0 as usize) {
         Some(found) => {
             let visibility = node_tri(tree, env, Node::Vis(symbol));
-            symbol_value(alloc, tree, symbol, found, visibility, None, env)
+            symbol_value(
+                alloc,
+                tree,
+                symbol,
+                found,
+                visibility,
+                None,
+                KnownConditions::none(),
+                env,
+            )
         }
         None => Ok(Value::Tri(Tri::No)),
     }

@@ -18,7 +18,7 @@ pub value_at-requires : goal.value_at-requires
 value_at-requires g c =
     let t = g.R.Resolver.tree_of c.args.resolver.now in
     let next : Node = get_or c.as_slice-next-items.result.now c.loop-next.next-index any in
-    let uses : Uses t c.args.node next = used_at t _ c.args.node _ _ _ c.tree.ensures c.uses.ensures.exact c.in_ok-nodes.ensures.items c.as_slice-next-items.ensures.value c.loop-next.next-index any c.loop-next-test.true in
+    let uses : Uses t c.args.node next = used_at t _ c.args.node _ _ _ c.tree.ensures c.uses.ensures.exact c.in_ok-nodes.ensures c.as_slice-next-items.ensures.value c.loop-next.next-index any c.loop-next-test.true in
     subst (λ s. IsNodeOf s next) (sym c.loop-next.invariant.tree) (used_is_node t _ c.args.node next c.tree.ensures c.uses.ensures.accepted c.requires uses)
 
 pub returns-in_err-value-clause-grew : goal.returns-in_err-value-clause-grew
@@ -27,7 +27,7 @@ returns-in_err-value-clause-grew g c =
     let t = g.R.Resolver.tree_of c.args.resolver.now in
     let n = c.args.node in
     let next : Node = get_or c.as_slice-next-items.result.now c.loop-next.next-index any in
-    let uses : Uses t n next = used_at t _ n _ _ _ c.tree.ensures c.uses.ensures.exact c.in_ok-nodes.ensures.items c.as_slice-next-items.ensures.value c.loop-next.next-index any c.loop-next-test.true in
+    let uses : Uses t n next = used_at t _ n _ _ _ c.tree.ensures c.uses.ensures.exact c.in_ok-nodes.ensures c.as_slice-next-items.ensures.value c.loop-next.next-index any c.loop-next-test.true in
     laws.grew_wider _ _ (n ∷ [] ++ next ∷ []) (n ∷ []) (used_in_one t n next uses) (laws.grew_then _ _ _ (n ∷ []) (next ∷ []) c.loop-next.invariant.grew c.value_at.ensures.grew)
 
 pub index_mut-requires : goal.index_mut-requires
@@ -35,7 +35,7 @@ index_mut-requires g c =
     let t = g.R.Resolver.tree_of c.args.resolver.now in
     let n = c.args.node in
     let next : Node = get_or c.as_slice-next-items.result.now c.loop-next.next-index any in
-    let uses : Uses t n next = used_at t _ n _ _ _ c.tree.ensures c.uses.ensures.exact c.in_ok-nodes.ensures.items c.as_slice-next-items.ensures.value c.loop-next.next-index any c.loop-next-test.true in
+    let uses : Uses t n next = used_at t _ n _ _ _ c.tree.ensures c.uses.ensures.exact c.in_ok-nodes.ensures c.as_slice-next-items.ensures.value c.loop-next.next-index any c.loop-next-test.true in
     let below : number_of t next < node_count t = number_below t next (used_is_node t _ n next c.tree.ensures c.uses.ensures.accepted c.requires uses) in
     let number : c.number-number.result ≡ number_of t next = c.number-number.ensures.number ∙ ap (λ x. number_of x next) (c.tree-in-loop-next.ensures ∙ c.value_at.ensures.tree ∙ c.loop-next.invariant.tree) in
     omega (arith, below, number, c.loop-next.invariant.long, c.loop-next.values.ok.0)
@@ -51,12 +51,12 @@ loop-next-preserved g c =
     let i = c.loop-next.next-index in
     let items = c.as_slice-next-items.result.now in
     let next : Node = get_or items i any in
-    let uses : Uses t n next = used_at t _ n _ _ _ c.tree.ensures c.uses.ensures.exact c.in_ok-nodes.ensures.items c.as_slice-next-items.ensures.value i any c.loop-next-test.true in
+    let uses : Uses t n next = used_at t _ n _ _ _ c.tree.ensures c.uses.ensures.exact c.in_ok-nodes.ensures c.as_slice-next-items.ensures.value i any c.loop-next-test.true in
     let inside : IsNodeOf t next = used_is_node t _ n next c.tree.ensures c.uses.ensures.accepted c.requires uses in
     let v = c.in_ok-value.value in
     let is : v ≡ solution t u next = c.in_ok-value.ensures.value ∙ ap (λ s. solution s (g.R.Resolver.user_of c.loop-next.resolver) next) kept.tree ∙ ap (λ w. solution t w next) kept.user in
     let number : c.number-number.result ≡ number_of t next = c.number-number.ensures.number ∙ ap (λ x. number_of x next) (c.tree-in-loop-next.ensures ∙ c.value_at.ensures.tree ∙ c.loop-next.invariant.tree) in
-    let nodes_in = used_are_nodes t _ n _ _ _ c.tree.ensures c.uses.ensures.accepted c.requires c.uses.ensures.exact c.in_ok-nodes.ensures.items c.as_slice-next-items.ensures.value in
+    let nodes_in = used_are_nodes t _ n _ _ _ c.tree.ensures c.uses.ensures.accepted c.requires c.uses.ensures.exact c.in_ok-nodes.ensures c.as_slice-next-items.ensures.value in
     record {
       tree = c.value_at.ensures.tree ∙ kept.tree;
       user = c.value_at.ensures.user ∙ kept.user;
@@ -70,4 +70,4 @@ loop-next-preserved g c =
 pub returns-clause-values : goal.returns-clause-values
 returns-clause-values g c =
     let t = g.R.Resolver.tree_of c.args.resolver.now in
-    λ m uses. c.loop-next.invariant.right m (used_in_all t _ c.args.node _ _ _ c.tree.ensures c.uses.ensures.exact c.in_ok-nodes.ensures.items c.as_slice-next-items.ensures.value c.loop-next.next-index c.loop-next-test.false m uses)
+    λ m uses. c.loop-next.invariant.right m (used_in_all t _ c.args.node _ _ _ c.tree.ensures c.uses.ensures.exact c.in_ok-nodes.ensures c.as_slice-next-items.ensures.value c.loop-next.next-index c.loop-next-test.false m uses)

@@ -45,7 +45,7 @@ loop-next-preserved c =
     let walk = subst (λ xs. IsDropping t c.args.node old now xs) c.in-Some.ensures.items kept.walk in
     record {
       walk = walk_next t c.drop_one.ensures.accepted c.args.node c.requires.inside old c.requires.closed now c.drop_all.new.values.items c.pop.new.self.items c.drop_all.new.list.items
-          c.used_by.result.now x (λ m. (c.used_by.ensures.exact m).0) (λ m. (c.used_by.ensures.exact m).1) walk c.drop_all.ensures.drops;
+          c.used_by.result x (λ m. (c.used_by.ensures.exact m).0) (λ m. (c.used_by.ensures.exact m).1) walk c.drop_all.ensures.drops;
       capacity = omega (arith, c.drop_all.ensures.drops.whole, kept.capacity, c.in-Some.ensures.capacity, c.drop_all.ensures.capacity);
       evals = kept.evals;
     }

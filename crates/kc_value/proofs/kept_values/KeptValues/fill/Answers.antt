@@ -29,7 +29,7 @@ loop-step-init c =
       kept = c.requires.kept;
       fills = nothing_added t (c.args.node ∷ []) c.args.self.now;
       path = subst (λ xs. IsPath t c.args.node values (nodes xs)) (sym one) (path_begun t values c.args.node c.requires.inside missing);
-      steps = steps_push t values [] c.push.new.self.items first one (no_steps t values) (step_begun t values c.args.node c.uses.result.now c.uses.ensures.exact);
+      steps = steps_push t values [] c.push.new.self.items first one (no_steps t values) (step_begun t values c.args.node c.uses.result c.uses.ensures.exact);
       accepted = c.uses.ensures.accepted;
     }
 
@@ -41,7 +41,7 @@ uses-requires-in-Some-missing_from c =
     let step = c.in-Some.step in
     let was : nodes c.loop-step.path.items ≡ nodes front ++ step.node ∷ [] = pushed front c.loop-step.path.items step c.in-Some.ensures.items in
     let path : IsPath t c.args.node values (nodes front ++ step.node ∷ []) = subst (λ ns. IsPath t c.args.node values ns) was c.loop-step.invariant.path in
-    let is : IsStep t values step.node step.left.now = steps_last t values front c.loop-step.path.items step c.in-Some.ensures.items c.loop-step.invariant.steps in
+    let is : IsStep t values step.node step.left = steps_last t values front c.loop-step.path.items step c.in-Some.ensures.items c.loop-step.invariant.steps in
     c.loop-step.invariant.accepted.within step.node c.in-Some-missing_from.used (last_node t c.args.node values (nodes front) step.node path)
     (is.within c.in-Some-missing_from.used c.in-Some-missing_from.ensures.among)
 
@@ -59,7 +59,7 @@ loop-step-smaller-in-Continue-branch-3 c =
     let now : nodes c.push-in-Some-missing_from-2.new.self.items ≡ (nodes front ++ step.node ∷ []) ++ below.node ∷ [] =
     pushed c.push-in-Some-missing_from.new.self.items c.push-in-Some-missing_from-2.new.self.items below c.in_ok-push-in-Some-missing_from-2.ensures.items ∙ ap (λ ns. ns ++ below.node ∷ []) mid
     in
-    let is : IsStep t values step.node step.left.now = steps_last t values front c.loop-step.path.items step c.in-Some.ensures.items c.loop-step.invariant.steps in
+    let is : IsStep t values step.node step.left = steps_last t values front c.loop-step.path.items step c.in-Some.ensures.items c.loop-step.invariant.steps in
     let uses : Uses t step.node below.node = is.within below.node c.in-Some-missing_from.ensures.among in
     subst (λ ns. work_left t values ns < work_left t values (nodes c.loop-step.path.items)) (sym now)
     (subst (λ ns. work_left t values ((nodes front ++ step.node ∷ []) ++ below.node ∷ []) < work_left t values ns) (sym was)
@@ -79,11 +79,11 @@ loop-step-preserved-in-Continue-branch-3 c =
     let now : nodes c.push-in-Some-missing_from-2.new.self.items ≡ (nodes front ++ step.node ∷ []) ++ below.node ∷ [] =
     pushed c.push-in-Some-missing_from.new.self.items c.push-in-Some-missing_from-2.new.self.items below c.in_ok-push-in-Some-missing_from-2.ensures.items ∙ ap (λ ns. ns ++ below.node ∷ []) mid
     in
-    let is : IsStep t values step.node step.left.now = steps_last t values front c.loop-step.path.items step c.in-Some.ensures.items c.loop-step.invariant.steps in
+    let is : IsStep t values step.node step.left = steps_last t values front c.loop-step.path.items step c.in-Some.ensures.items c.loop-step.invariant.steps in
     let uses : Uses t step.node below.node = is.within below.node c.in-Some-missing_from.ensures.among in
     let before : AreSteps t values front = steps_front t values front c.loop-step.path.items step c.in-Some.ensures.items c.loop-step.invariant.steps in
-    let further : IsStep t values step.node again.left.now =
-    step_further t values step.node step.left.now again.left.now c.in-Some-missing_from.ensures.within c.in-Some-missing_from.ensures.passed is
+    let further : IsStep t values step.node again.left =
+    step_further t values step.node step.left again.left c.in-Some-missing_from.ensures.within c.in-Some-missing_from.ensures.passed is
     in
     let up_to : AreSteps t values c.push-in-Some-missing_from.new.self.items =
     steps_push t values front c.push-in-Some-missing_from.new.self.items again c.in_ok-push-in-Some-missing_from.ensures.items before further
@@ -94,7 +94,7 @@ loop-step-preserved-in-Continue-branch-3 c =
       path = subst (λ ns. IsPath t c.args.node values ns) (sym now)
           (path_longer t c.args.node values (nodes front) step.node path c.loop-step.invariant.accepted below.node uses c.in-Some-missing_from.ensures.missing);
       steps = steps_push t values c.push-in-Some-missing_from.new.self.items c.push-in-Some-missing_from-2.new.self.items below c.in_ok-push-in-Some-missing_from-2.ensures.items up_to
-          (step_begun t values below.node below.left.now c.uses-in-Some-missing_from.ensures.exact);
+          (step_begun t values below.node below.left c.uses-in-Some-missing_from.ensures.exact);
       accepted = c.loop-step.invariant.accepted;
     }
 
@@ -132,8 +132,8 @@ loop-step-preserved c =
     let path : IsPath t c.args.node values (nodes front ++ step.node ∷ []) = subst (λ ns. IsPath t c.args.node values ns) was c.loop-step.invariant.path in
     let inside : IsNodeOf t step.node = last_node t c.args.node values (nodes front) step.node path in
     let kept = c.loop-step.invariant.kept in
-    let is : IsStep t values step.node step.left.now = steps_last t values front c.loop-step.path.items step c.in-Some.ensures.items c.loop-step.invariant.steps in
-    let ready : (m : Node) → Uses t step.node m → IsKept t values m = step_done t values step.node step.left.now c.in-None.ensures.none is in
+    let is : IsStep t values step.node step.left = steps_last t values front c.loop-step.path.items step c.in-Some.ensures.items c.loop-step.invariant.steps in
+    let ready : (m : Node) → Uses t step.node m → IsKept t values m = step_done t values step.node step.left c.in-None.ensures.none is in
     let stay : (m : Node) → IsKept t values m → IsKept t c.evaluate.new.self.values m =
     λ m k. subst (λ vs. IsKept t vs m) (sym c.in_ok-evaluate-in-None.ensures.value) (stays_kept t values step.node v inside kept.closed.whole m k)
     in

@@ -1,0 +1,37 @@
+use Rattle.std.proofs.Common.{[], ◌∷◌, refl, sym, ap, subst, ◌∙◌, arith}
+use Rattle.kc_tree.specs.Reached.{here}
+use Rattle.kc_value.specs.Assignment.{assignment_of}
+use Rattle.kc_value.specs.Kept.{KeptValue, AreKept}
+use Rattle.kc_value.specs.KnownConditions.{AreKnown}
+use Rattle.kc_value.specs.Rule.{rule}
+use Rattle.kc_value.proofs.KnownLaws.{known_with_more}
+use Rattle.kc_value.proofs.FillSteps.{one_more_right, one_more_filled, nothing_added}
+use Rattle.kc_value.proofs.kept_values.KeptValues.fill_next.Goals as goal
+
+pub returns-then-is_kept-clause-fills : goal.returns-then-is_kept-clause-fills
+returns-then-is_kept-clause-fills c = nothing_added c.args.tree.now (c.args.node ∷ []) c.args.self.now
+
+pub returns-clause-kept : goal.returns-clause-kept
+returns-clause-kept c =
+    let t = c.args.tree.now in
+    let u = c.args.user.now in
+    subst (λ vs. AreKept t u vs) (sym c.in_ok-evaluate.ensures.value)
+    (one_more_right t u c.args.self.now.values c.args.node c.requires.accepted c.requires.inside c.requires.kept c.requires.ready)
+
+pub returns-clause-fills : goal.returns-clause-fills
+returns-clause-fills c =
+    let t = c.args.tree.now in
+    let old = c.args.self.now in
+    let n = c.args.node in
+    one_more_filled t (n ∷ []) old old c.evaluate.new.self n (rule t c.args.user.now (assignment_of t old.values) n) c.requires.inside c.requires.kept.closed.whole
+    (n, (0, omega arith, refl), here) (sym c.is_kept.ensures ∙ c.if-is_kept.false) (nothing_added t (n ∷ []) old)
+    c.in_ok-evaluate.ensures.value c.in_ok-evaluate.ensures.counted
+
+pub find_for-requires-clause-known : goal.find_for-requires-clause-known
+find_for-requires-clause-known c =
+    let t = c.args.tree.now in
+    let old = c.args.self.now in
+    let n = c.args.node in
+    subst (λ vs. AreKnown t vs c.args.found.now.depends.items c.args.found.now.visible.items) (sym (c.as_slice.ensures.value ∙ ap (λ (k : KeptValue). k.values) c.self.view_is))
+    (known_with_more t old.values c.evaluate.new.self.values n (rule t c.args.user.now (assignment_of t old.values) n) c.args.found.now.depends.items c.args.found.now.visible.items
+    c.requires.inside c.requires.kept.closed.whole (sym c.is_kept.ensures ∙ c.if-is_kept.false) c.in_ok-evaluate.ensures.value c.requires.known)

@@ -1,0 +1,5 @@
+use Rattle.kc_value.proofs.KnownLaws.{nothing_found}
+use Rattle.kc_value.proofs.known_conditions.FoundConditions.none.Goals as goal
+
+pub returns : goal.returns
+returns c = λ t kept. nothing_found t kept _ _ _ _ c.in_ok-empty_slots.ensures c.in_ok-empty_slots-2.ensures

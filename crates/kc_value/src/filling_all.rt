@@ -1,0 +1,62 @@
+//! Evaluating all nodes, as far as they are not kept.
+
+ghost use Rattle.std.specs.Prelude.{[], ◌∷◌, OnOk};
+ghost use Rattle.kc_tree.specs.declared.node.Node.{Node};
+ghost use Rattle.kc_tree.specs.Accepted.{IsAccepted};
+ghost use Rattle.kc_tree.specs.Nodes.{IsNodeOf, all_nodes};
+ghost use Rattle.kc_tree.specs.Uses.{Uses};
+ghost use Rattle.kc_value.specs.Kept.{IsKept, AreKept, Fills};
+ghost use Rattle.kc_value.specs.KnownConditions.{AreKnown};
+
+use crate::kept_values::KeptValues;
+use crate::known_conditions::FoundConditions;
+use crate::user::User;
+use kc_tree::{Node, Tree};
+use std::alloc::{AllocError, Global};
+
+impl KeptValues {
+    /// Evaluates a node, if it is not kept. All that it uses is kept.
+    fn fill_next(
+        &mut self,
+        alloc: Global,
+        tree: &Tree,
+        user: &User,
+        found: &mut FoundConditions,
+        node: Node,
+    ) -> Result<(), AllocError>
+        requires accepted { IsAccepted tree.now }
+        requires inside { IsNodeOf tree.now node }
+        requires kept { AreKept tree.now user.now self.old.values }
+        requires known { AreKnown tree.now self.old.values found.old.depends.items found.old.visible.items }
+        requires ready { (m : Node) → Uses tree.now node m → IsKept tree.now self.old.values m }
+        ensures kept { AreKept tree.now user.now self.new.values }
+        ensures known { AreKnown tree.now self.new.values found.new.depends.items found.new.visible.items }
+        ensures fills { Fills tree.now (node ∷ []) self.old self.new }
+        ensures done { OnOk result (IsKept tree.now self.new.values node) }
+    {
+        if self.is_kept(tree, node) {
+            return Ok(());
+        }
+        self.evaluate(alloc, tree, user, found.known(), node)?;
+        found.find_for(tree, node, self.values.as_slice());
+        Ok(())
+    }
+
+    /// Evaluates all nodes, as far as they are not kept, in the tree's order: each after all that it uses. So a pass
+    /// over all nodes goes over no list of what a node uses, however long these lists are together, and the conditions of
+    /// a block are evaluated once and not for each symbol inside.
+    ///
+    /// The error comes where memory is refused; what was evaluated before is kept and counted then.
+    pub fn fill_all(&mut self, alloc: Global, tree: &Tree, user: &User) -> Result<(), AllocError>
+        requires kept { AreKept tree.now user.now self.old.values }
+        ensures kept { AreKept tree.now user.now self.new.values }
+        ensures fills { Fills tree.now (all_nodes tree.now) self.old self.new }
+        ensures done { OnOk result ((n : Node) → IsNodeOf tree.now n → IsKept tree.now self.new.values n) }
+    {
+        let mut found = FoundConditions::none(alloc, tree)?;
+        for node in tree.order() {
+            self.fill_next(alloc, tree, user, &mut found, *node)?;
+        }
+        Ok(())
+    }
+}
