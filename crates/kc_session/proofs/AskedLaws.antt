@@ -161,42 +161,9 @@ pub choices_done : (k : ℕ) (old new : ResolverState) → length old.tree.choic
 choices_done k old new enough h =
     all_done (choice_nodes old.tree) (2 * length old.tree.symbols) (2 * length old.tree.choices) (2 * (length old.tree.symbols + k)) old new refl (omega arith) (omega (arith, enough)) h
 
--- ---- both
-symbols_in_all : (t : TreeValue) (n : Node) → Contains (symbol_nodes t) n → Contains (all_nodes t) n
-symbols_in_all t n c =
-    let r = from_numbered t 0 (2 * length t.symbols) n (omega arith) c in
-    in_numbered t 0 (node_count t) n r.0 (omega arith) (omega (arith, r.2))
-
-choices_in_all : (t : TreeValue) (n : Node) → Contains (choice_nodes t) n → Contains (all_nodes t) n
-choices_in_all t n c =
-    let r = from_numbered t (2 * length t.symbols) (2 * length t.choices) n (omega arith) c in
-    in_numbered t 0 (node_count t) n r.0 (omega arith) (omega (arith, r.2))
-
-pub symbols_of_all : (old new : ResolverState) → Asked (symbol_nodes old.tree) old new → Asked (all_nodes old.tree) old new
-symbols_of_all old new f =
-    asked_again (all_nodes old.tree) (symbol_nodes old.tree) old old new (symbols_in_all old.tree) (asked_nothing (all_nodes old.tree) old) f
-
-pub all_asked : (old mid new : ResolverState) → Asked (symbol_nodes old.tree) old mid → Asked (choice_nodes mid.tree) mid new → Asked (all_nodes old.tree) old new
-all_asked old mid new f g =
-    asked_again (all_nodes old.tree) (choice_nodes mid.tree) old mid new
-    (λ n c. choices_in_all old.tree n (subst (λ x. Contains (choice_nodes x) n) f.tree c)) (symbols_of_all old mid f) g
-
-pub all_kept : (old mid new : ResolverState) → Asked (symbol_nodes old.tree) old mid → AreAllKept (symbol_nodes old.tree) mid → Asked (choice_nodes mid.tree) mid new
-    → AreAllKept (choice_nodes mid.tree) new → AreAllKept (all_nodes old.tree) new
-all_kept old mid new f symbols g choices n c =
-    let t : TreeValue = old.tree in
-    let k : ℕ = number_of t n in
-    let r = from_numbered t 0 (node_count t) n (omega arith) c in
-    let low : ℕ = 2 * length t.symbols in
-    subst (λ x. IsKept x new.kept.values n) (sym (g.tree ∙ f.tree))
-    (⊎_elim
-    (λ before.
-    let own : IsKept t mid.kept.values n = subst (λ x. IsKept x mid.kept.values n) f.tree (symbols n (in_numbered t 0 low n r.0 (omega arith) (omega (arith, before)))) in
-    still_kept (choice_nodes mid.tree) old mid new n f.tree r.0 own g)
-    (λ after.
-    let here : Contains (choice_nodes t) n = in_numbered t low (2 * length t.choices) n r.0 after (omega (arith, r.2)) in
-    subst (λ x. IsKept x new.kept.values n) (g.tree ∙ f.tree) (choices n (subst (λ x. Contains (choice_nodes x) n) (sym f.tree) here)))
-    (cases_lt k low))
+-- ---- all nodes
+pub all_kept : (t s : TreeValue) (kept : List (Option Value)) → s ≡ t → ((n : Node) → IsNodeOf s n → IsKept s kept n) → (n : Node) → Contains (all_nodes t) n → IsKept s kept n
+all_kept t s kept same all n c = all n (subst (λ x. IsNodeOf x n) (sym same) (from_numbered t 0 (node_count t) n (omega arith) c).0)
 
 -- ---- all nodes, asked twice
 pub all_twice : (old mid new : ResolverState) → Asked (all_nodes old.tree) old mid → Asked (all_nodes mid.tree) mid new → Asked (all_nodes old.tree) old new

@@ -167,13 +167,11 @@ impl KeptResolver {
     /// Evaluates all nodes, as far as they are not kept.
     ///
     /// The error comes where memory is refused.
-    #[tactic(auto, using(crate::proofs::AskedLaws::symbols_of_all, crate::proofs::AskedLaws::all_asked))]
     pub(crate) fn fill_all(&mut self) -> Result<(), AllocError>
         ensures asked { Asked (all_nodes self.old.tree) self.old self.new }
         ensures done { OnOk result (AreAllKept (all_nodes self.old.tree) self.new) }
     {
-        self.fill_symbols()?;
-        self.fill_choices()
+        self.kept.fill_all(self.alloc, &self.tree, &self.user)
     }
 }
 

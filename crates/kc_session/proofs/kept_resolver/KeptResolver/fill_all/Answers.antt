@@ -1,8 +1,9 @@
+use Rattle.std.proofs.Common.{◌≡◌, ap}
+use Rattle.kc_session.specs.KeptResolver.{ResolverState}
 use Rattle.kc_session.proofs.AskedLaws.{all_kept, on_ok}
 use Rattle.kc_session.proofs.kept_resolver.KeptResolver.fill_all.Goals as goal
 
 pub returns-clause-done : goal.returns-clause-done
 returns-clause-done c =
-    on_ok c.fill_choices.result
-    (all_kept c.args.self.now c.fill_symbols.new.self c.fill_choices.new.self c.fill_symbols.ensures.asked c.in_ok-fill_symbols.ensures.done c.fill_choices.ensures.asked)
-    c.fill_choices.ensures.done
+    let same : c.self.inside.tree ≡ c.args.self.now.tree = ap (λ (r : ResolverState). r.tree) c.self.view_is in
+    on_ok c.fill_all.result (all_kept c.args.self.now.tree c.self.inside.tree c.fill_all.new.self.values same) c.fill_all.ensures.done
