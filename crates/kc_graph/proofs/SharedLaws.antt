@@ -5,7 +5,8 @@ use Rattle.std.proofs.lemmas.Bool.{cases_lt, cond-false, cond-true, le-ltb, lt-l
 use Rattle.std.proofs.lemmas.List.{get_or_past, length-map}
 use Rattle.std.proofs.lemmas.List.Elements.{Contains-append_cases, Contains-append_left, Contains-append_right, Contains-get_or}
 use Rattle.kc_graph.specs.Graph.{row, Uses, IsClosed}
-use Rattle.kc_graph.specs.Shared.{is_node, stands_for, whole_row, whole_rows, IsShared}
+use Rattle.kc_graph.specs.Shared.{is_node, stands_for, whole_row, whole_rows, IsShared, Holds}
+use Rattle.kc_graph.specs.Shared.Holds.{itself, through}
 use Rattle.kc_graph.proofs.GraphLaws.{user-within}
 
 -- what an element of a list gives is in all that the list gives
@@ -41,12 +42,7 @@ row-whole_rows n g p h = get_or-map (whole_row n g) (take n g) p [] ∙ ap (whol
 pub past-whole_rows : (n : ℕ) (g : List (List ℕ)) (p : ℕ) → n ≤ length g → n ≤ p → row (whole_rows n g) p ≡ []
 past-whole_rows n g p few h = get_or_past (whole_rows n g) p [] (omega (arith, length-whole_rows n g few))
 
--- a node's row holds a node, or a shared row that holds it
-pub data Holds (n : ℕ) (g : List (List ℕ)) (p q : ℕ) : Type 0 where
-  itself : q < n → Uses g p q → Holds n g p q
-  through : (s : ℕ) → n ≤ s → Uses g p s → Uses g s q → Holds n g p q
-
--- so the node's whole row holds it
+-- what a node's row holds, its whole row holds
 pub use_from_holds : (n : ℕ) (g : List (List ℕ)) (p q : ℕ) → p < n → Holds n g p q → Uses (whole_rows n g) p q
 use_from_holds n g p q h (itself below u) =
     let P : List ℕ → Type 0 = λ xs. Contains xs q in

@@ -2,10 +2,10 @@
 use Rattle.std.proofs.Common.{◌≡◌, ℕ, ◌+◌, ◌-◌, ◌<◌, ◌≤◌, List, length, get_or, filter, inl, inr, sym, ap, subst, ◌∙◌, arith}
 use Rattle.std.proofs.lemmas.Bool.{cases_lt, le-ltb, lt-ltb, ltb-true}
 use Rattle.kc_graph.specs.Graph.{Uses, IsLoop}
-use Rattle.kc_graph.specs.Shared.{is_node, whole_rows, IsShared}
+use Rattle.kc_graph.specs.Shared.{is_node, whole_rows, IsShared, Holds}
 use Rattle.kc_graph.proofs.FilterPlaces.{kept_at, kept-within, place, place-kept, place-left_out, place_end, stood_at}
-use Rattle.kc_graph.proofs.SharedLaws.{use_from_holds, Holds}
-use Rattle.kc_graph.proofs.SharedLaws.Holds.{itself, through}
+use Rattle.kc_graph.proofs.SharedLaws.{use_from_holds}
+use Rattle.kc_graph.specs.Shared.Holds.{itself, through}
 
 module _ (n : ℕ) (g : List (List ℕ)) (nodes : List ℕ) (loop : IsLoop g nodes) (shared : IsShared n g) where
   -- the number at a place of the loop

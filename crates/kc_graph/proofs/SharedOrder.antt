@@ -2,11 +2,11 @@
 use Rattle.std.proofs.Common.{◌≡◌, true, ℕ, ◌+◌, ◌<◌, List, length, get_or, filter, sym, ap, subst, ◌∙◌, arith}
 use Rattle.std.proofs.lemmas.Bool.{lt-ltb, ltb-true}
 use Rattle.kc_graph.specs.Graph.{Uses, IsOrder, HasNoLoop}
-use Rattle.kc_graph.specs.Shared.{is_node, whole_rows, IsShared}
+use Rattle.kc_graph.specs.Shared.{is_node, whole_rows, IsShared, Holds}
 use Rattle.kc_graph.proofs.FilterPlaces.{kept_at, place, place-kept, place_le, stood_at, Contains-filter}
 use Rattle.kc_graph.proofs.GraphLaws.{no_loop}
-use Rattle.kc_graph.proofs.SharedLaws.{holds_from_use, length-whole_rows, Holds}
-use Rattle.kc_graph.proofs.SharedLaws.Holds.{itself, through}
+use Rattle.kc_graph.proofs.SharedLaws.{holds_from_use, length-whole_rows}
+use Rattle.kc_graph.specs.Shared.Holds.{itself, through}
 
 module _ (n : ℕ) (g : List (List ℕ)) (order : List ℕ) (is_order : IsOrder g order) (shared : IsShared n g) where
   -- a node that stands before another one in the order of the table does so in the order of nodes

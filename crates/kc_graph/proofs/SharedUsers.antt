@@ -2,10 +2,10 @@
 use Rattle.std.proofs.Common.{ℕ, ◌<◌, List, inl, inr, sym, ◌∙◌, arith}
 use Rattle.std.proofs.lemmas.Bool.{cases_lt}
 use Rattle.kc_graph.specs.Graph.{Uses, IsConverse}
-use Rattle.kc_graph.specs.Shared.{whole_rows, IsShared}
+use Rattle.kc_graph.specs.Shared.{whole_rows, IsShared, Holds}
 use Rattle.kc_graph.proofs.GraphLaws.{user-within}
-use Rattle.kc_graph.proofs.SharedLaws.{holds_from_use, length-whole_rows, use_from_holds, whole-within, Holds}
-use Rattle.kc_graph.proofs.SharedLaws.Holds.{itself, through}
+use Rattle.kc_graph.proofs.SharedLaws.{holds_from_use, length-whole_rows, use_from_holds, whole-within}
+use Rattle.kc_graph.specs.Shared.Holds.{itself, through}
 
 -- the graph is the converse of its converse
 IsConverse-back : (g users : List (List ℕ)) → IsConverse g users → IsConverse users g

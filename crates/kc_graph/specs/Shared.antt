@@ -20,6 +20,11 @@ whole_row n g numbers = flat_map (stands_for n g) numbers
 abbrev pub whole_rows : ℕ → List (List ℕ) → List (List ℕ)
 whole_rows n g = map (whole_row n g) (take n g)
 
+-- the row of a node holds a node itself, or a shared row that holds it
+pub data Holds (n : ℕ) (g : List (List ℕ)) (p q : ℕ) : Type 0 where
+  itself : q < n → Uses g p q → Holds n g p q
+  through : (s : ℕ) → n ≤ s → Uses g p s → Uses g s q → Holds n g p q
+
 -- each number in the row of a node is that of a node or of a shared row, and each in a shared row is that of a node
 pub record IsShared (n : ℕ) (g : List (List ℕ)) : Type 0 where
   pub few : n ≤ length g

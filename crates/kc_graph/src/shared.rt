@@ -1,9 +1,9 @@
 //! Rows of nodes that share lists of nodes, so that a list that stands in many rows takes its memory once.
 
-ghost use Rattle.std.specs.Prelude.{◌≡◌, ◌<◌, ◌^◌, [], All, IfErr, IfOk, OnOk, filter, length, slice_index_or};
+ghost use Rattle.std.specs.Prelude.{◌≡◌, ◌<◌, ◌^◌, ◌↔◌, ℕ, [], All, IfErr, IfOk, OnOk, filter, length, slice_index_or};
 ghost use Rattle.std.specs.Iterator.{YieldsFirst, item_count};
-ghost use Rattle.kc_graph.specs.Graph.{IsClosed, IsConverse, IsOrder, HasNoLoop};
-ghost use Rattle.kc_graph.specs.Shared.{IsShared, is_node, whole_rows};
+ghost use Rattle.kc_graph.specs.Graph.{IsClosed, IsConverse, IsOrder, HasNoLoop, Uses};
+ghost use Rattle.kc_graph.specs.Shared.{Holds, IsShared, is_node, whole_rows};
 
 use crate::graph::{Graph, OrderFault};
 use crate::rows::Rows;
@@ -58,6 +58,14 @@ impl SharedRows {
     {
         let _ = self.rows.len(); // by its clauses 32 bits count the table's rows, of which the nodes' are some
         self.nodes
+    }
+
+    /// The result is the table as it is kept, with the shared lists behind the rows of the nodes.
+    pub fn table(&self) -> &Rows
+        ensures shared { IsShared (length self.now) result.now }
+        ensures holds { (p q : ℕ) → Uses self.now p q ↔ ((p < length self.now) × Holds (length self.now) result.now p q) }
+    {
+        &self.rows
     }
 
     /// The result goes over the nodes of the row of a number, which is empty past the last.

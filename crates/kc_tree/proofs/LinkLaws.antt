@@ -133,13 +133,12 @@ accepted t order sound in_order = record {
 }
 
 -- the fields of a tree, from the graph of its nodes and the users in it
-pub well_made : (a : Inside) (g users : List (List ℕ)) → IsSoundOutline a.outline → a.modules ≡ modules_symbol a.outline
-    → IsGraphOf a.outline g → IsOrder a.outline a.order.items → graph.IsConverse g users
-    → a.uses ≡ map (map (node_in (length a.outline.symbols))) g → a.used_by ≡ map (map (node_in (length a.outline.symbols))) users → IsWellMade a
-well_made a g users sound modules h order converse is_uses is_users = record {
+pub well_made : (a : Inside) → IsSoundOutline a.outline → a.modules ≡ modules_symbol a.outline
+    → IsGraphOf a.outline a.uses → IsOrder a.outline a.order.items → graph.IsConverse a.uses a.used_by → IsWellMade a
+well_made a sound modules h order converse = record {
   accepted = accepted a.outline a.order.items sound order;
   modules = modules;
   order = order;
-  uses = subst (λ (rows : List (List Node)). IsTableOf a.outline (Uses a.outline) rows) (sym is_uses) (table_of_uses a.outline g (used_within a.outline) h);
-  used_by = subst (λ (rows : List (List Node)). IsTableOf a.outline (λ n m. Uses a.outline m n) rows) (sym is_users) (table_of_users a.outline g users h converse);
+  uses = table_of_uses a.outline a.uses (used_within a.outline) h;
+  used_by = table_of_users a.outline a.uses a.used_by h converse;
 }

@@ -1,5 +1,5 @@
 -- What is known of the graph of a tree's nodes by number is known of the nodes.
-use Rattle.std.proofs.Common.{subst, zero, suc, ◌∷◌, ◌≡◌, ℕ, ◌+◌, ◌-◌, ◌<◌, List, [], map, length, get_or, take, Option, Some, inl, inr, refl, sym, ap, ◌∙◌, arith}
+use Rattle.std.proofs.Common.{subst, zero, suc, ◌∷◌, ◌≡◌, ◌↔◌, ℕ, ◌+◌, ◌-◌, ◌<◌, List, [], map, length, get_or, take, Option, Some, inl, inr, refl, sym, ap, ◌∙◌, arith}
 use Rattle.std.specs.List.{Contains, slice_get}
 use Rattle.std.specs.Option.{option_map_or}
 use Rattle.std.proofs.lemmas.Bool.{cases_lt}
@@ -11,9 +11,10 @@ use Rattle.kc_tree.specs.Nodes.{node_in, number_of, node_at, IsNodeOf, IsNumbere
 use Rattle.kc_outline.specs.TreeValue.{TreeValue}
 use Rattle.kc_tree.specs.Uses.{Uses, visibility_nodes, symbol_value_nodes, choice_prompt_nodes, choice_value_nodes}
 use Rattle.kc_tree.specs.Order.{IsOrder, IsLoop}
-use Rattle.kc_tree.specs.Accepted.{IsTableOf}
+use Rattle.kc_tree.specs.Accepted.{IsSharedTable, IsTableOf}
 use Rattle.kc_tree.specs.NodeGraph.{IsGraphOf}
 use Rattle.kc_graph.specs.Graph as graph
+use Rattle.kc_graph.specs.Shared.{Holds, IsShared}
 use Rattle.kc_tree.proofs.NodeNumbers.{node_in-number_in, number_below, at_below, Contains-at, Contains-from_at, place_at}
 
 -- a node that a node of the tree is computed from is one of the tree
@@ -155,40 +156,46 @@ loop_of_numbers t g h nodes l = record {
         subst From (sym e) (subst To (sym f) (use_of_numbers t g h n m (known t n a) (known t m b) u))
 
 -- ---- tables of rows
--- the nodes of a row of numbers
-row_nodes : (symbols : ℕ) (g : List (List ℕ)) (p : ℕ) → get_or (map (map (node_in symbols)) g) p [] ≡ map (node_in symbols) (graph.row g p)
-row_nodes symbols [] p = refl
-row_nodes symbols (r ∷ g) zero = refl
-row_nodes symbols (r ∷ g) (suc p) = row_nodes symbols g p
-
 module _ (t : TreeValue) (g : List (List ℕ)) (n m : Node) where
   abbrev nodes_there : List Node
-  nodes_there = get_or (map (map (node_in (length t.symbols))) g) (number_of t n) []
+  nodes_there = map (node_at t) (graph.row g (number_of t n))
 
   in_row : IsNumbered (length t.symbols) m → graph.Uses g (number_of t n) (number_of t m) → Contains nodes_there m
-  in_row b u =
-      subst (λ (ns : List Node). Contains ns m) (sym (row_nodes (length t.symbols) g (number_of t n)))
-      (Contains-at (length t.symbols) (graph.row g (number_of t n)) m b u)
+  in_row b u = Contains-at (length t.symbols) (graph.row g (number_of t n)) m b u
 
   from_row : Contains nodes_there m → IsNumbered (length t.symbols) m × graph.Uses g (number_of t n) (number_of t m)
-  from_row c =
-      Contains-from_at (length t.symbols) (graph.row g (number_of t n)) m
-      (subst (λ (ns : List Node). Contains ns m) (row_nodes (length t.symbols) g (number_of t n)) c)
+  from_row c = Contains-from_at (length t.symbols) (graph.row g (number_of t n)) m c
 
-pub table_of_uses : (t : TreeValue) (g : List (List ℕ)) → Within t → IsGraphOf t g → IsTableOf t (Uses t) (map (map (node_in (length t.symbols))) g)
+pub table_of_uses : (t : TreeValue) (g : List (List ℕ)) → Within t → IsGraphOf t g → IsTableOf t (Uses t) g
 table_of_uses t g within h = record {
-  whole = length-map g (map (node_in (length t.symbols))) ∙ h.whole;
+  whole = h.whole;
   exact = λ n m i. (
     λ c. let r = from_row t g n m c in use_of_nodes t g h n m (known t n i) r.0 r.1,
     λ u. let b = known t m (within n m i u) in in_row t g n m b (use_of_numbers t g h n m (known t n i) b u),
   );
 }
 
-pub table_of_users : (t : TreeValue) (g users : List (List ℕ)) → IsGraphOf t g → graph.IsConverse g users → IsTableOf t (λ n m. Uses t m n) (map (map (node_in (length t.symbols))) users)
+pub table_of_users : (t : TreeValue) (g users : List (List ℕ)) → IsGraphOf t g → graph.IsConverse g users → IsTableOf t (λ n m. Uses t m n) users
 table_of_users t g users h c = record {
-  whole = length-map users (map (node_in (length t.symbols))) ∙ c.size ∙ h.whole;
+  whole = c.size ∙ h.whole;
   exact = λ n m i. (
     λ b. let r = from_row t users n m b in use_of_nodes t g h m n r.0 (known t n i) (c.to_use (number_of t n) (number_of t m) r.1),
     λ u. let b = known t m (user_is_node t m n u) in in_row t users n m b (c.from_use (number_of t m) (number_of t n) (use_of_numbers t g h m n b (known t n i) u)),
+  );
+}
+
+-- a table whose rows share lists
+pub shared_table : (t : TreeValue) (R : Node → Node → Type 0) (rows table : List (List ℕ)) → IsTableOf t R rows → IsShared (length rows) table
+    → ((p q : ℕ) → graph.Uses rows p q ↔ ((p < length rows) × Holds (length rows) table p q)) → IsSharedTable t R table
+shared_table t R rows table is shared holds = record {
+  shared = subst (λ k. IsShared k table) is.whole shared;
+  exact = λ n m i j. (
+    λ h.
+        let p : number_of t n < length rows = subst (λ k. number_of t n < k) (sym is.whole) (number_below t n i) in
+        let u : graph.Uses rows (number_of t n) (number_of t m) = (holds (number_of t n) (number_of t m)).1 (p, subst (λ k. Holds k table (number_of t n) (number_of t m)) (sym is.whole) h) in
+        (is.exact n m i).0 (in_row t rows n m (known t m j) u),
+    λ r.
+        let u : graph.Uses rows (number_of t n) (number_of t m) = (from_row t rows n m ((is.exact n m i).1 r)).1 in
+        subst (λ k. Holds k table (number_of t n) (number_of t m)) is.whole ((holds (number_of t n) (number_of t m)).0 u).1,
   );
 }

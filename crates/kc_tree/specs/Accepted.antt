@@ -1,11 +1,12 @@
 -- What is known of every tree that was read: this project's own.
-use Rattle.std.specs.Prelude.{◌≡◌, ◌≤◌, ◌^◌, List, length, All, Contains, slice_index_or, [], ◌↔◌}
+use Rattle.std.specs.Prelude.{◌≡◌, ◌≤◌, ◌^◌, ℕ, List, length, map, All, Contains, slice_index_or, [], ◌↔◌}
+use Rattle.kc_graph.specs.Shared.{Holds, IsShared}
 use Rattle.kc_tree.specs.declared.node.Node.{Node}
 use Rattle.kc_outline.specs.TreeValue.{TreeValue}
 use Rattle.kc_outline.specs.Entries.{AreMenusClosed, IsEntryOf, first_symbols, symbol_ids}
 use Rattle.kc_outline.specs.Grouped.{IsGrouped}
 use Rattle.kc_outline.specs.NameList.{AreNames}
-use Rattle.kc_tree.specs.Nodes.{IsNodeOf, node_count, number_of}
+use Rattle.kc_tree.specs.Nodes.{IsNodeOf, node_at, node_count, number_of}
 use Rattle.kc_tree.specs.Uses.{Uses}
 use Rattle.kc_tree.specs.Order.{IsOrder}
 use Rattle.kc_statement.specs.declared.limits.TheConstants.{MOST_SYMBOLS}
@@ -25,7 +26,12 @@ pub record IsAccepted (t : TreeValue) : Type 0 where
   pub firsts : first_symbols t.entries ≡ symbol_ids t
   pub menus : AreMenusClosed t
 
--- row k of a table has exactly what the relation gives for the node of number k
-pub record IsTableOf (t : TreeValue) (R : Node → Node → Type 0) (rows : List (List Node)) : Type 0 where
+-- row k of a table of numbers has exactly what the relation gives for the node of number k
+pub record IsTableOf (t : TreeValue) (R : Node → Node → Type 0) (rows : List (List ℕ)) : Type 0 where
   pub whole : length rows ≡ node_count t
-  pub exact : (n m : Node) → IsNodeOf t n → Contains (slice_index_or rows (number_of t n) []) m ↔ R n m
+  pub exact : (n m : Node) → IsNodeOf t n → Contains (map (node_at t) (slice_index_or rows (number_of t n) [])) m ↔ R n m
+
+-- so it is where rows share lists: the row of a node holds those nodes, each itself or by a shared row
+pub record IsSharedTable (t : TreeValue) (R : Node → Node → Type 0) (rows : List (List ℕ)) : Type 0 where
+  pub shared : IsShared (node_count t) rows
+  pub exact : (n m : Node) → IsNodeOf t n → IsNodeOf t m → Holds (node_count t) rows (number_of t n) (number_of t m) ↔ R n m

@@ -19,7 +19,6 @@ ghost use Rattle.kc_statement.specs.declared.limits.TheConstants.{MOST_SYMBOLS};
 
 use crate::fault::{ChoiceProblem, NamedNode, TreeFault};
 use crate::node::Node;
-use crate::node_rows::NodeRows;
 use crate::outline_faults::{OutlineFault, outline_fault};
 use crate::tree::Tree;
 use crate::uses::used_rows;
@@ -199,7 +198,6 @@ pub(crate) fn link(alloc: Global, lines: &[Line<'_>], outline: Outline) -> Resul
     ensures fault { IfErr result (IsTreeProblem lines.now outline) }
 {
     check_outline(alloc, lines, &outline)?;
-    let symbols = outline.symbols().len();
     let modules = modules_symbol(&outline);
     let used = used_rows(alloc, &outline)?;
     let order = node_order(alloc, &outline, &used)?;
@@ -208,7 +206,7 @@ pub(crate) fn link(alloc: Global, lines: &[Line<'_>], outline: Outline) -> Resul
         outline,
         modules,
         order,
-        uses: NodeRows::of(symbols, used),
-        used_by: NodeRows::of(symbols, users),
+        uses: used,
+        used_by: users,
     })
 }

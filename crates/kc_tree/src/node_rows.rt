@@ -1,33 +1,13 @@
-//! Rows of nodes, of which a row takes no memory of its own.
+//! The row of a node, which takes no memory of its own.
 
-ghost use Rattle.std.specs.Prelude.{◌≡◌, ◌≤◌, [], map, slice_index_or};
+ghost use Rattle.std.specs.Prelude.{◌≡◌, ◌≤◌, map};
 ghost use Rattle.std.specs.Iterator.{YieldsFirst, item_count};
 ghost use Rattle.kc_tree.specs.Nodes.{node_in};
 ghost use Rattle.kc_statement.specs.declared.limits.TheConstants.{MOST_SYMBOLS};
 
 use crate::node::Node;
-use kc_graph::{SharedRow, SharedRows};
+use kc_graph::SharedRow;
 use std::marker::Model;
-
-/// Rows of nodes, which are kept as rows of their numbers. Contracts see the list of the rows.
-#[derive(Drop)]
-pub(crate) struct NodeRows {
-    symbols: usize,
-    rows: SharedRows,
-}
-
-impl Model for NodeRows {
-    ghost use Rattle.std.specs.Prelude.{◌≤◌, List, map};
-    ghost use Rattle.kc_tree.specs.declared.node.Node.{Node};
-    ghost use Rattle.kc_tree.specs.Nodes.{node_in};
-    ghost use Rattle.kc_statement.specs.declared.limits.TheConstants.{MOST_SYMBOLS};
-
-    ghost Value = { List (List Node) };
-
-    ghost view = { λ r. map (map (node_in r.symbols)) r.rows };
-
-    ghost invariant = { λ r. r.symbols ≤ MOST_SYMBOLS };
-}
 
 /// The nodes that a node is computed from, or that are computed from it. Contracts see the list of those that are left.
 #[derive(Drop)]
@@ -49,27 +29,15 @@ impl<'a> Model for NodeRow<'a> {
     ghost invariant = { λ r. r.symbols ≤ MOST_SYMBOLS };
 }
 
-impl NodeRows {
-    /// The nodes of rows of numbers, in a tree of so many symbols.
-    pub(crate) fn of(symbols: usize, rows: SharedRows) -> NodeRows
-        requires { symbols ≤ MOST_SYMBOLS }
-        ensures { result ≡ map (map (node_in symbols)) rows }
-    {
-        NodeRows { symbols, rows }
-    }
-
-    /// The row of a number, empty past the last.
-    pub(crate) fn row(&self, number: usize) -> NodeRow<'_>
-        ensures { result ≡ slice_index_or self.now number [] }
-    {
-        NodeRow {
-            symbols: self.symbols,
-            left: self.rows.row(number),
-        }
-    }
-}
-
 impl<'a> NodeRow<'a> {
+    /// The nodes of the numbers of a row, in a tree of so many symbols.
+    pub(crate) fn of(symbols: usize, left: SharedRow<'a>) -> NodeRow<'a>
+        requires { symbols ≤ MOST_SYMBOLS }
+        ensures { result ≡ map (node_in symbols) left.entry }
+    {
+        NodeRow { symbols, left }
+    }
+
     /// Goes over the nodes that are left once more. This takes no memory.
     pub fn again(&self) -> NodeRow<'a>
         ensures { result ≡ self.now }

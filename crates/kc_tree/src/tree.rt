@@ -1,17 +1,18 @@
 ghost use Rattle.std.specs.Prelude.{◌≡◌, ◌<◌, IfSome, IfOk, IfErr, length, Contains, ◌↔◌};
 ghost use Rattle.kc_outline.specs.TreeValue.{symbol_named, name_of, modules_symbol};
-ghost use Rattle.kc_tree.specs.Nodes.{all_nodes, node_count, number_of, IsNodeOf};
+ghost use Rattle.kc_tree.specs.Nodes.{all_nodes, node_at, node_count, number_of, IsNodeOf};
 ghost use Rattle.kc_tree.specs.Uses.{Uses};
 ghost use Rattle.kc_tree.specs.Order.{IsOrder};
-ghost use Rattle.kc_tree.specs.Accepted.{IsAccepted};
+ghost use Rattle.kc_tree.specs.Accepted.{IsAccepted, IsSharedTable};
 ghost use Rattle.kc_tree.specs.Fits.{fits, fits_type};
 
 use crate::fault::TreeFault;
 use crate::link::link;
 use crate::node::Node;
-use crate::node_rows::{NodeRow, NodeRows};
+use crate::node_rows::NodeRow;
 use crate::nodes::Nodes;
 use crate::user_value::UserVal;
+use kc_graph::{Rows, SharedRows};
 use kc_outline::{Block, Choice, Comment, Definition, Entry, Outline, Symbol, read_outline};
 use kc_statement::{Seed, SymId, SymbolType, Tri, numeral};
 use kc_text::Line;
@@ -25,8 +26,8 @@ pub struct Tree {
     pub(crate) outline: Outline,
     pub(crate) modules: Option<SymId>,
     pub(crate) order: Vec<Node>,
-    pub(crate) uses: NodeRows,
-    pub(crate) used_by: NodeRows,
+    pub(crate) uses: SharedRows,
+    pub(crate) used_by: SharedRows,
 }
 
 impl Model for Tree {
@@ -199,6 +200,16 @@ impl Tree {
         node.number_in(self.outline.symbols().len())
     }
 
+    /// The node of a number, which is below the count of nodes.
+    pub fn node(&self, number: usize) -> Node
+        requires { number < node_count self.now }
+        ensures node { result ≡ node_at self.now number }
+        ensures inside { IsNodeOf self.now result }
+        ensures accepted { IsAccepted self.now }
+    {
+        Node::in_tree(self.outline.symbols().len(), number)
+    }
+
     /// Each node once, after all that it uses.
     pub fn order(&self) -> &[Node]
         ensures order { IsOrder self.now result.now }
@@ -213,7 +224,8 @@ impl Tree {
         ensures exact { (m : Node) → Contains result m ↔ Uses self.now node m }
         ensures accepted { IsAccepted self.now }
     {
-        self.uses.row(self.number(node))
+        let symbols = self.outline.symbols().len();
+        NodeRow::of(symbols, self.uses.row(node.number_in(symbols)))
     }
 
     /// The nodes that are computed from a node.
@@ -222,7 +234,26 @@ impl Tree {
         ensures exact { (m : Node) → Contains result m ↔ Uses self.now m node }
         ensures accepted { IsAccepted self.now }
     {
-        self.used_by.row(self.number(node))
+        let symbols = self.outline.symbols().len();
+        NodeRow::of(symbols, self.used_by.row(node.number_in(symbols)))
+    }
+
+    /// What all nodes are computed from, as it is kept: a row of numbers for each node, and behind these the lists that
+    /// rows share. In a row a number below the count of nodes is that of a node, and one from there on stands for the
+    /// nodes of the shared list of that number. Who goes over many rows goes over each shared list once.
+    pub fn use_table(&self) -> &Rows
+        ensures table { IsSharedTable self.now (Uses self.now) result.now }
+        ensures accepted { IsAccepted self.now }
+    {
+        self.uses.table()
+    }
+
+    /// What is computed from all nodes, as it is kept, in the form of `use_table`.
+    pub fn user_table(&self) -> &Rows
+        ensures table { IsSharedTable self.now (λ n m. Uses self.now m n) result.now }
+        ensures accepted { IsAccepted self.now }
+    {
+        self.used_by.table()
     }
 
     /// Whether a user value is one that the symbol takes: a bool takes n and y, a tristate n, m and y, a string all
