@@ -7,7 +7,7 @@ use Rattle.std.proofs.lemmas.List.{get_or-map, length-map, take-map, get_or-take
 use Rattle.std.proofs.lemmas.Option.{slice_get-get_or, slice_get_past}
 use Rattle.kc_tree.specs.declared.node.Node.{Node}
 use Rattle.kc_tree.specs.declared.node.Node.TheVariants.{Vis, Val, Mode, Sel}
-use Rattle.kc_tree.specs.Nodes.{node_in, number_of, node_at, IsNodeOf, IsNumbered}
+use Rattle.kc_tree.specs.Nodes.{node_in, number_in, number_of, node_at, IsNodeOf, IsNumbered}
 use Rattle.kc_outline.specs.TreeValue.{TreeValue}
 use Rattle.kc_tree.specs.Uses.{Uses, visibility_nodes, symbol_value_nodes, choice_prompt_nodes, choice_value_nodes}
 use Rattle.kc_tree.specs.Order.{IsOrder, IsLoop}
@@ -183,6 +183,15 @@ table_of_users t g users h c = record {
     λ u. let b = known t m (user_is_node t m n u) in in_row t users n m b (c.from_use (number_of t m) (number_of t n) (use_of_numbers t g h m n b (known t n i) u)),
   );
 }
+
+-- the nodes of the numbers of a row
+pub row_exact : (o t : TreeValue) (R : TreeValue → Node → Node → Type 0) (g : List (List ℕ)) (n : Node) (symbols k : ℕ) (numbers : List ℕ) (nodes : List Node) → o ≡ t → IsTableOf o (R o) g → IsNodeOf t n
+    → symbols ≡ length o.symbols → k ≡ number_in symbols n → numbers ≡ get_or g k [] → nodes ≡ map (node_in symbols) numbers → (m : Node) → Contains nodes m ↔ R t n m
+row_exact o t R g n symbols k numbers nodes same is inside few at there found m =
+    let place : k ≡ number_of o n = at ∙ ap (λ s. number_in s n) few in
+    let held : nodes ≡ map (node_at o) (get_or g (number_of o n) []) = found ∙ ap (λ s. map (node_in s) numbers) few ∙ ap (map (node_at o)) (there ∙ ap (λ j. get_or g j []) place) in
+    subst (λ x. Contains nodes m ↔ R x n m) same
+    (subst (λ ns. Contains ns m ↔ R o n m) (sym held) (is.exact n m (subst (λ x. IsNodeOf x n) (sym same) inside)))
 
 -- a table whose rows share lists
 pub shared_table : (t : TreeValue) (R : Node → Node → Type 0) (rows table : List (List ℕ)) → IsTableOf t R rows → IsShared (length rows) table

@@ -9,6 +9,7 @@ pub mod Defaults
 pub mod Dirty
 pub mod DropWalk
 pub mod ExprValue
+pub mod FillWalk
 pub mod Fresh
 pub mod Kept
 pub mod KnownConditions

@@ -17,6 +17,7 @@ mod fresh;
 mod gathering;
 mod kept_values;
 mod known_conditions;
+mod marks;
 mod meter;
 mod numeral;
 mod resolver;
