@@ -61,105 +61,13 @@ asked_nothing p r = record {
   fills = fills_wider r.tree [] p r.kept r.kept (λ n h. absurd (omega (arith, h.1.1))) (fills_nothing r.tree r.kept);
 }
 
-fills_of : (p : List Node) (old mid new : ResolverState) → mid.tree ≡ old.tree → Asked p mid new → Fills old.tree p mid.kept new.kept
-fills_of p old mid new same g = subst (λ x. Fills x p mid.kept new.kept) same g.fills
-
-still_kept : (p : List Node) (old mid new : ResolverState) (n : Node) → mid.tree ≡ old.tree → IsNodeOf old.tree n → IsKept old.tree mid.kept.values n → Asked p mid new
-    → IsKept old.tree new.kept.values n
-still_kept p old mid new n same inside kept g = kept_after old.tree old.tree p mid.kept new.kept n refl inside kept (fills_of p old mid new same g)
-
--- ---- a pass over symbols or choices: it asked some of the nodes, and has those of the numbers so far
-pub record HasAsked (nodes : List Node) (low high : ℕ) (old new : ResolverState) : Type 0 where
-  pub asked : Asked nodes old new
-  pub kept : (n : Node) → IsNodeOf old.tree n → low ≤ number_of old.tree n → number_of old.tree n < high → IsKept old.tree new.kept.values n
-
-begun : (nodes : List Node) (low high : ℕ) (r : ResolverState) → high ≤ low → HasAsked nodes low high r r
-begun nodes low high r none = record {
-  asked = asked_nothing nodes r;
-  kept = λ n inside from below. absurd (omega (arith, none, from, below));
-}
-
--- two nodes of neighbouring numbers more
-two_more : (t : TreeValue) (kept : List (Option Value)) (a b : Node) (low high : ℕ) → IsNodeOf t a → IsNodeOf t b → number_of t a ≡ high → number_of t b ≡ high + 1
-    → IsKept t kept a → IsKept t kept b → ((n : Node) → IsNodeOf t n → low ≤ number_of t n → number_of t n < high → IsKept t kept n)
-    → (n : Node) → IsNodeOf t n → low ≤ number_of t n → number_of t n < high + 2 → IsKept t kept n
-two_more t kept a b low high at_a at_b is_a is_b kept_a kept_b before n inside from below =
-    ⊎_elim
-    (λ h. before n inside from h)
-    (λ h.
-    ⊎_elim
-    (λ (e : number_of t n ≡ high). subst (λ m. IsKept t kept m) (same_node t a n at_a inside (is_a ∙ sym e)) kept_a)
-    (λ other.
-    let last : number_of t n ≡ high + 1 = omega (arith, h, below, other) in
-    subst (λ m. IsKept t kept m) (same_node t b n at_b inside (is_b ∙ sym last)) kept_b)
-    (cases_eq (number_of t n) high))
-    (cases_lt (number_of t n) high)
-
-all_done : (nodes : List Node) (low count high : ℕ) (old new : ResolverState) → nodes ≡ numbered old.tree low count → low + count ≤ node_count old.tree → low + count ≤ high
-    → HasAsked nodes low high old new → AreAllKept nodes new
-all_done nodes low count high old new are few enough h n c =
-    let r = from_numbered old.tree low count n few (subst (λ xs. Contains xs n) are c) in
-    subst (λ x. IsKept x new.kept.values n) (sym h.asked.tree) (h.kept n r.0 r.1 (omega (arith, r.2, enough)))
-
 -- ---- symbols
 symbol_in : (t : TreeValue) (s : SymId) → s.0 < length t.symbols → Contains (symbol_nodes t) (Val s)
 symbol_in t s inside = in_numbered t 0 (2 * length t.symbols) (Val s) inside (omega arith) (omega (arith, inside))
 
-pub symbol_asked : (s : SymId) (old mid new : ResolverState) → s.0 < length old.tree.symbols → Asked (symbol_nodes old.tree) old mid → Asked (Val s ∷ []) mid new
-    → Asked (symbol_nodes old.tree) old new
-symbol_asked s old mid new inside f g = asked_again (symbol_nodes old.tree) (Val s ∷ []) old mid new (only_one (symbol_nodes old.tree) (Val s) (symbol_in old.tree s inside)) f g
-
-pub symbols_begun : (r : ResolverState) → HasAsked (symbol_nodes r.tree) 0 0 r r
-symbols_begun r = begun (symbol_nodes r.tree) 0 0 r (omega arith)
-
-pub symbols_more : (s : SymId) (old mid new : ResolverState) → s.0 < length old.tree.symbols → HasAsked (symbol_nodes old.tree) 0 (2 * s.0) old mid
-    → Asked (Val s ∷ []) mid new → IsKept mid.tree new.kept.values (Val s) → IsResolving new → HasAsked (symbol_nodes old.tree) 0 (2 * (s.0 + 1)) old new
-symbols_more s old mid new inside h g own sound =
-    let value : IsKept old.tree new.kept.values (Val s) = subst (λ x. IsKept x new.kept.values (Val s)) h.asked.tree own in
-    let closed : IsClosed old.tree new.kept.values = subst (λ x. IsClosed x new.kept.values) (g.tree ∙ h.asked.tree) sound.kept.closed in
-    let seen : IsKept old.tree new.kept.values (Vis s) = visibility_kept old.tree new.kept.values s closed inside value in
-    record {
-      asked = symbol_asked s old mid new inside h.asked g;
-      kept = λ n at from below.
-          two_more old.tree new.kept.values (Vis s) (Val s) 0 (2 * s.0) inside inside refl refl seen value
-          (λ m in_m from_m below_m. still_kept (Val s ∷ []) old mid new m h.asked.tree in_m (h.kept m in_m from_m below_m) g)
-          n at from (omega (arith, below));
-    }
-
-pub symbols_done : (k : ℕ) (old new : ResolverState) → length old.tree.symbols ≤ k → HasAsked (symbol_nodes old.tree) 0 (2 * k) old new → AreAllKept (symbol_nodes old.tree) new
-symbols_done k old new enough h = all_done (symbol_nodes old.tree) 0 (2 * length old.tree.symbols) (2 * k) old new refl (omega arith) (omega (arith, enough)) h
-
 -- ---- choices
 choice_in : (t : TreeValue) (c : ChoiceId) → c.0 < length t.choices → Contains (choice_nodes t) (Sel c)
 choice_in t c inside = in_numbered t (2 * length t.symbols) (2 * length t.choices) (Sel c) inside (omega arith) (omega (arith, inside))
-
-pub choice_asked : (c : ChoiceId) (old mid new : ResolverState) → c.0 < length old.tree.choices → Asked (choice_nodes old.tree) old mid → Asked (Sel c ∷ []) mid new
-    → Asked (choice_nodes old.tree) old new
-choice_asked c old mid new inside f g = asked_again (choice_nodes old.tree) (Sel c ∷ []) old mid new (only_one (choice_nodes old.tree) (Sel c) (choice_in old.tree c inside)) f g
-
-pub choices_begun : (r : ResolverState) → HasAsked (choice_nodes r.tree) (2 * length r.tree.symbols) (2 * (length r.tree.symbols + 0)) r r
-choices_begun r = begun (choice_nodes r.tree) (2 * length r.tree.symbols) (2 * (length r.tree.symbols + 0)) r (omega arith)
-
-pub choices_more : (c : ChoiceId) (old mid new : ResolverState) → c.0 < length old.tree.choices
-    → HasAsked (choice_nodes old.tree) (2 * length old.tree.symbols) (2 * (length old.tree.symbols + c.0)) old mid
-    → Asked (Sel c ∷ []) mid new → IsKept mid.tree new.kept.values (Sel c) → IsResolving new
-    → HasAsked (choice_nodes old.tree) (2 * length old.tree.symbols) (2 * (length old.tree.symbols + (c.0 + 1))) old new
-choices_more c old mid new inside h g own sound =
-    let value : IsKept old.tree new.kept.values (Sel c) = subst (λ x. IsKept x new.kept.values (Sel c)) h.asked.tree own in
-    let closed : IsClosed old.tree new.kept.values = subst (λ x. IsClosed x new.kept.values) (g.tree ∙ h.asked.tree) sound.kept.closed in
-    let mode : IsKept old.tree new.kept.values (Mode c) = mode_kept old.tree new.kept.values c closed inside value in
-    record {
-      asked = choice_asked c old mid new inside h.asked g;
-      kept = λ n at from below.
-          two_more old.tree new.kept.values (Mode c) (Sel c) (2 * length old.tree.symbols) (2 * (length old.tree.symbols + c.0)) inside inside refl refl mode value
-          (λ m in_m from_m below_m. still_kept (Sel c ∷ []) old mid new m h.asked.tree in_m (h.kept m in_m from_m below_m) g)
-          n at from (omega (arith, below));
-    }
-
-pub choices_done : (k : ℕ) (old new : ResolverState) → length old.tree.choices ≤ k
-    → HasAsked (choice_nodes old.tree) (2 * length old.tree.symbols) (2 * (length old.tree.symbols + k)) old new → AreAllKept (choice_nodes old.tree) new
-choices_done k old new enough h =
-    all_done (choice_nodes old.tree) (2 * length old.tree.symbols) (2 * length old.tree.choices) (2 * (length old.tree.symbols + k)) old new refl (omega arith) (omega (arith, enough)) h
 
 -- ---- all nodes
 pub all_kept : (t s : TreeValue) (kept : List (Option Value)) → s ≡ t → ((n : Node) → IsNodeOf s n → IsKept s kept n) → (n : Node) → Contains (all_nodes t) n → IsKept s kept n

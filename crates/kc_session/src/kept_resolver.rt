@@ -8,9 +8,7 @@ ghost use Rattle.kc_value.specs.Kept.{is_kept, nothing_kept, IsKept};
 ghost use Rattle.kc_value.specs.Solution.{solution, IsOnlySolution};
 ghost use Rattle.kc_value.specs.UserValues.{UserValues, IsUserFor, no_values};
 
-use crate::choices::choice_count;
-use crate::show::symbol_count;
-use kc_tree::{ChoiceId, Node, SymId, Tree};
+use kc_tree::{Node, Tree};
 use kc_value::{KeptValues, Resolver, User, Value};
 use std::alloc::{AllocError, Global};
 use std::marker::Model;
@@ -139,29 +137,26 @@ impl KeptResolver {
     /// Evaluates the visibility and the value of each symbol, as far as they are not kept.
     ///
     /// The error comes where memory is refused.
-    #[tactic(auto, using(crate::proofs::AskedLaws::symbols_begun))]
     pub(crate) fn fill_symbols(&mut self) -> Result<(), AllocError>
         ensures asked { Asked (symbol_nodes self.old.tree) self.old self.new }
         ensures done { OnOk result (AreAllKept (symbol_nodes self.old.tree) self.new) }
     {
-        for number in 0..symbol_count(self.tree()) {
-            self.fill(Node::Val(SymId(number)))?;
-        }
-        Ok(())
+        let count = 2 * self.tree.symbols().len();
+        self.kept
+            .fill_numbers(self.alloc, &self.tree, &self.user, 0, count)
     }
 
     /// Evaluates the mode and the selection of each choice, as far as they are not kept.
     ///
     /// The error comes where memory is refused.
-    #[tactic(auto, using(crate::proofs::AskedLaws::choices_begun))]
     pub(crate) fn fill_choices(&mut self) -> Result<(), AllocError>
         ensures asked { Asked (choice_nodes self.old.tree) self.old self.new }
         ensures done { OnOk result (AreAllKept (choice_nodes self.old.tree) self.new) }
     {
-        for number in 0..choice_count(self.tree()) {
-            self.fill(Node::Sel(ChoiceId(number)))?;
-        }
-        Ok(())
+        let first = 2 * self.tree.symbols().len();
+        let count = 2 * self.tree.choices().len();
+        self.kept
+            .fill_numbers(self.alloc, &self.tree, &self.user, first, count)
     }
 
     /// Evaluates all nodes, as far as they are not kept.

@@ -54,6 +54,14 @@ module _ (t : TreeValue) (kept : List (Option Value)) (x : Node) (v : Value) (at
   pub value_there : (n : Node) → (number_of t n ≡ number_of t x → ⊥) → value_at t added n ≡ value_at t kept n
   value_there n differs = get_or-set_other kept (number_of t x) (number_of t n) (Some v) None differs
 
+  -- a number that had a value has one
+  pub value_stays : (k : ℕ) → is_some (get_or kept k None) ≡ true → is_some (get_or added k None) ≡ true
+  value_stays k h =
+      ⊎_elim
+      (λ e. ap (λ j. is_some (get_or added j None)) e ∙ ap is_some value_here)
+      (λ differs. ap is_some (get_or-set_other kept (number_of t x) k (Some v) None differs) ∙ h)
+      (cases_eq k (number_of t x))
+
   pub stays_kept : (n : Node) → IsKept t kept n → IsKept t added n
   stays_kept n h =
       ⊎_elim

@@ -20,6 +20,7 @@ pub mod KeptLaws
 pub mod KeptReading
 pub mod KnownLaws
 pub mod ModeLaws
+pub mod NumberedSteps
 pub mod NumeralLemmas
 pub mod OrderSteps
 pub mod PartLemmas

@@ -1,6 +1,6 @@
 //! Evaluating what nodes are computed from, and the nodes, as far as they are not kept.
 
-ghost use Rattle.std.specs.Prelude.{◌≡◌, ◌+◌, ◌<◌, ◌≤◌, ◌×◌, ℕ, [], ◌∷◌, false, Contains, IfSome, IfNone, IfOk, OnOk, IsOk, is_some, length, map, slice_index_or};
+ghost use Rattle.std.specs.Prelude.{◌≡◌, ◌+◌, ◌<◌, ◌≤◌, ℕ, [], ◌∷◌, false, Contains, IfSome, IfNone, IfOk, OnOk, IsOk, is_some, length, map, slice_index_or};
 ghost use Rattle.std.specs.List.{range_with_len};
 ghost use Rattle.kc_graph.specs.Graph.{row};
 ghost use Rattle.kc_graph.specs.Shared.{Holds, IsShared, stands_for};
@@ -189,6 +189,7 @@ impl KeptValues {
     /// after all that it uses, and keeps the values. A node that is kept takes nothing: no evaluation and no memory.
     ///
     /// The error comes where memory is refused; what was evaluated before is kept and counted then.
+    #[tactic(auto, using(crate::proofs::StepLemmas::none_marked))]
     pub fn fill(
         &mut self,
         alloc: Global,
@@ -203,12 +204,12 @@ impl KeptValues {
         ensures done { OnOk result (IsKept tree.now self.new.values node) }
         ensures known { IsKept tree.now self.old.values node → IsOk result }
     {
-        if self.is_kept(tree, node) {
-            return Ok(());
+        if !self.is_kept(tree, node) {
+            let table = tree.use_table();
+            let mut marks = no_marks(alloc, tree, table)?;
+            self.fill_over(alloc, tree, user, table, &mut marks, node)?;
         }
-        let table = tree.use_table();
-        let mut marks = no_marks(alloc, tree, table)?;
-        self.fill_over(alloc, tree, user, table, &mut marks, node)
+        Ok(())
     }
 
     /// Evaluates so many nodes, from one number on, and all that they are computed from, as far as they are not kept. A
