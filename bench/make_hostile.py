@@ -83,7 +83,7 @@ def sourced_files(size):
 
 def files_behind_comments(size):
     """So many lines that source a file in a form that is not read ahead, behind 75 times as many comments."""
-    return comments(61 * 75 * size) + "".join(f"source 'part{at}'\n" for at in range(size))
+    return comments(61 * 75 * size) + "".join(f"source \"p\\art{at}\"\n" for at in range(size))
 
 
 def definitions(size):

@@ -4,6 +4,7 @@ ghost use Rattle.kc_tree.specs.Nodes.{IsNodeOf};
 
 use crate::parsing::shown;
 use crate::showing::node_word;
+use kc_graph::Rows;
 use kc_tables::{rows, two_fields};
 use kc_tree::{Node, NodeRow, Tree};
 use std::alloc::{AllocError, Global};
@@ -86,10 +87,34 @@ fn is_use_from_both_sides(tree: &Tree, node: Node, other: Node) -> bool {
     }
 }
 
+/// Whether a row of a table has a number, itself or in a list that rows share.
+fn holds(table: &Rows, count: usize, row: usize, number: usize) -> bool {
+    table.row(row).iter().any(|own| {
+        let own = *own as usize;
+        own == number
+            || (own >= count
+                && table
+                    .row(own)
+                    .iter()
+                    .any(|shared| *shared as usize == number))
+    })
+}
+
+/// Whether the tables of a tree say of two nodes what `uses` says.
+fn is_use_in_tables(tree: &Tree, node: Node, other: Node) -> bool {
+    let (count, from, to) = (tree.node_count(), tree.number(node), tree.number(other));
+    let is_use = match uses(tree, node) {
+        Some(mut used) => used.any(|used| used == other),
+        None => false,
+    };
+    holds(tree.use_table(), count, from, to) == is_use
+        && holds(tree.user_table(), count, to, from) == is_use
+}
+
 /// Whether the nodes that a node uses are those that it is among the users of.
 fn is_among_users(tree: &Tree, node: Node) -> bool {
-    tree.nodes()
-        .all(|other| is_use_from_both_sides(tree, node, other))
+    tree.nodes().all(|other| is_use_from_both_sides(tree, node, other)
+        && is_use_in_tables(tree, node, other))
 }
 
 /// How many nodes a tree has, or what is wrong with their order or their uses.

@@ -113,10 +113,18 @@ fn quoted_at(text: &str, place: usize, reach: Reach) -> Option<&str> {
         Reach::Unindented | Reach::Nothing => before,
     };
     let named = text.get(place..)?.strip_prefix(SOURCE)?;
-    let quoted = named.trim_start_matches([' ', '\t']).strip_prefix('"')?;
-    let path = quoted.get(..memchr(b'"', quoted.as_bytes())?)?;
+    let path = in_quotes(named.trim_start_matches([' ', '\t']))?;
     let begins_line = before.is_empty() || before.ends_with('\n');
     (begins_line && is_on_one_line(path)).then_some(path)
+}
+
+/// What stands between the quotes of either kind with which a text begins, up to the first of its kind.
+fn in_quotes(text: &str) -> Option<&str> {
+    let (quote, quoted) = match text.strip_prefix('\'') {
+        Some(quoted) => (b'\'', quoted),
+        None => (b'"', text.strip_prefix('"')?),
+    };
+    quoted.get(..memchr(quote, quoted.as_bytes())?)
 }
 
 /// Whether a text in quotes is on one line and has no backslash, so that it stands for itself but for references.

@@ -38,14 +38,24 @@ impl Folder for ManyFiles<'_> {
     }
 }
 
-/// Lines that source so many files, each as `BEFORE` and its number.
-fn sourcing(alloc: Global, before: &str, count: usize) -> Result<String, AllocError> {
+/// Lines that source so many files, each as `BEFORE` and its number in quotes of a kind.
+fn sourcing_in(
+    alloc: Global,
+    quote: char,
+    before: &str,
+    count: usize,
+) -> Result<String, AllocError> {
     let mut text = String::new(alloc);
     for number in 0..count {
-        let line = format!(in alloc; "source \"{before}{number}\"\n")?;
+        let line = format!(in alloc; "source {quote}{before}{number}{quote}\n")?;
         text.push_str(line.as_str())?;
     }
     Ok(text)
+}
+
+/// The same in double quotes.
+fn sourcing(alloc: Global, before: &str, count: usize) -> Result<String, AllocError> {
+    sourcing_in(alloc, '"', before, count)
 }
 
 /// A run over a top file, with how many files were read since they were wanted.
@@ -63,22 +73,28 @@ fn run_many(alloc: Global, kconfig: &str, others: &str) -> (Outcome, usize) {
 #[test]
 fn references_in_paths_are_followed(rt: HostRuntime) -> Result<(), Fail> {
     let rows = [
-        ("", "f"),
-        ("", "$(D)/f"),
-        ("", "a/$(E)$(D)/f"),
-        ("", "$(NONE)f"),
-        ("F := d\n", "$(F)/f"),
-        ("F = $(D)\nG:=a/$(F)\n", "$(G)/f"),
-        ("D := other\n", "$(D)/f"),
+        ("", '"', "f"),
+        ("", '\'', "f"),
+        ("", '"', "$(D)/f"),
+        ("", '\'', "$(D)/f"),
+        ("", '"', "a/$(E)$(D)/f"),
+        ("", '"', "$(NONE)f"),
+        ("F := d\n", '"', "$(F)/f"),
+        ("F = $(D)\nG:=a/$(F)\n", '"', "$(G)/f"),
+        ("D := other\n", '"', "$(D)/f"),
     ];
-    for (lines, before) in rows {
+    for (lines, quote, before) in rows {
         let mut kconfig = String::from_str(rt.alloc(), lines)?;
-        let sources = sourcing(rt.alloc(), before, 20)?;
+        let sources = sourcing_in(rt.alloc(), quote, before, 20)?;
         kconfig.push_str(sources.as_str())?;
         let (outcome, wanted) = run_many(rt.alloc(), kconfig.as_str(), "");
-        assert_eq!(rt; outcome.errors.as_slice(), b"".as_slice(), "at {before:?}");
-        assert_eq!(rt; outcome.status, 0, "at {before:?}");
-        assert_eq!(rt; wanted, 1, "at {before:?}");
+        assert_eq!(rt;
+            outcome.errors.as_slice(),
+            b"".as_slice(),
+            "at {quote}{before}"
+        );
+        assert_eq!(rt; outcome.status, 0, "at {quote}{before}");
+        assert_eq!(rt; wanted, 1, "at {quote}{before}");
     }
     Ok(())
 }
