@@ -1,22 +1,25 @@
--- The walk that drops what is computed from a node.
-use Rattle.std.proofs.Common.{◌≡◌, ◌⊎◌, inl, inr, ℕ, zero, suc, ◌+◌, ◌<◌, ◌≤◌, true, true≢false, List, [], ◌∷◌, ◌++◌, Option, Some, None, length, take, get_or, set, refl, sym, ap, ◌∙◌, subst, ⊎_elim, get_or-set_other, length-append, arith}
+-- The walk that drops what is computed from some nodes.
+use Rattle.std.proofs.Common.{◌≡◌, ◌⊎◌, inl, inr, ℕ, zero, suc, ◌+◌, ◌<◌, ◌≤◌, Bool, true, false, true≢false, List, [], ◌∷◌, ◌++◌, Option, Some, None, length, map, take, get_or, set, slice_set, slice_index_or, refl, sym, ap, ◌∙◌, subst, ⊎_elim, get_or-set_other, length-append, arith}
 use Rattle.std.specs.Prelude.{is_some}
 use Rattle.std.specs.List.{Contains}
 use Rattle.std.proofs.lemmas.Bool.{cases_eq}
-use Rattle.std.proofs.lemmas.List.{take_more, length-set}
+use Rattle.std.proofs.lemmas.List.{flat_map_more, length-set, map-append, take_more}
 use Rattle.std.proofs.lemmas.List.Elements.{Contains-push, Contains-push_cases, Contains-append_left, Contains-append_right, Contains-append_cases}
 use Rattle.std.proofs.lemmas.Option.{none-some}
+use Rattle.kc_graph.specs.Graph.{row}
+use Rattle.kc_graph.specs.Shared.{IsShared, stands_for, whole_row, whole_rows}
+use Rattle.kc_graph.proofs.SharedLaws.{holds_from_use, row-whole_rows, use_from_holds, whole-within}
 use Rattle.kc_outline.specs.TreeValue.{TreeValue}
 use Rattle.kc_tree.specs.declared.node.Node.{Node}
-use Rattle.kc_tree.specs.Accepted.{IsAccepted}
-use Rattle.kc_tree.specs.Nodes.{IsNodeOf, number_of}
+use Rattle.kc_tree.specs.Accepted.{IsAccepted, IsSharedTable}
+use Rattle.kc_tree.specs.Nodes.{IsNodeOf, node_at, node_count, number_of}
 use Rattle.kc_tree.specs.Reached.{Leads, here, step}
 use Rattle.kc_tree.specs.Uses.{Uses}
-use Rattle.kc_tree.proofs.NodeNumbers.{same_node}
+use Rattle.kc_tree.proofs.NodeNumbers.{at_below, Contains-at, Contains-from_at, Contains-map, node_at-number_of, number_below, number_of-node_at, same_node}
 use Rattle.kc_value.specs.declared.value.Value.{Value}
 use Rattle.kc_value.specs.Assignment.{value_at}
 use Rattle.kc_value.specs.Dirty.{Drops}
-use Rattle.kc_value.specs.DropWalk.{DropsAll}
+use Rattle.kc_value.specs.DropWalk.{AreWalked, DropsAll, IsDropping, IsFrom}
 use Rattle.kc_value.specs.Kept.{IsKept, IsClosed, kept_count}
 use Rattle.kc_value.proofs.KeptCounts.{kept_count-within}
 use Rattle.kc_value.proofs.SlotLemmas.{none_set}
@@ -57,7 +60,7 @@ was_kept t old new n P each h = ⊎_elim (λ same. ap is_some (sym same) ∙ h) 
 in_one : (x n : Node) → x ≡ n → Contains (x ∷ []) n
 in_one x n e = (0, omega arith, e)
 
-of_one : (x n : Node) → Contains (x ∷ []) n → x ≡ n
+pub of_one : (x n : Node) → Contains (x ∷ []) n → x ≡ n
 of_one x n c = ⊎_elim (λ none. absurd (omega (arith, none.1))) (λ e. e) (Contains-push_cases [] x n c)
 
 -- ---- one node that has a value
@@ -121,59 +124,152 @@ module _ (t : TreeValue) (p q : List Node) (old mid new : List (Option Value)) (
     room = omega (arith, a.room, b.room);
   }
 
--- ---- the walk
--- The start has no value, nor have some nodes that are computed from it, and the others are as they were. What a kept
--- node uses is kept, or listed.
-pub record IsDropping (t : TreeValue) (start : Node) (old new : List (Option Value)) (list : List Node) : Type 0 where
-  pub whole : length new ≡ length old
-  pub started : value_at t new start ≡ None
-  pub each : (n : Node) → IsNodeOf t n → (value_at t new n ≡ value_at t old n) ⊎ ((value_at t new n ≡ None) × Leads t n start)
-  pub listed : (n : Node) → Contains list n → IsNodeOf t n × Leads t n start
-  pub closed : (n m : Node) → IsNodeOf t n → IsKept t new n → Uses t n m → IsKept t new m ⊎ Contains list m
-  pub room : length list + kept_count new ≤ length new
+-- nodes that have no value
+pub drops_valueless : (t : TreeValue) (nodes : List Node) (old : List (Option Value)) (list : List Node) → ((n : Node) → IsNodeOf t n → Contains nodes n → value_at t old n ≡ None)
+    → DropsAll t nodes old old list list
+drops_valueless t nodes old list none = record {
+  whole = refl;
+  each = λ n at. inl refl;
+  dropped = none;
+  stays = λ n c. c;
+  listed = λ n c. inl c;
+  found = λ n at k. inl k;
+  room = omega arith;
+}
 
-module _ (t : TreeValue) (accepted : IsAccepted t) (start : Node) (inside : IsNodeOf t start) (old : List (Option Value)) (was : IsClosed t old) where
-  pub walk_begun : (new : List (Option Value)) (list : List Node) → DropsAll t (start ∷ []) old new [] list → IsDropping t start old new list
-  walk_begun new list one = record {
-    whole = one.whole;
-    started = one.dropped start inside (in_one start start refl);
-    each = λ n at. ⊎_elim (λ same. inl same) (λ none. inr (none.0, from_start n (of_one start n none.1))) (one.each n at);
-    listed = λ n c. let same : start ≡ n = ⊎_elim (λ none. absurd (omega (arith, none.1))) (λ m. of_one start n m) (one.listed n c) in (subst (λ m. IsNodeOf t m) same inside, from_start n same);
-    closed = λ n m at k uses. one.found m (accepted.within n m at uses) (was.closed n m at (was_kept t old new n (Contains (start ∷ []) n) (one.each n at) k) uses);
-    room = let e : length new ≡ length old = one.whole in omega (arith, one.room, kept_count-within old);
+-- ---- the numbers of a list, one after another
+module _ (t : TreeValue) (numbers : List ℕ) (i : ℕ) (old mid new : List (Option Value)) (first second third : List Node) (d : ℕ) (within : i < length numbers) where
+  pub listed_next : DropsAll t (map (node_at t) (take i numbers)) old mid first second → DropsAll t (node_at t (get_or numbers i d) ∷ []) mid new second third
+      → DropsAll t (map (node_at t) (take (i + 1) numbers)) old new first third
+  listed_next a b =
+      let x = get_or numbers i d in
+      let more : map (node_at t) (take (i + 1) numbers) ≡ map (node_at t) (take i numbers) ++ node_at t x ∷ [] = ap (map (node_at t)) (take_more numbers i d within) ∙ map-append (node_at t) (take i numbers) (x ∷ []) in
+      subst (λ ns. DropsAll t ns old new first third) (sym more) (drops_then t (map (node_at t) (take i numbers)) (node_at t x ∷ []) old mid new first second third a b)
+
+  module _ (g : List (List ℕ)) where
+    abbrev stood_for : ℕ → List ℕ
+    stood_for k = stands_for (node_count t) g k
+
+    pub row_next : DropsAll t (map (node_at t) (whole_row (node_count t) g (take i numbers))) old mid first second → DropsAll t (map (node_at t) (stood_for (get_or numbers i d))) mid new second third
+        → DropsAll t (map (node_at t) (whole_row (node_count t) g (take (i + 1) numbers))) old new first third
+    row_next a b =
+        let x = get_or numbers i d in
+        let front = whole_row (node_count t) g (take i numbers) in
+        let whole : whole_row (node_count t) g (take (i + 1) numbers) ≡ front ++ stood_for x = ap (whole_row (node_count t) g) (take_more numbers i d within) ∙ sym (flat_map_more stood_for [] (take i numbers) x) in
+        let more : map (node_at t) (whole_row (node_count t) g (take (i + 1) numbers)) ≡ map (node_at t) front ++ map (node_at t) (stood_for x) = ap (map (node_at t)) whole ∙ map-append (node_at t) front (stood_for x) in
+        subst (λ ns. DropsAll t ns old new first third) (sym more) (drops_then t (map (node_at t) front) (map (node_at t) (stood_for x)) old mid new first second third a b)
+
+-- ---- the marks of shared lists
+module _ (t : TreeValue) (g : List (List ℕ)) (marks : List Bool) where
+  pub none_walked : (values : List (Option Value)) → ((k : ℕ) → slice_index_or marks k false ≡ false) → AreWalked t g marks values
+  none_walked values none k q is c = absurd (true≢false (sym is ∙ none k))
+
+  module _ (shared : IsShared (node_count t) g) (old : List (Option Value)) (walked : AreWalked t g marks old) where
+    -- the node of a number in a shared list
+    at_shared : (k q : ℕ) → Contains (row g (node_count t + k)) q → IsNodeOf t (node_at t q)
+    at_shared k q c = at_below t q (shared.shared (node_count t + k) q (omega arith) c)
+
+    by_number : (values : List (Option Value)) (q : ℕ) → value_at t values (node_at t q) ≡ slice_index_or values q None
+    by_number values q = ap (λ k. slice_index_or values k None) (number_of-node_at t q)
+
+    -- a marked list has no node with a value
+    pub marked_valueless : (k : ℕ) → slice_index_or marks k false ≡ true → (n : Node) → IsNodeOf t n → Contains (map (node_at t) (row g (node_count t + k))) n → value_at t old n ≡ None
+    marked_valueless k is n at c = walked k (number_of t n) is (Contains-from_at (length t.symbols) (row g (node_count t + k)) n c).1
+
+    module _ (nodes : List Node) (new : List (Option Value)) (before after : List Node) where
+      -- that stays so while more values are dropped
+      pub walked_after : DropsAll t nodes old new before after → AreWalked t g marks new
+      walked_after drops k q is c =
+          ⊎_elim
+          (λ same. sym (by_number new q) ∙ same ∙ by_number old q ∙ walked k q is c)
+          (λ none. sym (by_number new q) ∙ none.0)
+          (drops.each (node_at t q) (at_shared k q c))
+
+    -- and so for a list that is marked once its nodes are dropped
+    pub walked_more : (place : ℕ) (new : List (Option Value)) (before after : List Node) → DropsAll t (map (node_at t) (row g (node_count t + place))) old new before after
+        → AreWalked t g (slice_set marks place true) new
+    walked_more place new before after drops k q is c =
+        ⊎_elim
+        (λ (same : k ≡ place).
+        let here : Contains (row g (node_count t + place)) q = subst (λ j. Contains (row g (node_count t + j)) q) same c in
+        sym (by_number new q) ∙ drops.dropped (node_at t q) (at_shared place q here) (Contains-map (node_at t) (row g (node_count t + place)) q here))
+        (λ other. walked_after (map (node_at t) (row g (node_count t + place))) new before after drops k q (sym (get_or-set_other marks place k true false other) ∙ is) c)
+        (cases_eq k place)
+
+-- ---- the users of a node in a table
+module _ (t : TreeValue) (g : List (List ℕ)) (table : IsSharedTable t (λ n m. Uses t m n) g) (x : Node) (inside : IsNodeOf t x) where
+  abbrev pub users_in : List Node
+  users_in = map (node_at t) (whole_row (node_count t) g (row g (number_of t x)))
+
+  whole : row (whole_rows (node_count t) g) (number_of t x) ≡ whole_row (node_count t) g (row g (number_of t x))
+  whole = row-whole_rows (node_count t) g (number_of t x) (number_below t x inside)
+
+  pub users_only : (m : Node) → Contains users_in m → Uses t m x
+  users_only m c =
+      let found = Contains-from_at (length t.symbols) (whole_row (node_count t) g (row g (number_of t x))) m c in
+      let uses : Contains (row (whole_rows (node_count t) g) (number_of t x)) (number_of t m) = subst (λ xs. Contains xs (number_of t m)) (sym whole) found.1 in
+      let holds = (holds_from_use (node_count t) g (number_of t x) (number_of t m) table.shared.few uses).1 in
+      let at : IsNodeOf t m = subst (λ n. IsNodeOf t n) found.0 (at_below t (number_of t m) (whole-within (node_count t) g (number_of t x) (number_of t m) table.shared holds)) in
+      (table.exact x m inside at).0 holds
+
+  pub users_all : (m : Node) → Uses t m x → Contains users_in m
+  users_all m uses =
+      let at : IsNodeOf t m = user_node t m x uses in
+      let holds = (table.exact x m inside at).1 uses in
+      let found = use_from_holds (node_count t) g (number_of t x) (number_of t m) (number_below t x inside) holds in
+      Contains-at (length t.symbols) (whole_row (node_count t) g (row g (number_of t x))) m (node_at-number_of t m at) (subst (λ xs. Contains xs (number_of t m)) whole found)
+
+-- ---- the walk
+-- it begins with a list that was cleared, over values that are those of before
+pub drops_begun : (t : TreeValue) (starts : List Node) (held old new : List (Option Value)) (cleared list : List Node) → held ≡ old → cleared ≡ [] → DropsAll t starts held new cleared list
+    → DropsAll t starts old new [] list
+drops_begun t starts held old new cleared list values none drops =
+    subst (λ vs. DropsAll t starts vs new [] list) values (subst (λ xs. DropsAll t starts held new xs list) none drops)
+
+pub listed_inside : (t : TreeValue) (starts : List Node) (old new : List (Option Value)) (list : List Node) → ((n : Node) → Contains starts n → IsNodeOf t n)
+    → DropsAll t starts old new [] list → (n : Node) → Contains list n → IsNodeOf t n
+listed_inside t starts old new list inside drops n c = ⊎_elim (λ none. absurd (omega (arith, none.1))) (λ start. inside n start) (drops.listed n c)
+
+module _ (t : TreeValue) (accepted : IsAccepted t) (starts : List Node) (old : List (Option Value)) (was : IsClosed t old) where
+  pub walk_begun : (new : List (Option Value)) (list : List Node) → DropsAll t starts old new [] list → IsDropping t starts old new list
+  walk_begun new list drops = record {
+    whole = drops.whole;
+    started = drops.dropped;
+    each = λ n at. ⊎_elim (λ same. inl same) (λ none. inr (none.0, from_start n none.1)) (drops.each n at);
+    listed = λ n c. ⊎_elim (λ none. absurd (omega (arith, none.1))) (λ start. from_start n start) (drops.listed n c);
+    closed = λ n m at k uses. drops.found m (accepted.within n m at uses) (was.closed n m at (was_kept t old new n (Contains starts n) (drops.each n at) k) uses);
   }
     where
-      from_start : (n : Node) → start ≡ n → Leads t n start
-      from_start n e = subst (λ m. Leads t m start) e here
+      from_start : (n : Node) → Contains starts n → IsFrom t starts n
+      from_start n c = (n, c, here)
 
   -- the users of a node that was listed are dropped
   pub walk_next : (now new : List (Option Value)) (front list users : List Node) (x : Node) → ((m : Node) → Contains users m → Uses t m x) → ((m : Node) → Uses t m x → Contains users m)
-      → IsDropping t start old now (front ++ x ∷ []) → DropsAll t users now new front list → IsDropping t start old new list
+      → IsDropping t starts old now (front ++ x ∷ []) → DropsAll t users now new front list → IsDropping t starts old new list
   walk_next now new front list users x only all walk more = record {
     whole = more.whole ∙ walk.whole;
-    started = ⊎_elim (λ same. same ∙ walk.started) (λ none. none.0) (more.each start inside);
+    started = λ n at c. ⊎_elim (λ same. same ∙ walk.started n at c) (λ none. none.0) (more.each n at);
     each = λ n at. ⊎_elim
         (λ same. ⊎_elim (λ before. inl (same ∙ before)) (λ none. inr (same ∙ none.0, none.1)) (walk.each n at))
         (λ none. inr (none.0, from_user n none.1))
         (more.each n at);
     listed = λ n c. ⊎_elim
         (λ before. walk.listed n (Contains-append_left front (x ∷ []) n before))
-        (λ user. (user_node t n x (only n user), from_user n user))
+        (λ user. from_user n user)
         (more.listed n c);
     closed = λ n m at k uses. ⊎_elim
         (λ still. more.found m (accepted.within n m at uses) still)
         (λ c. ⊎_elim (λ before. inr (more.stays m before)) (λ same. absurd (none_not_kept t new n (more.dropped n at (all n (subst (λ y. Uses t n y) (sym same) uses))) k)) (Contains-push_cases front x m c))
         (walk.closed n m at (was_kept t now new n (Contains users n) (more.each n at) k) uses);
-    room = omega (arith, walk.room, more.room, more.whole, length-append front (x ∷ []));
   }
     where
-      listed : IsNodeOf t x × Leads t x start
-      listed = walk.listed x (Contains-push front x)
+      from_listed : IsFrom t starts x
+      from_listed = walk.listed x (Contains-push front x)
 
-      from_user : (n : Node) → Contains users n → Leads t n start
-      from_user n user = step (only n user) listed.1
+      from_user : (n : Node) → Contains users n → IsFrom t starts n
+      from_user n user = (from_listed.0, from_listed.1, step (only n user) from_listed.2)
 
-  module _ (new : List (Option Value)) (list : List Node) (empty : length list ≡ 0) (walk : IsDropping t start old new list) where
+  module _ (new : List (Option Value)) (list : List Node) (empty : length list ≡ 0) (walk : IsDropping t starts old new list) where
     stays_closed : (n m : Node) → IsNodeOf t n → IsKept t new n → Uses t n m → IsKept t new m
     stays_closed n m at k uses = ⊎_elim (λ kept. kept) (λ c. absurd (omega (arith, empty, c.1))) (walk.closed n m at k uses)
 
@@ -185,12 +281,12 @@ module _ (t : TreeValue) (accepted : IsAccepted t) (start : Node) (inside : IsNo
     none_back n m at uses none = ⊎_elim (λ k. absurd (none_not_kept t new m none (stays_closed n m at k uses))) (λ e. e) (kept_or_none t new n)
 
     -- through others too
-    none_along : (n c : Node) → value_at t new c ≡ None → IsNodeOf t n → Leads t n c → value_at t new n ≡ None
-    none_along n c none at here = none
-    none_along n c none at (step uses leads) = none_back n _ at uses (none_along _ c none (accepted.within n _ at uses) leads)
+    none_along : (n c : Node) → Contains starts c → IsNodeOf t n → Leads t n c → value_at t new n ≡ None
+    none_along n c start at here = walk.started n at start
+    none_along n c start at (step uses leads) = none_back n _ at uses (none_along _ c start (accepted.within n _ at uses) leads)
 
-    pub walk_ended : Drops t (start ∷ []) old new
+    pub walk_ended : Drops t starts old new
     walk_ended = record {
-      dropped = λ n c at one leads. none_along n c (subst (λ m. value_at t new m ≡ None) (of_one start c one) walk.started) at leads;
-      each = λ n at. ⊎_elim (λ same. inl same) (λ none. inr (none.0, (start, in_one start start refl, none.1))) (walk.each n at);
+      dropped = λ n c at start leads. none_along n c start at leads;
+      each = walk.each;
     }

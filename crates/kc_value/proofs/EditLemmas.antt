@@ -1,23 +1,24 @@
--- Dropping the changed nodes one after another makes an edit.
-use Rattle.std.proofs.Common.{◌≡◌, ◌⊎◌, inl, inr, ℕ, ◌+◌, ◌<◌, ◌≤◌, Bool, true, false, true≢false, not, ◌&&◌, List, [], ◌∷◌, ◌++◌, Option, None, is_some, length, take, get_or, get_or-set_same, get_or-set_other, refl, sym, ap, ◌∙◌, subst, ⊎_elim, arith}
-use Rattle.std.specs.List.{Contains}
-use Rattle.std.proofs.lemmas.Bool.{cases_eq}
-use Rattle.std.proofs.lemmas.List.{take_more, take_all}
-use Rattle.std.proofs.lemmas.List.Elements.{Contains-push_cases}
+-- Dropping the nodes that change, with all that is computed from them, makes an edit.
+use Rattle.std.proofs.Common.{◌≡◌, ◌⊎◌, inl, inr, ℕ, ◌+◌, ◌<◌, ◌≤◌, Bool, true, false, true≢false, not, ◌&&◌, List, [], ◌∷◌, ◌++◌, Option, None, is_some, length, map, filter, cond, append-nil, get_or, get_or-set_same, get_or-set_other, refl, sym, ap, ◌∙◌, subst, ⊎_elim, arith}
+use Rattle.std.specs.List.{Contains, range_with_len}
+use Rattle.std.proofs.lemmas.Bool.{cases_eq, cond-false, cond-true}
+use Rattle.std.proofs.lemmas.List.Elements.{Contains-append_cases, Contains-append_right, Contains-push_cases}
+use Rattle.std.proofs.lemmas.List.FromFn.{filter_of_map_range_with_len_more, get_or-map-range_with_len, get_or-range_with_len, length-map-range_with_len, length-range_with_len}
+use Rattle.kc_graph.proofs.FilterPlaces.{Contains-filter}
 use Rattle.kc_statement.specs.declared.id.SymId.{SymId}
 use Rattle.kc_outline.specs.declared.id.ChoiceId.{ChoiceId}
 use Rattle.kc_outline.specs.TreeValue.{TreeValue, choice_of}
 use Rattle.kc_tree.specs.declared.node.Node.{Node}
 use Rattle.kc_tree.specs.declared.node.Node.TheVariants.{Vis, Val, Mode, Sel}
 use Rattle.kc_tree.specs.declared.user_value.UserVal.{UserVal}
-use Rattle.kc_tree.specs.Nodes.{IsNodeOf}
-use Rattle.kc_tree.specs.Order.{IsOrder}
+use Rattle.kc_tree.specs.Nodes.{IsNodeOf, all_nodes, node_at, node_count, number_of}
 use Rattle.kc_tree.specs.Reached.{Leads}
 use Rattle.kc_tree.specs.Uses.{nodes_if}
+use Rattle.kc_tree.proofs.NodeNumbers.{at_below, Contains-from_map, node_at-number_of, number_below}
 use Rattle.kc_value.specs.declared.value.Value.{Value}
 use Rattle.kc_value.specs.Assignment.{value_at}
 use Rattle.kc_value.specs.ChangedValue.{same_mark, same_member}
-use Rattle.kc_value.specs.Dirty.{same_given, is_changed, IsDirty, Drops, Edits}
+use Rattle.kc_value.specs.Dirty.{same_given, is_changed, changed_nodes, IsDirty, Drops, Edits}
 use Rattle.kc_value.specs.Kept.{KeptValue}
 use Rattle.kc_value.specs.UserValues.{UserValues, IsUserFor, user_value, chosen_in, with_value, with_chosen}
 use Rattle.kc_value.specs.Without.{is_optional_choice}
@@ -78,18 +79,68 @@ module _ (t : TreeValue) (u w : UserValues) where
     evals = evals;
   }
 
-  -- along an order of all nodes
-  pub edited_next : (order : List Node) (i : ℕ) (d : Node) (old mid new : List (Option Value)) → i < length order → IsNodeOf t (get_or order i d)
-      → Edited t u w (take i order) old mid → Drops t (nodes_if (is_changed t u w (get_or order i d)) (get_or order i d ∷ [])) mid new
-      → Edited t u w (take (i + 1) order) old new
-  edited_next order i d old mid new within at edited drops =
-      subst (λ ns. Edited t u w ns old new) (sym (take_more order i d within)) (edited_more (take i order) (get_or order i d) old mid new at edited drops)
+-- ---- all nodes that change, one number after another
+module _ {X : Type 0} (p : X → Bool) where
+  from_filter : (xs : List X) (x : X) → Contains (filter p xs) x → Contains xs x × (p x ≡ true)
+  from_filter [] x c = absurd (omega (arith, c.1))
+  from_filter (y ∷ ys) x c = by_test (p y) refl (λ d. from_filter ys x d) c
+    where
+      at_first : y ≡ x → p y ≡ true → Contains (y ∷ ys) x × (p x ≡ true)
+      at_first same passes = ((0, omega arith, same), ap p (sym same) ∙ passes)
 
-  pub edited_all : (order : List Node) (i : ℕ) (old new : KeptValue) → IsOrder t order → length order ≤ i
-      → Edited t u w (take i order) old.values new.values → new.evals ≡ old.evals → Edits t u w old new
-  edited_all order i old new ok done edited evals =
-      edited_whole order old new (λ c inside changes. ok.all c inside)
-      (subst (λ ns. Edited t u w ns old.values new.values) (take_all i order done) edited) evals
+      behind : Contains ys x × (p x ≡ true) → Contains (y ∷ ys) x × (p x ≡ true)
+      behind rest = (Contains-append_right (y ∷ []) ys x rest.0, rest.1)
+
+      by_test : (b : Bool) → p y ≡ b → (Contains (filter p ys) x → Contains ys x × (p x ≡ true)) → Contains (cond b (y ∷ filter p ys) (filter p ys)) x
+          → Contains (y ∷ ys) x × (p x ≡ true)
+      by_test true passes others d =
+          ⊎_elim
+          (λ first. ⊎_elim (λ none. absurd (omega (arith, none.1))) (λ same. at_first same passes) (Contains-push_cases [] y x first))
+          (λ later. behind (others later))
+          (Contains-append_cases (y ∷ []) (filter p ys) x d)
+      by_test false fails others d = behind (others d)
+
+module _ (t : TreeValue) (u w : UserValues) where
+  -- those among the first so many nodes
+  abbrev pub changed_below : ℕ → List Node
+  changed_below i = filter (is_changed t u w) (map (node_at t) (range_with_len 0 i))
+
+  in_all : (c : Node) → IsNodeOf t c → Contains (all_nodes t) c
+  in_all c at =
+      let below : number_of t c < node_count t = number_below t c at in
+      let within : number_of t c < length (all_nodes t) = omega (arith, below, length-map-range_with_len (node_at t) 0 (node_count t)) in
+      (number_of t c, within, get_or-map-range_with_len (node_at t) 0 (node_count t) (number_of t c) (number_of t c) c below (omega arith) ∙ node_at-number_of t c at)
+
+  only_nodes : (c : Node) → Contains (all_nodes t) c → IsNodeOf t c
+  only_nodes c listed =
+      let from = Contains-from_map (node_at t) (range_with_len 0 (node_count t)) c listed in
+      let k = from.0 in
+      let place = from.1.0 in
+      let below : place < node_count t = omega (arith, from.1.1, length-range_with_len 0 (node_count t)) in
+      let same : place ≡ k = omega (arith, get_or-range_with_len 0 (node_count t) place k below, from.1.2) in
+      subst (λ n. IsNodeOf t n) from.2 (at_below t k (omega (arith, below, same)))
+
+  pub changed_inside : (c : Node) → Contains (changed_nodes t u w) c → IsNodeOf t c
+  changed_inside c listed = only_nodes c (from_filter (is_changed t u w) (all_nodes t) c listed).0
+
+  changed_next : (i : ℕ) → changed_below (i + 1) ≡ changed_below i ++ cond (is_changed t u w (node_at t i)) (node_at t i ∷ []) []
+  changed_next i = filter_of_map_range_with_len_more (is_changed t u w) (node_at t) 0 i i (omega arith)
+
+  pub changed_at : (i : ℕ) → is_changed t u w (node_at t i) ≡ true → changed_below (i + 1) ≡ changed_below i ++ node_at t i ∷ []
+  changed_at i changes = changed_next i ∙ ap (λ xs. changed_below i ++ xs) (cond-true (is_changed t u w (node_at t i)) (node_at t i ∷ []) [] changes)
+
+  pub unchanged_at : (i : ℕ) → is_changed t u w (node_at t i) ≡ false → changed_below (i + 1) ≡ changed_below i
+  unchanged_at i stays = changed_next i ∙ ap (λ xs. changed_below i ++ xs) (cond-false (is_changed t u w (node_at t i)) (node_at t i ∷ []) [] stays) ∙ append-nil (changed_below i)
+
+  pub changed_edits : (old new : KeptValue) → Drops t (changed_nodes t u w) old.values new.values → new.evals ≡ old.evals → Edits t u w old new
+  changed_edits old new drops evals = record {
+    dropped = λ n inside dirty. drops.dropped n dirty.0 inside (Contains-filter (is_changed t u w) (all_nodes t) dirty.0 (in_all dirty.0 dirty.1) dirty.2) dirty.3;
+    each = λ n inside. ⊎_elim (λ same. inl same) (λ none. inr (none.0, dirty n none.1.0 none.1.1 none.1.2)) (drops.each n inside);
+    evals = evals;
+  }
+    where
+      dirty : (n c : Node) → Contains (changed_nodes t u w) c → Leads t n c → IsDirty t u w n
+      dirty n c listed leads = let found = from_filter (is_changed t u w) (all_nodes t) c listed in (c, only_nodes c found.0, found.1, leads)
 
 -- ---- what changes with one user value
 never : (b : Bool) (x : Bool) → x ≡ true → (b && not x) ≡ true → ⊥

@@ -1,10 +1,10 @@
 -- Which values an edit of the user values can change: this project's own.
-use Rattle.std.specs.Prelude.{◌≡◌, ◌⊎◌, Bool, true, false, not, ◌&&◌, List, Option, Some, None, is_some, Contains}
+use Rattle.std.specs.Prelude.{◌≡◌, ◌⊎◌, Bool, true, false, not, ◌&&◌, List, Option, Some, None, is_some, filter, Contains}
 use Rattle.kc_outline.specs.TreeValue.{TreeValue, choice_of}
 use Rattle.kc_tree.specs.declared.node.Node.{Node}
 use Rattle.kc_tree.specs.declared.node.Node.TheVariants.{Vis, Val, Mode, Sel}
 use Rattle.kc_tree.specs.declared.user_value.UserVal.{UserVal}
-use Rattle.kc_tree.specs.Nodes.{IsNodeOf}
+use Rattle.kc_tree.specs.Nodes.{IsNodeOf, all_nodes}
 use Rattle.kc_tree.specs.Reached.{Leads}
 use Rattle.kc_value.specs.declared.value.Value.{Value}
 use Rattle.kc_value.specs.Assignment.{value_at}
@@ -28,6 +28,10 @@ is_changed t u w (Vis s) = false
 is_changed t u w (Val s) = not (is_some (choice_of t s)) && not (same_given (user_value u s) (user_value w s))
 is_changed t u w (Mode c) = is_optional_choice t c && not (same_mark (is_some (chosen_in u c)) (is_some (chosen_in w c)))
 is_changed t u w (Sel c) = not (same_member (chosen_in u c) (chosen_in w c))
+
+-- all nodes that change, by number
+abbrev pub changed_nodes : TreeValue → UserValues → UserValues → List Node
+changed_nodes t u w = filter (is_changed t u w) (all_nodes t)
 
 -- a node that is computed from one that changes, through others or itself
 abbrev pub IsDirty : TreeValue → UserValues → UserValues → Node → Type 0

@@ -1,8 +1,11 @@
--- A step of the walk that drops what is computed from a node: this project's own.
-use Rattle.std.specs.Prelude.{◌≡◌, ◌⊎◌, ◌+◌, ◌≤◌, List, Option, None, Contains, length}
+-- The walk that drops what is computed from some nodes: this project's own.
+use Rattle.std.specs.Prelude.{◌≡◌, ◌⊎◌, ℕ, ◌+◌, ◌≤◌, Bool, true, false, List, Option, None, Contains, length, slice_index_or}
+use Rattle.kc_graph.specs.Graph.{Uses as HasNumber}
 use Rattle.kc_outline.specs.TreeValue.{TreeValue}
 use Rattle.kc_tree.specs.declared.node.Node.{Node}
-use Rattle.kc_tree.specs.Nodes.{IsNodeOf}
+use Rattle.kc_tree.specs.Nodes.{IsNodeOf, node_count}
+use Rattle.kc_tree.specs.Reached.{Leads}
+use Rattle.kc_tree.specs.Uses.{Uses}
 use Rattle.kc_value.specs.declared.value.Value.{Value}
 use Rattle.kc_value.specs.Assignment.{value_at}
 use Rattle.kc_value.specs.Kept.{IsKept, kept_count}
@@ -17,3 +20,20 @@ pub record DropsAll (t : TreeValue) (nodes : List Node) (old new : List (Option 
   pub listed : (n : Node) → Contains after n → Contains before n ⊎ Contains nodes n
   pub found : (n : Node) → IsNodeOf t n → IsKept t old n → IsKept t new n ⊎ Contains after n
   pub room : length after + kept_count new ≤ length before + kept_count old
+
+-- a node that is computed from one of some nodes, through others or itself
+abbrev pub IsFrom : TreeValue → List Node → Node → Type 0
+IsFrom t starts n = (c : Node) × Contains starts c × Leads t n c
+
+-- Some nodes have no value, nor have some that are computed from them, and the others are as they were. What a kept node
+-- uses is kept, or listed.
+pub record IsDropping (t : TreeValue) (starts : List Node) (old new : List (Option Value)) (list : List Node) : Type 0 where
+  pub whole : length new ≡ length old
+  pub started : (n : Node) → IsNodeOf t n → Contains starts n → value_at t new n ≡ None
+  pub each : (n : Node) → IsNodeOf t n → (value_at t new n ≡ value_at t old n) ⊎ ((value_at t new n ≡ None) × IsFrom t starts n)
+  pub listed : (n : Node) → Contains list n → IsFrom t starts n
+  pub closed : (n m : Node) → IsNodeOf t n → IsKept t new n → Uses t n m → IsKept t new m ⊎ Contains list m
+
+-- of the shared lists of a table that are marked no node has a value
+abbrev pub AreWalked : TreeValue → List (List ℕ) → List Bool → List (Option Value) → Type 0
+AreWalked t g walked values = (k q : ℕ) → slice_index_or walked k false ≡ true → HasNumber g (node_count t + k) q → slice_index_or values q None ≡ None

@@ -1,49 +1,143 @@
-//! Dropping what is computed from a node.
+//! Dropping what is computed from some nodes.
 
-ghost use Rattle.std.specs.Prelude.{◌≡◌, ◌+◌, ◌≤◌, [], ◌∷◌, Contains, length, vec_capacity};
+ghost use Rattle.std.specs.Prelude.{◌≡◌, ◌+◌, ◌<◌, ◌≤◌, ℕ, false, [], ◌∷◌, Contains, List, Option, length, map, slice_index_or, vec_capacity};
+ghost use Rattle.kc_graph.specs.Shared.{IsShared, stands_for, whole_row};
 ghost use Rattle.kc_tree.specs.declared.node.Node.{Node};
-ghost use Rattle.kc_tree.specs.Accepted.{IsAccepted};
-ghost use Rattle.kc_tree.specs.Nodes.{IsNodeOf, node_count};
+ghost use Rattle.kc_tree.specs.Nodes.{IsNodeOf, node_at, node_count};
+ghost use Rattle.kc_value.specs.declared.value.Value.{Value};
 ghost use Rattle.kc_value.specs.Dirty.{Drops};
-ghost use Rattle.kc_value.specs.DropWalk.{DropsAll};
+ghost use Rattle.kc_value.specs.DropWalk.{AreWalked, DropsAll, IsDropping};
 ghost use Rattle.kc_value.specs.Kept.{IsClosed, kept_count};
 
 use crate::kept_values::KeptValues;
+use crate::marks::{clear_marks, is_marked, mark};
 use crate::value::Value;
-use kc_tree::{Node, NodeRow, Tree};
+use kc_graph::Rows;
+use kc_tree::{Node, Tree};
 
-/// Drops the value of a node, if it has one, and then lists the node. There is room for it, so that this takes no memory.
-fn drop_one(tree: &Tree, values: &mut Vec<Option<Value>>, list: &mut Vec<Node>, node: Node)
-    requires inside { IsNodeOf tree.now node }
+/// Drops the value of the node of a number, if it has one, and then lists the node. There is room for it, so that this
+/// takes no memory.
+pub(crate) fn drop_one(
+    tree: &Tree,
+    values: &mut Vec<Option<Value>>,
+    list: &mut Vec<Node>,
+    number: usize,
+)
+    requires inside { number < node_count tree.now }
     requires whole { length values.old.items ≡ node_count tree.now }
     requires room { length list.old.items + kept_count values.old.items ≤ vec_capacity list.old }
-    ensures drops { DropsAll tree.now (node ∷ []) values.old.items values.new.items list.old.items list.new.items }
+    ensures drops { DropsAll tree.now (node_at tree.now number ∷ []) values.old.items values.new.items list.old.items list.new.items }
     ensures capacity { vec_capacity list.old ≤ vec_capacity list.new }
-    ensures accepted { IsAccepted tree.now }
 {
-    let number = tree.number(node);
     if values[number].is_some() {
         values[number] = None;
-        let _ = list.push(node);
+        let _ = list.push(tree.node(number));
     }
 }
 
-/// Drops the values of some nodes, and lists those that had one.
-fn drop_all(tree: &Tree, values: &mut Vec<Option<Value>>, list: &mut Vec<Node>, nodes: NodeRow<'_>)
-    requires inside { (n : Node) → Contains nodes n → IsNodeOf tree.now n }
+/// Drops the values of nodes by their numbers, and lists those that had one.
+fn drop_listed(
+    tree: &Tree,
+    values: &mut Vec<Option<Value>>,
+    list: &mut Vec<Node>,
+    numbers: &[u32],
+)
+    requires inside { (k : ℕ) → Contains numbers.now k → k < node_count tree.now }
     requires whole { length values.old.items ≡ node_count tree.now }
     requires room { length list.old.items + kept_count values.old.items ≤ vec_capacity list.old }
-    ensures drops { DropsAll tree.now nodes.entry values.old.items values.new.items list.old.items list.new.items }
+    ensures drops { DropsAll tree.now (map (node_at tree.now) numbers.now) values.old.items values.new.items list.old.items list.new.items }
     ensures capacity { vec_capacity list.old ≤ vec_capacity list.new }
 {
-    for node in nodes {
-        drop_one(tree, values, list, node);
+    for number in numbers {
+        drop_one(tree, values, list, *number as usize);
+    }
+}
+
+/// Drops what a number in a row of a table stands for, a node or the nodes of a shared list, and lists the nodes that had
+/// a value. A shared list that is marked has no node with one, and each that was gone over is marked.
+fn drop_for_number(
+    tree: &Tree,
+    table: &Rows,
+    walked: &mut Vec<bool>,
+    values: &mut Vec<Option<Value>>,
+    list: &mut Vec<Node>,
+    number: usize,
+)
+    requires shared { IsShared (node_count tree.now) table.now }
+    requires whole { length values.old.items ≡ node_count tree.now }
+    requires room { length list.old.items + kept_count values.old.items ≤ vec_capacity list.old }
+    requires walked { AreWalked tree.now table.now walked.old.items values.old.items }
+    ensures drops { DropsAll tree.now (map (node_at tree.now) (stands_for (node_count tree.now) table.now number))
+        values.old.items values.new.items list.old.items list.new.items }
+    ensures walked { AreWalked tree.now table.now walked.new.items values.new.items }
+    ensures capacity { vec_capacity list.old ≤ vec_capacity list.new }
+{
+    let count = tree.node_count();
+    if number < count {
+        drop_one(tree, values, list, number);
+    } else if !is_marked(walked, number - count) {
+        drop_listed(tree, values, list, table.row(number));
+        mark(walked, number - count);
+    }
+}
+
+/// Drops what the numbers of a row stand for, each shared list once, and lists the nodes that had a value.
+fn drop_row(
+    tree: &Tree,
+    table: &Rows,
+    walked: &mut Vec<bool>,
+    values: &mut Vec<Option<Value>>,
+    list: &mut Vec<Node>,
+    numbers: &[u32],
+)
+    requires shared { IsShared (node_count tree.now) table.now }
+    requires whole { length values.old.items ≡ node_count tree.now }
+    requires room { length list.old.items + kept_count values.old.items ≤ vec_capacity list.old }
+    requires walked { AreWalked tree.now table.now walked.old.items values.old.items }
+    ensures drops { DropsAll tree.now (map (node_at tree.now) (whole_row (node_count tree.now) table.now numbers.now))
+        values.old.items values.new.items list.old.items list.new.items }
+    ensures walked { AreWalked tree.now table.now walked.new.items values.new.items }
+    ensures capacity { vec_capacity list.old ≤ vec_capacity list.new }
+{
+    for number in numbers {
+        drop_for_number(tree, table, walked, values, list, *number as usize);
+    }
+}
+
+/// Goes on from nodes that were dropped and listed: drops what is computed from them, itself and through others. The walk
+/// goes on only from nodes that were kept: what is computed from another is not kept either. It goes over each list
+/// that rows share once, and takes no memory.
+pub(crate) fn walk(
+    tree: &Tree,
+    values: &mut Vec<Option<Value>>,
+    list: &mut Vec<Node>,
+    walked: &mut Vec<bool>,
+)
+    requires inside { (n : Node) → Contains list.old.items n → IsNodeOf tree.now n }
+    requires whole { length values.old.items ≡ node_count tree.now }
+    requires room { length list.old.items + kept_count values.old.items ≤ vec_capacity list.old }
+    requires unmarked { (k : ℕ) → slice_index_or walked.old.items k false ≡ false }
+    ensures drops { (starts : List Node) (first : List (Option Value)) → IsClosed tree.now first
+        → IsDropping tree.now starts first values.old.items list.old.items
+        → IsClosed tree.now values.new.items × Drops tree.now starts first values.new.items }
+    ensures whole { length values.new.items ≡ length values.old.items }
+    ensures capacity { vec_capacity list.old ≤ vec_capacity list.new }
+{
+    let table = tree.user_table();
+    while let Some(next) = list.pop() {
+        drop_row(
+            tree,
+            table,
+            walked,
+            values,
+            list,
+            table.row(tree.number(next)),
+        );
     }
 }
 
 impl KeptValues {
-    /// Drops the value of a node, and of all that is computed from it, itself and through others. The walk goes on only
-    /// from nodes that are kept: what is computed from another is not kept either. This takes no memory.
+    /// Drops the value of a node, and of all that is computed from it, itself and through others. This takes no memory.
     pub(crate) fn drop_node(&mut self, tree: &Tree, node: Node)
         requires inside { IsNodeOf tree.now node }
         requires closed { IsClosed tree.now self.old.values }
@@ -52,14 +146,14 @@ impl KeptValues {
         ensures evals { self.new.evals ≡ self.old.evals }
     {
         self.dropped.clear();
-        drop_one(tree, &mut self.values, &mut self.dropped, node);
-        while let Some(next) = self.dropped.pop() {
-            drop_all(
-                tree,
-                &mut self.values,
-                &mut self.dropped,
-                tree.used_by(next),
-            );
-        }
+        clear_marks(&mut self.walked);
+        let number = tree.number(node);
+        drop_one(tree, &mut self.values, &mut self.dropped, number);
+        walk(
+            tree,
+            &mut self.values,
+            &mut self.dropped,
+            &mut self.walked,
+        );
     }
 }

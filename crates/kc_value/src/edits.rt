@@ -1,21 +1,25 @@
 //! Dropping what an edit of the user values can change, before the edit: exactly what is computed from a node that changes.
 
-ghost use Rattle.std.specs.Prelude.{◌≡◌, ◌&&◌, [], ◌∷◌, not, is_some};
+ghost use Rattle.std.specs.Prelude.{◌≡◌, ◌&&◌, ◌+◌, ◌≤◌, [], ◌∷◌, length, not, is_some, vec_capacity};
 ghost use Rattle.std.specs.Option.{option_copied};
 ghost use Rattle.kc_outline.specs.TreeValue.{choice_of};
 ghost use Rattle.kc_tree.specs.declared.node.Node.TheVariants.{Val, Sel};
 ghost use Rattle.kc_tree.specs.Accepted.{IsAccepted};
-ghost use Rattle.kc_tree.specs.Nodes.{IsNodeOf};
+ghost use Rattle.kc_tree.specs.Nodes.{IsNodeOf, node_count};
 ghost use Rattle.kc_tree.specs.Uses.{nodes_if};
 ghost use Rattle.kc_value.specs.ChangedValue.{same_mark};
-ghost use Rattle.kc_value.specs.Dirty.{same_given, is_changed, Drops, Edits};
-ghost use Rattle.kc_value.specs.Kept.{AreKept, IsClosed};
+ghost use Rattle.kc_value.specs.Dirty.{same_given, is_changed, changed_nodes, Drops, Edits};
+ghost use Rattle.kc_value.specs.DropWalk.{DropsAll};
+ghost use Rattle.kc_value.specs.Kept.{AreKept, IsClosed, kept_count};
 ghost use Rattle.kc_value.specs.UserValues.{IsUserFor, with_value, with_chosen};
 ghost use Rattle.kc_value.specs.Without.{is_optional_choice};
 
 use crate::changed::{is_same_member, is_same_user_value};
+use crate::dropping::{drop_one, walk};
 use crate::kept_values::KeptValues;
+use crate::marks::clear_marks;
 use crate::user::User;
+use crate::value::Value;
 use kc_tree::{ChoiceId, Node, SymId, Tree, UserVal};
 
 /// Whether a user value, or none, is the same as another; texts are so as they are spelt.
@@ -71,6 +75,31 @@ fn is_node_changed(tree: &Tree, user: &User, next: &User, node: Node) -> bool
             is_mode_changed(tree, choice, user.chosen(choice), next.chosen(choice))
         }
         Node::Sel(choice) => !is_same_member(user.chosen(choice), next.chosen(choice)),
+    }
+}
+
+/// Drops the values of all nodes that change where the user values become others, but not of what is computed from them,
+/// and lists the nodes that had one.
+fn drop_changed(
+    tree: &Tree,
+    values: &mut Vec<Option<Value>>,
+    list: &mut Vec<Node>,
+    user: &User,
+    next: &User,
+)
+    requires whole { length values.old.items ≡ node_count tree.now }
+    requires room { length list.old.items + kept_count values.old.items ≤ vec_capacity list.old }
+    ensures drops { DropsAll tree.now (changed_nodes tree.now user.now next.now)
+        values.old.items values.new.items list.old.items list.new.items }
+    ensures capacity { vec_capacity list.old ≤ vec_capacity list.new }
+    ensures accepted { IsAccepted tree.now }
+{
+    let count = tree.node_count();
+    for number in 0..count {
+        let node = tree.node(number);
+        if is_node_changed(tree, user, next, node) {
+            drop_one(tree, values, list, number);
+        }
     }
 }
 
@@ -136,9 +165,14 @@ impl KeptValues {
         ensures kept { AreKept tree.now next.now self.new.values }
         ensures edits { Edits tree.now user.now next.now self.old self.new }
     {
-        for node in tree.order() {
-            let changes = is_node_changed(tree, user, next, *node);
-            self.drop_if(tree, changes, *node);
-        }
+        self.dropped.clear();
+        clear_marks(&mut self.walked);
+        drop_changed(tree, &mut self.values, &mut self.dropped, user, next);
+        walk(
+            tree,
+            &mut self.values,
+            &mut self.dropped,
+            &mut self.walked,
+        );
     }
 }

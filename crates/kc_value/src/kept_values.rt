@@ -10,6 +10,7 @@ ghost use Rattle.kc_value.specs.Rule.{rule};
 
 use crate::evaluation::eval_over;
 use crate::known_conditions::KnownConditions;
+use crate::marks::no_marks;
 use crate::meter::Meter;
 use crate::slots::empty_slots;
 use crate::user::User;
@@ -25,6 +26,8 @@ pub struct KeptValues {
     pub(crate) values: Vec<Option<Value>>,
     /// The nodes whose users are still to be dropped, which takes no memory: there is room for all nodes.
     pub(crate) dropped: Vec<Node>,
+    /// By the number of a list that rows of the tree share: whether the walk of an edit has gone over it.
+    pub(crate) walked: Vec<bool>,
     meter: Meter,
 }
 
@@ -50,6 +53,7 @@ impl KeptValues {
         Ok(KeptValues {
             values: empty_slots(alloc, count)?,
             dropped: Vec::with_capacity(alloc, count)?,
+            walked: no_marks(alloc, tree, tree.user_table())?,
             meter: Meter::new(),
         })
     }
@@ -130,6 +134,7 @@ impl KeptValues {
         let KeptValues {
             mut values,
             dropped: _,
+            walked: _,
             meter: _,
         } = self;
         match values[number].take() {

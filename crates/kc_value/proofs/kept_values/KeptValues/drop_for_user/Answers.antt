@@ -1,43 +1,50 @@
-use Rattle.std.proofs.Common.{◌∷◌, [], get_or, ◌∙◌, subst, arith}
-use Rattle.std.proofs.lemmas.List.Elements.{Contains-get_or}
+use Rattle.std.proofs.Common.{◌≡◌, List, length, refl, ap, arith}
 use Rattle.kc_tree.specs.declared.node.Node.{Node}
-use Rattle.kc_tree.specs.declared.node.Node.TheVariants.{Vis}
-use Rattle.kc_tree.specs.Nodes.{IsNodeOf}
-use Rattle.kc_tree.specs.Uses.{nodes_if}
-use Rattle.kc_value.specs.Dirty.{Drops, is_changed}
+use Rattle.kc_value.specs.Dirty.{Drops, changed_nodes}
+use Rattle.kc_value.specs.Kept.{IsClosed, KeptValue}
 use Rattle.kc_value.proofs.DirtyLaws.{kept_after}
-use Rattle.kc_value.proofs.EditLemmas.{edited_next, edited_all}
+use Rattle.kc_value.proofs.DropSteps.{drops_begun, listed_inside, walk_begun}
+use Rattle.kc_value.proofs.EditLemmas.{changed_edits, changed_inside}
+use Rattle.kc_value.proofs.KeptCounts.{kept_count-within}
 use Rattle.kc_value.proofs.kept_values.KeptValues.drop_for_user.Goals as goal
 
-abbrev any : Node
-any = Vis (record { 0 = 0 })
+pub drop_changed-requires-clause-room : goal.drop_changed-requires-clause-room
+drop_changed-requires-clause-room c = omega (arith, ap length c.clear.ensures.items, c.clear.ensures.capacity, kept_count-within c.self.inside.values.items, c.self.invariant)
 
-pub loop-node-preserved : goal.loop-node-preserved
-loop-node-preserved c =
+pub walk-requires-clause-inside : goal.walk-requires-clause-inside
+walk-requires-clause-inside c =
     let t = c.args.tree.now in
     let u = c.args.user.now in
     let w = c.args.next.now in
-    let kept = c.loop-node.invariant in
-    let order = c.order-node-items.result.now in
-    let i = c.loop-node.node-index in
-    let node : Node = get_or order i any in
-    let inside : IsNodeOf t node = c.order-node-items.ensures.order.only node (Contains-get_or order i any c.loop-node-test.true) in
-    let now = c.loop-node.self.values in
-    let new = c.drop_if.new.self.values in
-    let drops : Drops t (nodes_if (is_changed t u w node) (node ∷ [])) now new = subst (λ b. Drops t (nodes_if b (node ∷ [])) now new) c.is_node_changed-changes.ensures c.drop_if.ensures.drops in
-    record {
-      closed = c.drop_if.ensures.closed;
-      edited = edited_next t u w order i any c.args.self.now.values now new c.loop-node-test.true inside kept.edited drops;
-      evals = c.drop_if.ensures.evals ∙ kept.evals;
-    }
+    let starts : List Node = changed_nodes t u w in
+    let held = c.self.inside.values.items in
+    let new = c.drop_changed.new.values.items in
+    let list = c.drop_changed.new.list.items in
+    listed_inside t starts held new list (changed_inside t u w) (drops_begun t starts held held new c.clear.new.self.items list refl c.clear.ensures.items c.drop_changed.ensures.drops)
+
+pub walk-requires-clause-room : goal.walk-requires-clause-room
+walk-requires-clause-room c =
+    omega (arith, ap length c.clear.ensures.items, c.clear.ensures.capacity, kept_count-within c.self.inside.values.items, c.self.invariant, c.drop_changed.ensures.drops.room, c.drop_changed.ensures.capacity)
+
+walked : (c : goal.After-walk) → IsClosed c.args.tree.now c.walk.new.values.items × Drops c.args.tree.now (changed_nodes c.args.tree.now c.args.user.now c.args.next.now) c.args.self.now.values c.walk.new.values.items
+walked c =
+    let t = c.args.tree.now in
+    let starts : List Node = changed_nodes t c.args.user.now c.args.next.now in
+    let old = c.args.self.now.values in
+    let closed = c.requires.kept.closed in
+    let new = c.drop_changed.new.values.items in
+    let list = c.drop_changed.new.list.items in
+    let values : c.self.inside.values.items ≡ old = ap (λ (k : KeptValue). k.values) c.self.view_is in
+    c.walk.ensures.drops starts old closed
+    (walk_begun t c.drop_changed.ensures.accepted starts old closed new list
+    (drops_begun t starts c.self.inside.values.items old new c.clear.new.self.items list values c.clear.ensures.items c.drop_changed.ensures.drops))
 
 pub returns-clause-edits : goal.returns-clause-edits
 returns-clause-edits c =
-    let kept = c.loop-node.invariant in
-    edited_all c.args.tree.now c.args.user.now c.args.next.now c.order-node-items.result.now c.loop-node.node-index c.args.self.now c.loop-node.self
-    c.order-node-items.ensures.order (omega (arith, c.loop-node-test.false)) kept.edited kept.evals
+    changed_edits c.args.tree.now c.args.user.now c.args.next.now c.args.self.now (record { values = c.walk.new.values.items; evals = c.self.inside.meter }) (walked c).1
+    (ap (λ (k : KeptValue). k.evals) c.self.view_is)
 
 pub returns-clause-kept : goal.returns-clause-kept
 returns-clause-kept c =
-    kept_after c.args.tree.now c.args.user.now c.args.next.now c.order-node-items.ensures.accepted c.args.self.now c.loop-node.self
-    c.requires.kept (returns-clause-edits c) c.loop-node.invariant.closed
+    kept_after c.args.tree.now c.args.user.now c.args.next.now c.drop_changed.ensures.accepted c.args.self.now (record { values = c.walk.new.values.items; evals = c.self.inside.meter })
+    c.requires.kept (returns-clause-edits c) (walked c).0

@@ -1,63 +1,55 @@
-use Rattle.std.proofs.Common.{◌≡◌, [], ◌∷◌, length, sym, ap, subst, arith}
-use Rattle.std.specs.List.{Contains}
-use Rattle.std.proofs.lemmas.List.Elements.{Contains-push}
+use Rattle.std.proofs.Common.{◌≡◌, [], ◌∷◌, List, ℕ, Option, length, ap, ◌∙◌, subst, arith}
+use Rattle.kc_outline.specs.TreeValue.{TreeValue}
+use Rattle.kc_tree.specs.declared.node.Node.{Node}
+use Rattle.kc_tree.specs.Nodes.{IsNodeOf, node_at, number_of}
+use Rattle.kc_tree.proofs.NodeNumbers.{node_at-number_of}
+use Rattle.kc_value.specs.declared.value.Value.{Value}
+use Rattle.kc_value.specs.Dirty.{Drops}
 use Rattle.kc_value.specs.DropWalk.{DropsAll}
-use Rattle.kc_value.specs.Kept.{KeptValue}
+use Rattle.kc_value.specs.Kept.{IsClosed, KeptValue}
 use Rattle.kc_value.proofs.KeptCounts.{kept_count-within}
-use Rattle.kc_value.proofs.DropSteps.{IsDropping, walk_begun, walk_next, walk_closed, walk_ended}
-use Rattle.kc_value.proofs.UsesLaws.{user_node}
+use Rattle.kc_value.proofs.DropSteps.{drops_begun, listed_inside, of_one, walk_begun}
 use Rattle.kc_value.proofs.kept_values.KeptValues.drop_node.Goals as goal
 
 pub drop_one-requires-clause-room : goal.drop_one-requires-clause-room
 drop_one-requires-clause-room c = omega (arith, ap length c.clear.ensures.items, c.clear.ensures.capacity, kept_count-within c.self.inside.values.items, c.self.invariant)
 
-pub loop-next-init : goal.loop-next-init
-loop-next-init c =
+-- the one node is dropped, out of no list
+begun : (t : TreeValue) (x : Node) (k : ℕ) (held new : List (Option Value)) (kept : KeptValue) (meter : ℕ) (cleared list : List Node) → IsNodeOf t x → k ≡ number_of t x
+    → record { values = held; evals = meter } ≡ kept → cleared ≡ [] → DropsAll t (node_at t k ∷ []) held new cleared list → DropsAll t (x ∷ []) kept.values new [] list
+begun t x k held new kept meter cleared list inside number view none drops =
+    let node : node_at t k ≡ x = ap (node_at t) number ∙ node_at-number_of t x inside in
+    subst (λ n. DropsAll t (n ∷ []) kept.values new [] list) node
+    (drops_begun t (node_at t k ∷ []) held kept.values new cleared list (ap (λ (k : KeptValue). k.values) view) none drops)
+
+pub walk-requires-clause-inside : goal.walk-requires-clause-inside
+walk-requires-clause-inside c =
     let t = c.args.tree.now in
-    let node = c.args.node in
+    let x = c.args.node in
     let new = c.drop_one.new.values.items in
     let list = c.drop_one.new.list.items in
-    let drops = c.drop_one.ensures.drops in
-    let same : c.self.inside.values.items ≡ c.args.self.now.values = ap (λ (k : KeptValue). k.values) c.self.view_is in
-    let one = subst (λ values. DropsAll t (node ∷ []) values new [] list) same (subst (λ xs. DropsAll t (node ∷ []) c.self.inside.values.items new xs list) c.clear.ensures.items drops) in
-    record {
-      walk = walk_begun t c.drop_one.ensures.accepted node c.requires.inside c.args.self.now.values c.requires.closed new list one;
-      capacity = omega (arith, drops.whole, c.self.invariant, c.clear.ensures.capacity, c.drop_one.ensures.capacity);
-      evals = ap (λ (k : KeptValue). k.evals) c.self.view_is;
-    }
+    listed_inside t (x ∷ []) c.args.self.now.values new list (λ n one. subst (λ m. IsNodeOf t m) (of_one x n one) c.requires.inside)
+    (begun t x c.number-number.result c.self.inside.values.items new c.args.self.now c.self.inside.meter c.clear.new.self.items list c.requires.inside c.number-number.ensures.number
+    c.self.view_is c.clear.ensures.items c.drop_one.ensures.drops)
 
-pub used_by-requires : goal.used_by-requires
-used_by-requires c =
-    let x = c.in-Some.next in
-    let front = c.pop.new.self.items in
-    (c.loop-next.invariant.walk.listed x (subst (λ xs. Contains xs x) (sym c.in-Some.ensures.items) (Contains-push front x))).0
+pub walk-requires-clause-room : goal.walk-requires-clause-room
+walk-requires-clause-room c =
+    omega (arith, ap length c.clear.ensures.items, c.clear.ensures.capacity, kept_count-within c.self.inside.values.items, c.self.invariant, c.drop_one.ensures.drops.room, c.drop_one.ensures.capacity)
 
-pub drop_all-requires-clause-inside : goal.drop_all-requires-clause-inside
-drop_all-requires-clause-inside c = λ n user. user_node c.args.tree.now n c.in-Some.next ((c.used_by.ensures.exact n).0 user)
-
-pub loop-next-preserved : goal.loop-next-preserved
-loop-next-preserved c =
+walked : (c : goal.After-walk) → IsClosed c.args.tree.now c.walk.new.values.items × Drops c.args.tree.now (c.args.node ∷ []) c.args.self.now.values c.walk.new.values.items
+walked c =
     let t = c.args.tree.now in
-    let kept = c.loop-next.invariant in
-    let x = c.in-Some.next in
-    let now = c.loop-next.self-inside.values.items in
+    let x = c.args.node in
     let old = c.args.self.now.values in
-    let walk = subst (λ xs. IsDropping t c.args.node old now xs) c.in-Some.ensures.items kept.walk in
-    record {
-      walk = walk_next t c.drop_one.ensures.accepted c.args.node c.requires.inside old c.requires.closed now c.drop_all.new.values.items c.pop.new.self.items c.drop_all.new.list.items
-          c.used_by.result x (λ m. (c.used_by.ensures.exact m).0) (λ m. (c.used_by.ensures.exact m).1) walk c.drop_all.ensures.drops;
-      capacity = omega (arith, c.drop_all.ensures.drops.whole, kept.capacity, c.in-Some.ensures.capacity, c.drop_all.ensures.capacity);
-      evals = kept.evals;
-    }
+    let new = c.drop_one.new.values.items in
+    let list = c.drop_one.new.list.items in
+    c.walk.ensures.drops (x ∷ []) old c.requires.closed
+    (walk_begun t c.number-number.ensures.accepted (x ∷ []) old c.requires.closed new list
+    (begun t x c.number-number.result c.self.inside.values.items new c.args.self.now c.self.inside.meter c.clear.new.self.items list c.requires.inside c.number-number.ensures.number
+    c.self.view_is c.clear.ensures.items c.drop_one.ensures.drops))
 
 pub returns-clause-closed : goal.returns-clause-closed
-returns-clause-closed c =
-    let empty : length c.loop-next.self-inside.dropped.items ≡ 0 = omega (arith, c.in_default.ensures.cases.0, c.loop-next.self-inside.dropped.ok.0) in
-    walk_closed c.args.tree.now c.drop_one.ensures.accepted c.args.node c.requires.inside c.args.self.now.values c.requires.closed c.loop-next.self-inside.values.items
-    c.loop-next.self-inside.dropped.items empty c.loop-next.invariant.walk
+returns-clause-closed c = (walked c).0
 
 pub returns-clause-drops : goal.returns-clause-drops
-returns-clause-drops c =
-    let empty : length c.loop-next.self-inside.dropped.items ≡ 0 = omega (arith, c.in_default.ensures.cases.0, c.loop-next.self-inside.dropped.ok.0) in
-    walk_ended c.args.tree.now c.drop_one.ensures.accepted c.args.node c.requires.inside c.args.self.now.values c.requires.closed c.loop-next.self-inside.values.items
-    c.loop-next.self-inside.dropped.items empty c.loop-next.invariant.walk
+returns-clause-drops c = (walked c).1
