@@ -33,12 +33,29 @@ def appended(sign, size):
     return f"V {sign} a\n" + "V += \n" * size + 'config A\n\tstring "a"\n\tdefault "$(V)"\n'
 
 
-def long_condition(size):
-    """So many symbols in a menu whose condition names that many others, as far as a line has room."""
+def under_long_condition(size, inside):
+    """A menu with something in it, whose condition names so many symbols, as far as a line has room."""
     names = [f"C{at}" for at in range(size)]
     condition = " || ".join(names)
-    named = "".join(f"config {name}\n\tbool\n" for name in names)
-    return f'{named}menu "m"\n\tdepends on {condition}\n{bools(size)}endmenu\n'
+    named = "".join(f'config {name}\n\tbool "c"\n\tdefault {"y" if at + 1 == size else "n"}\n' for at, name in enumerate(names))
+    return f'{named}menu "m"\n\tdepends on {condition}\n{inside}endmenu\n'
+
+
+def long_condition(size):
+    """So many symbols in a menu whose condition names that many others."""
+    return under_long_condition(size, bools(size))
+
+
+def choices_under_long_condition(size):
+    """So many choices of one member in a menu whose condition names as many symbols."""
+    choice = 'choice\n\tprompt "c"\nconfig S{0}\n\tbool "s"\nendchoice\n'
+    return under_long_condition(size, "".join(choice.format(at) for at in range(size)))
+
+
+def menus_under_long_condition(size):
+    """So many menus, each with a symbol, in a menu whose condition names as many symbols."""
+    menu = 'menu "n"\nconfig S{0}\n\tbool "s"\nendmenu\n'
+    return under_long_condition(size, "".join(menu.format(at) for at in range(size)))
 
 
 def nested(size):
@@ -151,6 +168,11 @@ KCONFIGS = {
     "append to :=": lambda size: appended(":=", size),
     "append to =": lambda size: appended("=", size),
     "long condition": long_condition,
+    "long condition, list": long_condition,
+    "long condition, choices": choices_under_long_condition,
+    "long condition, menus": menus_under_long_condition,
+    "long condition, savedefconfig": long_condition,
+    "long condition, edits": long_condition,
     "blocks in one another": nested,
     "menus in one another": stacks,
     "selected": lambda size: BOOL.format("T") + bools(size, "\tselect T\n"),
@@ -191,6 +213,13 @@ CONFIGS = {
     ".config: no lines": b"what\n",
     ".config: one symbol": b"CONFIG_A=y\n",
 }
+# The commands of a session over a shape of a Kconfig.
+QUERIES = {
+    "flat, list": b"list\n",
+    "long condition, list": b"list\n",
+    "long condition, choices": b"choices\n",
+    "long condition, edits": b"config\nallyes\nconfig\nallno\nconfig\n",
+}
 STREAMS = {
     "session: refused 1": (b"frob\n", 1),
     "session: refused 2": (b"set NOWHERE y\n", 1),
@@ -217,8 +246,10 @@ def write_all(shape, size):
     if shape == "session: a load":
         return {"Kconfig": ONE_SYMBOL.encode(), "stdin": body_of(size)}
     files = {"Kconfig": KCONFIGS[shape](size).encode()}
-    if shape == "flat, list":
-        files["stdin"] = b"list\n"
+    if shape in QUERIES:
+        files["stdin"] = QUERIES[shape]
+    if shape == "long condition, savedefconfig":
+        files["config"] = "".join(f"CONFIG_S{at}=y\n" for at in range(size)).encode()
     if shape == "one file sourced":
         files["part"] = b"comment \"c\"\n"
     if shape in ("files sourced", "files behind comments"):

@@ -73,6 +73,11 @@ choice_in t c inside = in_numbered t (2 * length t.symbols) (2 * length t.choice
 pub all_kept : (t s : TreeValue) (kept : List (Option Value)) → s ≡ t → ((n : Node) → IsNodeOf s n → IsKept s kept n) → (n : Node) → Contains (all_nodes t) n → IsKept s kept n
 all_kept t s kept same all n c = all n (subst (λ x. IsNodeOf x n) (sym same) (from_numbered t 0 (node_count t) n (omega arith) c).0)
 
+-- the nodes of some numbers, by another equal tree
+pub numbers_kept : (s : TreeValue) (kept : List (Option Value)) (first count : ℕ) (nodes : List Node) → nodes ≡ numbered s first count
+    → ((n : Node) → Contains (numbered s first count) n → IsKept s kept n) → (n : Node) → Contains nodes n → IsKept s kept n
+numbers_kept s kept first count nodes same all n c = all n (subst (λ xs. Contains xs n) same c)
+
 -- ---- all nodes, asked twice
 pub all_twice : (old mid new : ResolverState) → Asked (all_nodes old.tree) old mid → Asked (all_nodes mid.tree) mid new → Asked (all_nodes old.tree) old new
 all_twice old mid new f g = asked_again (all_nodes old.tree) (all_nodes mid.tree) old mid new (λ n c. subst (λ x. Contains (all_nodes x) n) f.tree c) f g
