@@ -1,5 +1,5 @@
 -- The walk that drops what is computed from some nodes.
-use Rattle.std.proofs.Common.{◌≡◌, ◌⊎◌, inl, inr, ℕ, zero, suc, ◌+◌, ◌<◌, ◌≤◌, Bool, true, false, true≢false, List, [], ◌∷◌, ◌++◌, Option, Some, None, length, map, take, get_or, set, slice_set, slice_index_or, refl, sym, ap, ◌∙◌, subst, ⊎_elim, get_or-set_other, length-append, arith}
+use Rattle.std.proofs.Common.{◌≡◌, ◌⊎◌, inl, inr, ℕ, zero, suc, ◌+◌, ◌<◌, Bool, true, false, true≢false, List, [], ◌∷◌, ◌++◌, Option, Some, None, length, map, take, get_or, set, slice_set, slice_index_or, refl, sym, ap, ◌∙◌, subst, ⊎_elim, get_or-set_other, length-append, arith}
 use Rattle.std.specs.Prelude.{is_some}
 use Rattle.std.specs.List.{Contains}
 use Rattle.std.proofs.lemmas.Bool.{cases_eq}
@@ -21,7 +21,6 @@ use Rattle.kc_value.specs.Assignment.{value_at}
 use Rattle.kc_value.specs.Dirty.{Drops}
 use Rattle.kc_value.specs.DropWalk.{AreWalked, DropsAll, IsDropping, IsFrom}
 use Rattle.kc_value.specs.Kept.{IsKept, IsClosed, kept_count}
-use Rattle.kc_value.proofs.KeptCounts.{kept_count-within}
 use Rattle.kc_value.proofs.SlotLemmas.{none_set}
 use Rattle.kc_value.proofs.UsesLaws.{user_node}
 

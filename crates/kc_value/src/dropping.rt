@@ -36,12 +36,7 @@ pub(crate) fn drop_one(
 }
 
 /// Drops the values of nodes by their numbers, and lists those that had one.
-fn drop_listed(
-    tree: &Tree,
-    values: &mut Vec<Option<Value>>,
-    list: &mut Vec<Node>,
-    numbers: &[u32],
-)
+fn drop_listed(tree: &Tree, values: &mut Vec<Option<Value>>, list: &mut Vec<Node>, numbers: &[u32])
     requires inside { (k : ℕ) → Contains numbers.now k → k < node_count tree.now }
     requires whole { length values.old.items ≡ node_count tree.now }
     requires room { length list.old.items + kept_count values.old.items ≤ vec_capacity list.old }
@@ -149,11 +144,6 @@ impl KeptValues {
         clear_marks(&mut self.walked);
         let number = tree.number(node);
         drop_one(tree, &mut self.values, &mut self.dropped, number);
-        walk(
-            tree,
-            &mut self.values,
-            &mut self.dropped,
-            &mut self.walked,
-        );
+        walk(tree, &mut self.values, &mut self.dropped, &mut self.walked);
     }
 }

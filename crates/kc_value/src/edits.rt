@@ -168,11 +168,6 @@ impl KeptValues {
         self.dropped.clear();
         clear_marks(&mut self.walked);
         drop_changed(tree, &mut self.values, &mut self.dropped, user, next);
-        walk(
-            tree,
-            &mut self.values,
-            &mut self.dropped,
-            &mut self.walked,
-        );
+        walk(tree, &mut self.values, &mut self.dropped, &mut self.walked);
     }
 }

@@ -1,5 +1,5 @@
-use Rattle.std.proofs.Common.{◌≡◌, ◌∷◌, [], ◌+◌, ◌-◌, ◌≤◌, true, false, List, map, slice_index_or, sym, ap, ◌∙◌, subst, arith}
-use Rattle.std.specs.List.{Contains, slice_set}
+use Rattle.std.proofs.Common.{◌≡◌, ◌∷◌, [], ◌+◌, ◌-◌, ◌≤◌, true, false, map, slice_index_or, sym, ap, ◌∙◌, subst, arith}
+use Rattle.std.specs.List.{Contains}
 use Rattle.kc_graph.specs.Graph.{row}
 use Rattle.kc_graph.specs.Shared.{stands_for}
 use Rattle.kc_graph.proofs.SharedLaws.{shared-row}

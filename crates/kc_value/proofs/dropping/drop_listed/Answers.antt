@@ -1,4 +1,4 @@
-use Rattle.std.proofs.Common.{map, ap, subst, ◌∙◌, arith}
+use Rattle.std.proofs.Common.{map, subst, ◌∙◌, arith}
 use Rattle.std.proofs.lemmas.List.{take_all}
 use Rattle.std.proofs.lemmas.List.Elements.{Contains-get_or}
 use Rattle.kc_tree.specs.Nodes.{node_at}

@@ -1,4 +1,4 @@
-use Rattle.std.proofs.Common.{map, subst, ◌∙◌, arith}
+use Rattle.std.proofs.Common.{map, subst, arith}
 use Rattle.std.proofs.lemmas.List.{take_all}
 use Rattle.kc_graph.specs.Shared.{whole_row}
 use Rattle.kc_tree.specs.Nodes.{node_at, node_count}

@@ -48,4 +48,4 @@ returns-clause-drops c =
     let new = c.loop-next.values.items in
     let empty : length list ≡ 0 = omega (arith, c.in_default.ensures.cases.0, c.loop-next.list.ok.0) in
     λ starts first was begun.
-        let walk = c.loop-next.invariant.walk starts first was begun in (walk_closed t accepted starts first was new list empty walk, walk_ended t accepted starts first was new list empty walk)
+    let walk = c.loop-next.invariant.walk starts first was begun in (walk_closed t accepted starts first was new list empty walk, walk_ended t accepted starts first was new list empty walk)

@@ -1,4 +1,4 @@
-use Rattle.std.proofs.Common.{◌≡◌, [], ◌∷◌, true, false, sym, ap, ◌∙◌, subst, arith}
+use Rattle.std.proofs.Common.{◌≡◌, [], ◌∷◌, sym, ap, ◌∙◌, subst, arith}
 use Rattle.kc_tree.specs.Nodes.{node_at, node_count}
 use Rattle.kc_value.specs.Dirty.{is_changed}
 use Rattle.kc_value.specs.DropWalk.{DropsAll}
