@@ -6,6 +6,7 @@ ghost use Rattle.kc_outline.specs.TreeValue.{name_of};
 ghost use Rattle.kc_statement.specs.Tristate.{is_no};
 ghost use Rattle.kc_value.specs.Assignment.{Assignment, assignment_of};
 ghost use Rattle.kc_value.specs.Conditions.{menu_condition, comment_condition};
+ghost use Rattle.kc_value.specs.KnownConditions.{block_conditions};
 ghost use Rattle.kc_value.specs.Solution.{solution, IsOnlySolution};
 ghost use Rattle.kc_files.specs.ConfigText.{type_of, symbol_line, written_value, title_block, end_line, menu_title, comment_title, line_of_symbol, title_of, end_of, piece_if, piece_of, config_text_of};
 ghost use Rattle.kc_files.specs.DraftValue.{with_option, with_pieces, opens_menu, piece_after, Agrees};
@@ -15,23 +16,35 @@ use crate::prefix::Prefix;
 use crate::symbols::{type_of, written_value};
 use crate::titles::{comment_title, menu_title};
 use kc_tree::{BlockId, CommentId, Entry, SymId, Tree};
-use kc_value::{Resolver, Value, all_values, comment_condition, menu_condition};
+use kc_value::{BlockConditions, Resolver, Value, all_values, comment_condition, menu_condition};
 use std::alloc::{AllocError, Global};
 
 /// Whether a menu has its lines: its condition is not n.
-fn menu_shows(tree: &Tree, menu: BlockId, values: &[Option<Value>]) -> bool
+fn menu_shows(
+    tree: &Tree,
+    menu: BlockId,
+    conditions: &BlockConditions,
+    values: &[Option<Value>],
+) -> bool
+    requires { conditions.now ≡ block_conditions tree.now (assignment_of tree.now values.now) }
     ensures { (a : Assignment) → Agrees tree.now values.now a
         → result ≡ not (is_no (menu_condition tree.now a menu)) }
 {
-    !menu_condition(tree, menu, values).is_no()
+    !menu_condition(tree, menu, conditions, values).is_no()
 }
 
 /// Whether a comment has its lines: its condition is not n.
-fn comment_shows(tree: &Tree, comment: CommentId, values: &[Option<Value>]) -> bool
+fn comment_shows(
+    tree: &Tree,
+    comment: CommentId,
+    conditions: &BlockConditions,
+    values: &[Option<Value>],
+) -> bool
+    requires { conditions.now ≡ block_conditions tree.now (assignment_of tree.now values.now) }
     ensures { (a : Assignment) → Agrees tree.now values.now a
         → result ≡ not (is_no (comment_condition tree.now a comment)) }
 {
-    !comment_condition(tree, comment, values).is_no()
+    !comment_condition(tree, comment, conditions, values).is_no()
 }
 
 /// Whether an entry opens this menu: directly before the menu's end it leaves nothing inside.
@@ -66,14 +79,16 @@ fn push_symbol(
 fn push_menu(
     draft: &mut Draft,
     tree: &Tree,
+    conditions: &BlockConditions,
     values: &[Option<Value>],
     menu: BlockId,
 ) -> Result<(), AllocError>
+    requires { conditions.now ≡ block_conditions tree.now (assignment_of tree.now values.now) }
     ensures { OnOk result ((a : Assignment) → Agrees tree.now values.now a
         → draft.new ≡ with_option draft.old (piece_if (not (is_no (menu_condition tree.now a menu)))
         (title_of (title_block (menu_title tree.now menu))))) }
 {
-    if menu_shows(tree, menu, values) {
+    if menu_shows(tree, menu, conditions, values) {
         draft.push_title(menu_title(tree, menu))?;
     }
     Ok(())
@@ -83,16 +98,18 @@ fn push_menu(
 fn push_menu_end(
     draft: &mut Draft,
     tree: &Tree,
+    conditions: &BlockConditions,
     values: &[Option<Value>],
     before: Option<Entry>,
     menu: BlockId,
 ) -> Result<(), AllocError>
+    requires { conditions.now ≡ block_conditions tree.now (assignment_of tree.now values.now) }
     ensures { OnOk result ((a : Assignment) → Agrees tree.now values.now a
         → draft.new ≡ with_option draft.old (piece_if
         (not (is_no (menu_condition tree.now a menu)) && not (opens_menu menu before))
         (end_of (end_line (menu_title tree.now menu))))) }
 {
-    if !opens_menu(menu, before) && menu_shows(tree, menu, values) {
+    if !opens_menu(menu, before) && menu_shows(tree, menu, conditions, values) {
         draft.push_end(menu_title(tree, menu))?;
     }
     Ok(())
@@ -102,14 +119,16 @@ fn push_menu_end(
 fn push_comment(
     draft: &mut Draft,
     tree: &Tree,
+    conditions: &BlockConditions,
     values: &[Option<Value>],
     comment: CommentId,
 ) -> Result<(), AllocError>
+    requires { conditions.now ≡ block_conditions tree.now (assignment_of tree.now values.now) }
     ensures { OnOk result ((a : Assignment) → Agrees tree.now values.now a
         → draft.new ≡ with_option draft.old (piece_if (not (is_no (comment_condition tree.now a comment)))
         (title_of (title_block (comment_title tree.now comment))))) }
 {
-    if comment_shows(tree, comment, values) {
+    if comment_shows(tree, comment, conditions, values) {
         draft.push_title(comment_title(tree, comment))?;
     }
     Ok(())
@@ -120,20 +139,22 @@ fn push_entry(
     draft: &mut Draft,
     tree: &Tree,
     prefix: &Prefix,
+    conditions: &BlockConditions,
     values: &[Option<Value>],
     before: Option<Entry>,
     entry: Entry,
 ) -> Result<(), AllocError>
-    requires { IsEntryOf tree.now entry }
+    requires entry { IsEntryOf tree.now entry }
+    requires conditions { conditions.now ≡ block_conditions tree.now (assignment_of tree.now values.now) }
     ensures { OnOk result ((a : Assignment) → Agrees tree.now values.now a
         → draft.new ≡ with_option draft.old (piece_after tree.now prefix.now a before entry)) }
 {
     match entry {
         Entry::Symbol(symbol) => push_symbol(draft, tree, prefix, values, symbol),
         Entry::Again(_) | Entry::Choice(_) => Ok(()),
-        Entry::Menu(menu) => push_menu(draft, tree, values, menu),
-        Entry::EndMenu(menu) => push_menu_end(draft, tree, values, before, menu),
-        Entry::Comment(comment) => push_comment(draft, tree, values, comment),
+        Entry::Menu(menu) => push_menu(draft, tree, conditions, values, menu),
+        Entry::EndMenu(menu) => push_menu_end(draft, tree, conditions, values, before, menu),
+        Entry::Comment(comment) => push_comment(draft, tree, conditions, values, comment),
     }
 }
 
@@ -142,14 +163,16 @@ fn push_entries(
     draft: &mut Draft,
     tree: &Tree,
     prefix: &Prefix,
+    conditions: &BlockConditions,
     values: &[Option<Value>],
 ) -> Result<(), AllocError>
+    requires { conditions.now ≡ block_conditions tree.now (assignment_of tree.now values.now) }
     ensures { OnOk result ((a : Assignment) → Agrees tree.now values.now a
         → draft.new ≡ with_pieces draft.old (filter_map (piece_of tree.now prefix.now a) tree.now.entries)) }
 {
     let mut before = None;
     for entry in tree.entries() {
-        push_entry(draft, tree, prefix, values, before, *entry)?;
+        push_entry(draft, tree, prefix, conditions, values, before, *entry)?;
         before = Some(*entry);
     }
     Ok(())
@@ -167,8 +190,9 @@ pub fn config_text_over(
     ensures { IfOk result (λ text. (a : Assignment) → Agrees tree.now values.now a
         → string_bytes text ≡ config_text_of tree.now prefix.now header.now a) }
 {
+    let conditions = BlockConditions::of(alloc, tree, values)?;
     let mut draft = Draft::new(String::from_str(alloc, header)?);
-    push_entries(&mut draft, tree, prefix, values)?;
+    push_entries(&mut draft, tree, prefix, &conditions, values)?;
     Ok(draft.into_string())
 }
 

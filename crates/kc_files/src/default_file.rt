@@ -6,7 +6,9 @@ ghost use Rattle.kc_outline.specs.Entries.{IsEntryOf};
 ghost use Rattle.kc_tree.specs.declared.node.Node.TheVariants.{Vis, Val, Sel};
 ghost use Rattle.kc_tree.specs.Accepted.{IsAccepted};
 ghost use Rattle.kc_tree.specs.Nodes.{IsNodeOf, all_nodes};
+ghost use Rattle.kc_value.specs.Assignment.{assignment_of};
 ghost use Rattle.kc_value.specs.ChangedValue.{changed_value, ChangesAreJustEnough};
+ghost use Rattle.kc_value.specs.KnownConditions.{block_conditions};
 ghost use Rattle.kc_value.specs.Replay.{shown_in};
 ghost use Rattle.kc_value.specs.Solution.{solution, AreSolved, IsOnlySolution};
 ghost use Rattle.kc_files.specs.DefaultLoading.{HasNoFeeds, KeepsChanges};
@@ -16,7 +18,7 @@ use crate::prefix::Prefix;
 use crate::symbol_line::push_symbol_line;
 use crate::symbols::{choice_of, is_symbol, selected_member, type_of};
 use kc_tree::{ChoiceId, Entry, Node, SymId, Tree, Tri, UserVal};
-use kc_value::{Resolver, User, Value, all_values, changed_value};
+use kc_value::{BlockConditions, Resolver, User, Value, all_values, changed_value};
 use std::alloc::{AllocError, Global};
 
 /// The value of a symbol, where it is another than without the user's own: it is the same where the user gave none.
@@ -25,18 +27,20 @@ fn changed_symbol(
     alloc: Global,
     tree: &Tree,
     user: &User,
+    conditions: &BlockConditions,
     values: &[Option<Value>],
     symbol: SymId,
 ) -> Result<Option<Value>, AllocError>
     requires node { IsNodeOf tree.now (Val symbol) }
     requires changes { ChangesAreJustEnough tree.now user.now }
+    requires conditions { conditions.now ≡ block_conditions tree.now (assignment_of tree.now values.now) }
     ensures { AreSolved tree.now user.now values.now
         → IfOk result (λ v. v ≡ changed_value tree.now user.now (Val symbol)) }
 {
     if user.get(symbol).is_none() {
         return Ok(None);
     }
-    changed_value(alloc, tree, values, Node::Val(symbol))
+    changed_value(alloc, tree, conditions, values, Node::Val(symbol))
 }
 
 /// The selection of a choice, where it is another than without a chosen member: it is the same where the user chose none.
@@ -45,18 +49,20 @@ fn changed_selection(
     alloc: Global,
     tree: &Tree,
     user: &User,
+    conditions: &BlockConditions,
     values: &[Option<Value>],
     choice: ChoiceId,
 ) -> Result<Option<Value>, AllocError>
     requires node { IsNodeOf tree.now (Sel choice) }
     requires changes { ChangesAreJustEnough tree.now user.now }
+    requires conditions { conditions.now ≡ block_conditions tree.now (assignment_of tree.now values.now) }
     ensures { AreSolved tree.now user.now values.now
         → IfOk result (λ v. v ≡ changed_value tree.now user.now (Sel choice)) }
 {
     if user.chosen(choice).is_none() {
         return Ok(None);
     }
-    changed_value(alloc, tree, values, Node::Sel(choice))
+    changed_value(alloc, tree, conditions, values, Node::Sel(choice))
 }
 
 /// Whether a member is the selected one of a choice whose selection is another than without a chosen member.
@@ -64,11 +70,13 @@ fn is_changed_member(
     alloc: Global,
     tree: &Tree,
     user: &User,
+    conditions: &BlockConditions,
     values: &[Option<Value>],
     choice: ChoiceId,
     member: SymId,
 ) -> Result<bool, AllocError>
-    requires { ChangesAreJustEnough tree.now user.now }
+    requires changes { ChangesAreJustEnough tree.now user.now }
+    requires conditions { conditions.now ≡ block_conditions tree.now (assignment_of tree.now values.now) }
     ensures { AreSolved tree.now user.now values.now
         → IfOk result (λ b. b ≡ is_changed_member tree.now user.now choice member) }
 {
@@ -78,7 +86,7 @@ fn is_changed_member(
     if !is_symbol(selected_member(tree, values, choice), member) {
         return Ok(false);
     }
-    let changed = changed_selection(alloc, tree, user, values, choice)?;
+    let changed = changed_selection(alloc, tree, user, conditions, values, choice)?;
     Ok(changed.is_some())
 }
 
@@ -87,19 +95,21 @@ fn default_value(
     alloc: Global,
     tree: &Tree,
     user: &User,
+    conditions: &BlockConditions,
     values: &[Option<Value>],
     symbol: SymId,
 ) -> Result<Option<UserVal>, AllocError>
     requires node { IsNodeOf tree.now (Vis symbol) }
     requires changes { ChangesAreJustEnough tree.now user.now }
+    requires conditions { conditions.now ≡ block_conditions tree.now (assignment_of tree.now values.now) }
     ensures { AreSolved tree.now user.now values.now
         → IfOk result (λ v. v ≡ default_value tree.now user.now symbol) }
 {
     let Some(choice) = choice_of(tree, symbol) else {
-        let changed = changed_symbol(alloc, tree, user, values, symbol)?;
+        let changed = changed_symbol(alloc, tree, user, conditions, values, symbol)?;
         return Ok(shown_value(changed));
     };
-    if is_changed_member(alloc, tree, user, values, choice, symbol)? {
+    if is_changed_member(alloc, tree, user, conditions, values, choice, symbol)? {
         Ok(Some(UserVal::Tri(Tri::Yes)))
     } else {
         Ok(None)
@@ -123,15 +133,17 @@ fn push_symbol(
     tree: &Tree,
     user: &User,
     prefix: &str,
+    conditions: &BlockConditions,
     values: &[Option<Value>],
     symbol: SymId,
 ) -> Result<(), AllocError>
     requires node { IsNodeOf tree.now (Vis symbol) }
     requires changes { ChangesAreJustEnough tree.now user.now }
+    requires conditions { conditions.now ≡ block_conditions tree.now (assignment_of tree.now values.now) }
     ensures { AreSolved tree.now user.now values.now
         → OnOk result (string_bytes out.new ≡ string_bytes out.old ++ default_line tree.now user.now prefix.now symbol) }
 {
-    if let Some(value) = default_value(alloc, tree, user, values, symbol)? {
+    if let Some(value) = default_value(alloc, tree, user, conditions, values, symbol)? {
         push_symbol_line(
             out,
             prefix,
@@ -150,16 +162,20 @@ fn push_entry(
     tree: &Tree,
     user: &User,
     prefix: &str,
+    conditions: &BlockConditions,
     values: &[Option<Value>],
     entry: Entry,
 ) -> Result<(), AllocError>
     requires entry { IsEntryOf tree.now entry }
     requires changes { ChangesAreJustEnough tree.now user.now }
+    requires conditions { conditions.now ≡ block_conditions tree.now (assignment_of tree.now values.now) }
     ensures { AreSolved tree.now user.now values.now
         → OnOk result (string_bytes out.new ≡ string_bytes out.old ++ default_entry tree.now user.now prefix.now entry) }
 {
     match entry {
-        Entry::Symbol(symbol) => push_symbol(alloc, out, tree, user, prefix, values, symbol),
+        Entry::Symbol(symbol) => push_symbol(
+            alloc, out, tree, user, prefix, conditions, values, symbol,
+        ),
         Entry::Again(_)
         | Entry::Choice(_)
         | Entry::Menu(_)
@@ -175,15 +191,17 @@ fn push_entries(
     tree: &Tree,
     user: &User,
     prefix: &str,
+    conditions: &BlockConditions,
     values: &[Option<Value>],
 ) -> Result<(), AllocError>
-    requires { ChangesAreJustEnough tree.now user.now }
+    requires changes { ChangesAreJustEnough tree.now user.now }
+    requires conditions { conditions.now ≡ block_conditions tree.now (assignment_of tree.now values.now) }
     ensures accepted { IsAccepted tree.now }
     ensures text { AreSolved tree.now user.now values.now
         → OnOk result (string_bytes out.new ≡ string_bytes out.old ++ default_text_of tree.now user.now prefix.now) }
 {
     for entry in tree.entries() {
-        push_entry(alloc, out, tree, user, prefix, values, *entry)?;
+        push_entry(alloc, out, tree, user, prefix, conditions, values, *entry)?;
     }
     Ok(())
 }
@@ -212,15 +230,19 @@ pub fn defconfig_text<R: Resolver>(
     ensures user { R.user_of resolver.new ≡ R.user_of resolver.old }
     ensures grew { R.grew resolver.old resolver.new (all_nodes (R.tree_of resolver.old)) }
 {
-    let values = all_values(alloc, resolver)?;
+    let all = all_values(alloc, resolver)?;
+    let values = all.as_slice();
+    let tree = resolver.tree();
+    let conditions = BlockConditions::of(alloc, tree, values)?;
     let mut text = String::new(alloc);
     push_entries(
         alloc,
         &mut text,
-        resolver.tree(),
+        tree,
         resolver.user(),
         prefix.as_str(),
-        values.as_slice(),
+        &conditions,
+        values,
     )?;
     Ok(text)
 }

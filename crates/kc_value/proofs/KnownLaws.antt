@@ -1,12 +1,13 @@
--- The conditions of blocks that a pass has found.
-use Rattle.std.proofs.Common.{◌≡◌, ◌⊎◌, ℕ, zero, suc, ◌<◌, ◌≤◌, true, false, List, [], ◌∷◌, ◌++◌, Option, Some, None, unwrap_or, option_and_then, is_some, length, get_or, replicate, slice_get, slice_set, inl, inr, refl, sym, ap, ◌∙◌, subst, ⊎_elim, get_or-set_same, get_or-set_other, arith}
+-- The own conditions of blocks, as far as they are known.
+use Rattle.std.proofs.Common.{◌≡◌, ◌⊎◌, ℕ, zero, suc, ◌<◌, ◌≤◌, true, false, List, [], ◌∷◌, ◌++◌, Option, Some, None, IfSome, unwrap_or, option_and_then, is_some, map, length, get_or, replicate, slice_get, slice_set, inl, inr, refl, sym, ap, ◌∙◌, subst, ⊎_elim, get_or-set_same, get_or-set_other, arith}
 use Rattle.std.specs.List.{Contains, flat_map, filter_map}
 use Rattle.std.specs.Option.{option_map_or}
 use Rattle.std.proofs.lemmas.Bool.{cases_eq}
 use Rattle.std.proofs.lemmas.List.Elements.{Contains-append_left, Contains-append_right}
 use Rattle.kc_outline.specs.declared.id.BlockId.{BlockId}
-use Rattle.kc_outline.specs.TreeValue.{TreeValue, SymbolValue, DefinitionValue, ChoiceValue, blocks_around}
+use Rattle.kc_outline.specs.TreeValue.{TreeValue, SymbolValue, DefinitionValue, BlockValue, ChoiceValue, blocks_from, blocks_around}
 use Rattle.kc_statement.specs.declared.attribute.Prompt.{Prompt}
+use Rattle.kc_statement.specs.declared.expr.Expr.{Expr}
 use Rattle.kc_statement.specs.declared.id.SymId.{SymId}
 use Rattle.kc_outline.specs.declared.id.ChoiceId.{ChoiceId}
 use Rattle.kc_statement.specs.declared.tri.Tri.{Tri}
@@ -18,10 +19,11 @@ use Rattle.kc_tree.specs.Uses.{Uses, conditions_nodes, own_condition_nodes, depe
 use Rattle.kc_value.specs.declared.value.Value.{Value}
 use Rattle.kc_value.specs.declared.value.Value.TheVariants.{Tri as Level}
 use Rattle.kc_value.specs.Assignment.{assignment_of, value_at}
-use Rattle.kc_value.specs.Conditions.{blocks_depend, blocks_visible}
+use Rattle.kc_value.specs.ExprValue.{conditions_value}
 use Rattle.kc_value.specs.Kept.{is_kept, IsKept}
-use Rattle.kc_value.specs.KnownConditions.{AreKnown}
-use Rattle.kc_value.proofs.Agreement.{Agree-from_contains, blocks_depend_agrees, blocks_visible_agrees}
+use Rattle.kc_value.specs.KnownConditions.{IsRightOf, IsKeptOf, AreRight, AreKnown, BlockConditionsValue, block_conditions}
+use Rattle.kc_value.proofs.Agreement.{Agree-from_contains, conditions_agree}
+use Rattle.kc_value.proofs.BlockLemmas.{blocks_from-next}
 use Rattle.kc_value.proofs.FillSteps.{value_there}
 
 -- ---- nothing is known at first
@@ -40,11 +42,14 @@ none_is : (ds : List (Option Tri)) (k : ℕ) (v : Tri) → get_or ds k None ≡ 
 none_is ds k v none e = let no : None ≡ Some v = sym none ∙ e in cc
 
 known_from_none : (t : TreeValue) (kept : List (Option Value)) (ds vs : List (Option Tri)) → ((k : ℕ) → get_or ds k None ≡ None) → ((k : ℕ) → get_or vs k None ≡ None) → AreKnown t kept ds vs
+unfolding IsRightOf IsKeptOf
 known_from_none t kept ds vs d v = record {
-  depends_is = λ b w e. absurd (none_is ds b.0 w (d b.0) e);
-  visible_is = λ b w e. absurd (none_is vs b.0 w (v b.0) e);
-  depends_kept = λ b w m e c. absurd (none_is ds b.0 w (d b.0) e);
-  visible_kept = λ b w m e c. absurd (none_is vs b.0 w (v b.0) e);
+  right = record {
+    depends_is = λ k x w at e. absurd (none_is ds k w (d k) e);
+    visible_is = λ k x w at e. absurd (none_is vs k w (v k) e);
+  };
+  depends_kept = λ k x w m at e c. absurd (none_is ds k w (d k) e);
+  visible_kept = λ k x w m at e c. absurd (none_is vs k w (v k) e);
 }
 
 pub nothing_known : (t : TreeValue) (kept : List (Option Value)) → AreKnown t kept [] []
@@ -55,82 +60,116 @@ nothing_found t kept n m ds vs d v = known_from_none t kept ds vs
     (λ k. ap (λ (xs : List (Option Tri)). get_or xs k None) d ∙ no_place n k)
     (λ k. ap (λ (xs : List (Option Tri)). get_or xs k None) v ∙ no_place m k)
 
--- ---- what is known of the blocks around a place
-pub known_depends : (t : TreeValue) (kept : List (Option Value)) (ds vs : List (Option Tri)) (at : Option BlockId) (v : Tri) → AreKnown t kept ds vs
-    → option_and_then (λ b. get_or ds b.0 None) at ≡ Some v → v ≡ blocks_depend t (assignment_of t kept) (blocks_around t at)
-known_depends t kept ds vs None v are e = let no : None ≡ Some v = e in cc
-known_depends t kept ds vs (Some b) v are e = are.depends_is b v e
-
-pub known_visible : (t : TreeValue) (kept : List (Option Value)) (ds vs : List (Option Tri)) (at : Option BlockId) (v : Tri) → AreKnown t kept ds vs
-    → option_and_then (λ b. get_or vs b.0 None) at ≡ Some v → v ≡ blocks_visible t (assignment_of t kept) (blocks_around t at)
-known_visible t kept ds vs None v are e = let no : None ≡ Some v = e in cc
-known_visible t kept ds vs (Some b) v are e = are.visible_is b v e
+-- ---- what is known of a block
+pub own_known : (t : TreeValue) (values : List (Option Value)) (lines : BlockValue → List Expr) (ks : List (Option Tri)) (id : Option BlockId) (x : BlockValue) (v : Tri) → IsRightOf t values lines ks
+    → option_and_then (λ (b : BlockId). slice_get t.blocks b.0) id ≡ Some x → option_and_then (λ (b : BlockId). get_or ks b.0 None) id ≡ Some v → v ≡ conditions_value t (assignment_of t values) (lines x)
+unfolding IsRightOf
+own_known t values lines ks None x v right at e = let no : None ≡ Some v = e in cc
+own_known t values lines ks (Some b) x v right at e = right b.0 x v at e
 
 -- ---- one more
-module _ (t : TreeValue) (kept : List (Option Value)) (ds vs : List (Option Tri)) (b : BlockId) (v : Tri) (are : AreKnown t kept ds vs) where
+block_is : (x y : BlockValue) → Some x ≡ Some y → x ≡ y
+block_is x y e = ap (λ (o : Option BlockValue). unwrap_or o x) e
+
+module _ (t : TreeValue) (kept : List (Option Value)) (lines : BlockValue → List Expr) (ks : List (Option Tri)) (j : ℕ) (y : BlockValue) (w : Tri) (within : j < length ks) (at : slice_get t.blocks j ≡ Some y) where
   -- what is known at a place is what was known there, or what was found
-  known_cases : (xs : List (Option Tri)) (c : ℕ) (w : Tri) → b.0 < length xs → get_or (slice_set xs b.0 (Some v)) c None ≡ Some w → ((c ≡ b.0) × (w ≡ v)) ⊎ (get_or xs c None ≡ Some w)
-  known_cases xs c w within e =
+  known_cases : (k : ℕ) (v : Tri) → get_or (slice_set ks j (Some w)) k None ≡ Some v → ((k ≡ j) × (v ≡ w)) ⊎ (get_or ks k None ≡ Some v)
+  known_cases k v e =
       ⊎_elim
       (λ same.
-      let here : get_or (slice_set xs b.0 (Some v)) c None ≡ Some v = ap (λ (k : ℕ). get_or (slice_set xs b.0 (Some v)) k None) same ∙ get_or-set_same xs b.0 (Some v) None within in
-      inl (same, some_is w v (sym e ∙ here)))
-      (λ differs. inr (sym (get_or-set_other xs b.0 c (Some v) None differs) ∙ e))
-      (cases_eq c b.0)
+      let here : get_or (slice_set ks j (Some w)) k None ≡ Some w = ap (λ (i : ℕ). get_or (slice_set ks j (Some w)) i None) same ∙ get_or-set_same ks j (Some w) None within in
+      inl (same, some_is v w (sym e ∙ here)))
+      (λ differs. inr (sym (get_or-set_other ks j k (Some w) None differs) ∙ e))
+      (cases_eq k j)
 
-  abbrev DependsIs : ℕ → Tri → Type 0
-  DependsIs c w = w ≡ blocks_depend t (assignment_of t kept) (blocks_around t (Some (record { 0 = c })))
+  the_block : (k : ℕ) (x : BlockValue) → k ≡ j → slice_get t.blocks k ≡ Some x → y ≡ x
+  the_block k x same is = block_is y x (sym at ∙ ap (slice_get t.blocks) (sym same) ∙ is)
 
-  abbrev DependsKept : ℕ → Type 0
-  DependsKept c = (m : Node) → Contains (depends_nodes t (blocks_around t (Some (record { 0 = c })))) m → IsKept t kept m
+  one_right : w ≡ conditions_value t (assignment_of t kept) (lines y) → IsRightOf t kept lines ks → IsRightOf t kept lines (slice_set ks j (Some w))
+  unfolding IsRightOf
+  one_right is right k x v there e = ⊎_elim
+      (λ (same, one). one ∙ is ∙ ap (λ (b : BlockValue). conditions_value t (assignment_of t kept) (lines b)) (the_block k x same there))
+      (λ was. right k x v there was)
+      (known_cases k v e)
 
-  abbrev VisibleIs : ℕ → Tri → Type 0
-  VisibleIs c w = w ≡ blocks_visible t (assignment_of t kept) (blocks_around t (Some (record { 0 = c })))
+  one_kept : ((m : Node) → Contains (conditions_nodes t (lines y)) m → IsKept t kept m) → IsKeptOf t kept lines ks → IsKeptOf t kept lines (slice_set ks j (Some w))
+  unfolding IsKeptOf
+  one_kept reads were k x v m there e c = ⊎_elim
+      (λ (same, one). reads m (subst (λ (b : BlockValue). Contains (conditions_nodes t (lines b)) m) (sym (the_block k x same there)) c))
+      (λ was. were k x v m there was c)
+      (known_cases k v e)
 
-  abbrev VisibleKept : ℕ → Type 0
-  VisibleKept c = (m : Node) → Contains (visible_nodes t (blocks_around t (Some (record { 0 = c })))) m → IsKept t kept m
-
-  pub one_depends : b.0 < length ds → DependsIs b.0 v → DependsKept b.0 → AreKnown t kept (slice_set ds b.0 (Some v)) vs
+module _ (t : TreeValue) (kept : List (Option Value)) (ds vs : List (Option Tri)) (j : ℕ) (y : BlockValue) (w : Tri) (at : slice_get t.blocks j ≡ Some y) (are : AreKnown t kept ds vs) where
+  pub one_depends : j < length ds → w ≡ conditions_value t (assignment_of t kept) y.depends → ((m : Node) → Contains (conditions_nodes t y.depends) m → IsKept t kept m) → AreKnown t kept (slice_set ds j (Some w)) vs
   one_depends within is reads = record {
-    depends_is = λ c w e. ⊎_elim
-        (λ (same, one). subst (λ k. DependsIs k w) (sym same) (one ∙ is))
-        (λ was. are.depends_is c w was)
-        (known_cases ds c.0 w within e);
-    visible_is = are.visible_is;
-    depends_kept = λ c w m e. ⊎_elim
-        (λ (same, one). subst (λ k. DependsKept k) (sym same) reads m)
-        (λ was. are.depends_kept c w m was)
-        (known_cases ds c.0 w within e);
+    right = record {
+      depends_is = one_right t kept (λ x. x.depends) ds j y w within at is are.right.depends_is;
+      visible_is = are.right.visible_is;
+    };
+    depends_kept = one_kept t kept (λ x. x.depends) ds j y w within at reads are.depends_kept;
     visible_kept = are.visible_kept;
   }
 
-  pub one_visible : b.0 < length vs → VisibleIs b.0 v → VisibleKept b.0 → AreKnown t kept ds (slice_set vs b.0 (Some v))
+  pub one_visible : j < length vs → w ≡ conditions_value t (assignment_of t kept) y.visible → ((m : Node) → Contains (conditions_nodes t y.visible) m → IsKept t kept m) → AreKnown t kept ds (slice_set vs j (Some w))
   one_visible within is reads = record {
-    depends_is = are.depends_is;
-    visible_is = λ c w e. ⊎_elim
-        (λ (same, one). subst (λ k. VisibleIs k w) (sym same) (one ∙ is))
-        (λ was. are.visible_is c w was)
-        (known_cases vs c.0 w within e);
+    right = record {
+      depends_is = are.right.depends_is;
+      visible_is = one_right t kept (λ x. x.visible) vs j y w within at is are.right.visible_is;
+    };
     depends_kept = are.depends_kept;
-    visible_kept = λ c w m e. ⊎_elim
-        (λ (same, one). subst (λ k. VisibleKept k) (sym same) reads m)
-        (λ was. are.visible_kept c w m was)
-        (known_cases vs c.0 w within e);
+    visible_kept = one_kept t kept (λ x. x.visible) vs j y w within at reads are.visible_kept;
   }
+
+pub parent_around : (o : Option BlockValue) (x : BlockValue) (next : Option BlockId) → o ≡ Some x → next ≡ x.parent → IfSome next (λ p. option_and_then (λ (y : BlockValue). y.parent) o ≡ Some p)
+parent_around o x None at is = tt
+parent_around o x (Some p) at is = ap (option_and_then (λ (y : BlockValue). y.parent)) at ∙ sym is
+
+-- ---- all blocks
+mapped_is : (f : BlockValue → Tri) (xs : List BlockValue) (k : ℕ) (x : BlockValue) (v : Tri) → slice_get xs k ≡ Some x → get_or (map (λ y. Some (f y)) xs) k None ≡ Some v → v ≡ f x
+mapped_is f [] k x v at e = let no : None ≡ Some v = e in cc
+mapped_is f (y ∷ ys) zero x v at e = sym (some_is (f y) v e) ∙ ap f (block_is y x at)
+mapped_is f (y ∷ ys) (suc k) x v at e = mapped_is f ys k x v at e
+
+pub all_right : (t : TreeValue) (values : List (Option Value)) (c : BlockConditionsValue) → c ≡ block_conditions t (assignment_of t values) → AreRight t values c.depends c.visible
+unfolding IsRightOf
+all_right t values c is = subst (λ (b : BlockConditionsValue). AreRight t values b.depends b.visible) (sym is) (record {
+  depends_is = λ k x v at e. mapped_is (λ y. conditions_value t (assignment_of t values) y.depends) t.blocks k x v at e;
+  visible_is = λ k x v at e. mapped_is (λ y. conditions_value t (assignment_of t values) y.visible) t.blocks k x v at e;
+})
+
+-- ---- the blocks around a place, of which all that they read is kept
+-- what the first of them reads, and what those around it read
+pub first_reads : (t : TreeValue) (lines : BlockValue → List Expr) (n m : ℕ) (id : BlockId) (x : BlockValue) (q : Node) → n ≡ suc m → slice_get t.blocks id.0 ≡ Some x → Contains (conditions_nodes t (lines x)) q
+    → Contains (flat_map (λ (b : BlockValue). conditions_nodes t (lines b)) (blocks_from t.blocks n (Some id))) q
+first_reads t lines n m id x q more at c =
+    subst (λ bs. Contains (flat_map (λ (b : BlockValue). conditions_nodes t (lines b)) bs) q) (sym (blocks_from-next t.blocks n m (Some id) x more at))
+    (Contains-append_left (conditions_nodes t (lines x)) (flat_map (λ (b : BlockValue). conditions_nodes t (lines b)) (blocks_from t.blocks m x.parent)) q c)
+
+pub rest_reads : (t : TreeValue) (lines : BlockValue → List Expr) (n m : ℕ) (id : BlockId) (next : Option BlockId) (q : Node) → n ≡ suc m → IfSome next (λ p. option_and_then (λ (x : BlockValue). x.parent) (slice_get t.blocks id.0) ≡ Some p)
+    → Contains (flat_map (λ (b : BlockValue). conditions_nodes t (lines b)) (blocks_from t.blocks m next)) q
+    → Contains (flat_map (λ (b : BlockValue). conditions_nodes t (lines b)) (blocks_from t.blocks n (Some id))) q
+rest_reads t lines n zero id None q more around c = absurd (omega (arith, c.1))
+rest_reads t lines n (suc m) id None q more around c = absurd (omega (arith, c.1))
+rest_reads t lines n m id (Some p) q more around c = found (slice_get t.blocks id.0) refl around
+  where
+    found : (o : Option BlockValue) → slice_get t.blocks id.0 ≡ o → option_and_then (λ (x : BlockValue). x.parent) o ≡ Some p
+        → Contains (flat_map (λ (b : BlockValue). conditions_nodes t (lines b)) (blocks_from t.blocks n (Some id))) q
+    found None is parent = let never : None ≡ Some p = parent in cc
+    found (Some x) is parent =
+        subst (λ bs. Contains (flat_map (λ (b : BlockValue). conditions_nodes t (lines b)) bs) q) (sym (blocks_from-next t.blocks n m (Some id) x more is))
+        (Contains-append_right (conditions_nodes t (lines x)) (flat_map (λ (b : BlockValue). conditions_nodes t (lines b)) (blocks_from t.blocks m x.parent)) q
+        (subst (λ o. Contains (flat_map (λ (b : BlockValue). conditions_nodes t (lines b)) (blocks_from t.blocks m o)) q) (sym parent) c))
 
 -- ---- what is known stays so where more is kept
 pub known_stays : (t : TreeValue) (kept more : List (Option Value)) (ds vs : List (Option Tri)) → ((m : Node) → IsKept t kept m → value_at t more m ≡ value_at t kept m) → AreKnown t kept ds vs → AreKnown t more ds vs
+unfolding IsRightOf IsKeptOf
 known_stays t kept more ds vs same are = record {
-  depends_is = λ b v e.
-      are.depends_is b v e
-      ∙ blocks_depend_agrees (assignment_of t kept) (assignment_of t more) t (blocks_around t (Some b))
-      (Agree-from_contains (assignment_of t kept) (assignment_of t more) (depends_nodes t (blocks_around t (Some b))) (λ m c. as_was m (are.depends_kept b v m e c)));
-  visible_is = λ b v e.
-      are.visible_is b v e
-      ∙ blocks_visible_agrees (assignment_of t kept) (assignment_of t more) t (blocks_around t (Some b))
-      (Agree-from_contains (assignment_of t kept) (assignment_of t more) (visible_nodes t (blocks_around t (Some b))) (λ m c. as_was m (are.visible_kept b v m e c)));
-  depends_kept = λ b v m e c. stays m (are.depends_kept b v m e c);
-  visible_kept = λ b v m e c. stays m (are.visible_kept b v m e c);
+  right = record {
+    depends_is = λ k x v at e. still (λ y. y.depends) k x v (are.right.depends_is k x v at e) (λ m c. are.depends_kept k x v m at e c);
+    visible_is = λ k x v at e. still (λ y. y.visible) k x v (are.right.visible_is k x v at e) (λ m c. are.visible_kept k x v m at e c);
+  };
+  depends_kept = λ k x v m at e c. stays m (are.depends_kept k x v m at e c);
+  visible_kept = λ k x v m at e c. stays m (are.visible_kept k x v m at e c);
 }
   where
     as_was : (m : Node) → IsKept t kept m → assignment_of t kept m ≡ assignment_of t more m
@@ -138,6 +177,13 @@ known_stays t kept more ds vs same are = record {
 
     stays : (m : Node) → IsKept t kept m → IsKept t more m
     stays m k = ap is_some (same m k) ∙ k
+
+    still : (lines : BlockValue → List Expr) (k : ℕ) (x : BlockValue) (v : Tri) → v ≡ conditions_value t (assignment_of t kept) (lines x) → ((m : Node) → Contains (conditions_nodes t (lines x)) m → IsKept t kept m)
+        → v ≡ conditions_value t (assignment_of t more) (lines x)
+    still lines k x v is reads =
+        is
+        ∙ conditions_agree (assignment_of t kept) (assignment_of t more) t (lines x)
+        (Agree-from_contains (assignment_of t kept) (assignment_of t more) (conditions_nodes t (lines x)) (λ m c. as_was m (reads m c)))
 
 -- where a node is kept that was not
 pub known_with_more : (t : TreeValue) (kept more : List (Option Value)) (x : Node) (v : Value) (ds vs : List (Option Tri)) → IsNodeOf t x → length kept ≡ node_count t → is_kept t kept x ≡ false

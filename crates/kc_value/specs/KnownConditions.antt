@@ -1,23 +1,48 @@
--- What a pass over the nodes has found of the conditions of blocks: this project's own.
-use Rattle.std.specs.Prelude.{◌≡◌, List, Option, Some, None, Contains, slice_index_or}
-use Rattle.kc_outline.specs.declared.id.BlockId.{BlockId}
-use Rattle.kc_outline.specs.TreeValue.{TreeValue, blocks_around}
+-- What is known of the own conditions of blocks: this project's own.
+use Rattle.std.specs.Prelude.{◌≡◌, ℕ, List, Option, Some, None, Contains, map, slice_get, slice_index_or}
+use Rattle.kc_outline.specs.TreeValue.{TreeValue, BlockValue}
+use Rattle.kc_statement.specs.declared.expr.Expr.{Expr}
 use Rattle.kc_statement.specs.declared.tri.Tri.{Tri}
 use Rattle.kc_tree.specs.declared.node.Node.{Node}
-use Rattle.kc_tree.specs.Uses.{depends_nodes, visible_nodes}
+use Rattle.kc_tree.specs.Uses.{conditions_nodes}
 use Rattle.kc_value.specs.declared.value.Value.{Value}
-use Rattle.kc_value.specs.Assignment.{assignment_of}
-use Rattle.kc_value.specs.Conditions.{blocks_depend, blocks_visible}
+use Rattle.kc_value.specs.Assignment.{Assignment, assignment_of}
+use Rattle.kc_value.specs.ExprValue.{conditions_value}
 use Rattle.kc_value.specs.Kept.{IsKept}
 
--- By the number of a block, what all inside it and the blocks around it depends on, and what the prompts inside depend on
--- besides. What is known is what the kept values give, and all that it reads is kept.
+-- By the number of a block, the value of its own lines of one kind, as far as it is known: it is what the values give.
+unfoldable pub IsRightOf : TreeValue → List (Option Value) → (BlockValue → List Expr) → List (Option Tri) → Type 0
+IsRightOf t values lines known = (k : ℕ) (x : BlockValue) (v : Tri) → slice_get t.blocks k ≡ Some x
+    → slice_index_or known k None ≡ Some v → v ≡ conditions_value t (assignment_of t values) (lines x)
+
+-- All that lines of which the value is known read is kept.
+unfoldable pub IsKeptOf : TreeValue → List (Option Value) → (BlockValue → List Expr) → List (Option Tri) → Type 0
+IsKeptOf t kept lines known = (k : ℕ) (x : BlockValue) (v : Tri) (m : Node) → slice_get t.blocks k ≡ Some x
+    → slice_index_or known k None ≡ Some v → Contains (conditions_nodes t (lines x)) m → IsKept t kept m
+
+-- What a block's own lines say that all inside depends on, and its `visible if` lines, as far as they are known: what the
+-- values give them
+pub record AreRight (t : TreeValue) (values : List (Option Value)) (depends visible : List (Option Tri)) : Type 0 where
+  pub depends_is : IsRightOf t values (λ x. x.depends) depends
+  pub visible_is : IsRightOf t values (λ x. x.visible) visible
+
+-- the same of values that are kept, where all that was read is kept, so that it stays right when more is kept
 pub record AreKnown (t : TreeValue) (kept : List (Option Value)) (depends visible : List (Option Tri)) : Type 0 where
-  pub depends_is : (b : BlockId) (v : Tri) → slice_index_or depends b.0 None ≡ Some v
-      → v ≡ blocks_depend t (assignment_of t kept) (blocks_around t (Some b))
-  pub visible_is : (b : BlockId) (v : Tri) → slice_index_or visible b.0 None ≡ Some v
-      → v ≡ blocks_visible t (assignment_of t kept) (blocks_around t (Some b))
-  pub depends_kept : (b : BlockId) (v : Tri) (m : Node) → slice_index_or depends b.0 None ≡ Some v
-      → Contains (depends_nodes t (blocks_around t (Some b))) m → IsKept t kept m
-  pub visible_kept : (b : BlockId) (v : Tri) (m : Node) → slice_index_or visible b.0 None ≡ Some v
-      → Contains (visible_nodes t (blocks_around t (Some b))) m → IsKept t kept m
+  pub right : AreRight t kept depends visible
+  pub depends_kept : IsKeptOf t kept (λ x. x.depends) depends
+  pub visible_kept : IsKeptOf t kept (λ x. x.visible) visible
+
+-- the own conditions of all blocks of a tree, by number
+pub record BlockConditionsValue : Type 0 where
+  pub depends : List (Option Tri)
+  pub visible : List (Option Tri)
+
+-- what an assignment gives one, and all
+abbrev pub own_depends : TreeValue → Assignment → BlockValue → Option Tri
+own_depends t a x = Some (conditions_value t a x.depends)
+
+abbrev pub own_visible : TreeValue → Assignment → BlockValue → Option Tri
+own_visible t a x = Some (conditions_value t a x.visible)
+
+abbrev pub block_conditions : TreeValue → Assignment → BlockConditionsValue
+block_conditions t a = record { depends = map (own_depends t a) t.blocks; visible = map (own_visible t a) t.blocks }

@@ -3,7 +3,7 @@
 ghost use Rattle.std.specs.Prelude.{◌≡◌, ◌&&◌, find, filter_map, slice_get};
 ghost use Rattle.kc_value.specs.Assignment.{assignment_of};
 ghost use Rattle.kc_value.specs.ExprValue.{yes_if};
-ghost use Rattle.kc_value.specs.KnownConditions.{AreKnown};
+ghost use Rattle.kc_value.specs.KnownConditions.{AreRight};
 ghost use Rattle.kc_value.specs.ChoiceRule.{mode, is_visible, is_symbol, chosen_member, default_member, selection, selected_in, member_rule};
 
 use crate::conditions::choice_prompt_tri;
@@ -28,7 +28,7 @@ pub(crate) fn mode_value(
     known: KnownConditions<'_>,
     env: &[Option<Value>],
 ) -> Tri
-    requires known { AreKnown tree.now env.now known.depends.now known.visible.now }
+    requires known { AreRight tree.now env.now known.depends.now known.visible.now }
     ensures { result ≡ mode tree.now (assignment_of tree.now env.now) choice.now chosen }
 {
     let is_wanted = !choice.is_optional() || chosen.is_some();

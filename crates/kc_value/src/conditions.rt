@@ -1,14 +1,16 @@
 //! The conditions of definitions, menus and comments.
 
-ghost use Rattle.std.specs.Prelude.{◌≡◌, option_and_then, slice_get};
+ghost use Rattle.std.specs.Prelude.{◌≡◌, Some, option_and_then, slice_get};
 ghost use Rattle.std.specs.Option.{option_copied};
 ghost use Rattle.kc_tree.specs.Nodes.{IsNodeOf};
 ghost use Rattle.kc_tree.specs.declared.node.Node.{Node};
 ghost use Rattle.kc_value.specs.Assignment.{Assignment, assignment_of};
 ghost use Rattle.kc_outline.specs.TreeValue.{blocks_from, blocks_around};
-ghost use Rattle.kc_value.specs.KnownConditions.{AreKnown};
+ghost use Rattle.kc_value.specs.ExprValue.{conditions_value};
+ghost use Rattle.kc_value.specs.KnownConditions.{AreRight, block_conditions};
 ghost use Rattle.kc_value.specs.Conditions.{blocks_depend, blocks_visible, dependency, prompt_value, mode_around, choice_prompt_value, menu_value, comment_value, menu_condition, comment_condition};
 
+use crate::block_conditions::BlockConditions;
 use crate::expr_value::{conditions_tri, node_tri, own_condition_tri};
 use crate::known_conditions::KnownConditions;
 use crate::value::Value;
@@ -16,11 +18,29 @@ use kc_outline::MOST_OPEN_BLOCKS;
 use kc_tree::{Block, BlockId, Choice, ChoiceId, Comment, CommentId, Definition, Node, Tree, Tri};
 
 /// A block by number, if there is one.
-fn block_at(tree: &Tree, id: Option<BlockId>) -> Option<&Block>
+pub(crate) fn block_at(tree: &Tree, id: Option<BlockId>) -> Option<&Block>
     ensures { option_copied result ≡ option_and_then (λ i. slice_get tree.now.blocks i.0) id }
 {
     let id = id?;
     tree.blocks().get(id.0)
+}
+
+/// What a block's own lines say that all inside depends on.
+fn own_depends_tri(
+    tree: &Tree,
+    id: Option<BlockId>,
+    block: &Block,
+    known: KnownConditions<'_>,
+    env: &[Option<Value>],
+) -> Tri
+    requires known { AreRight tree.now env.now known.depends.now known.visible.now }
+    requires block { option_and_then (λ i. slice_get tree.now.blocks i.0) id ≡ Some block.now }
+    ensures { result ≡ conditions_value tree.now (assignment_of tree.now env.now) block.now.depends }
+{
+    match known.depends_of(id) {
+        Some(value) => value,
+        None => conditions_tri(tree, block.depends(), env),
+    }
 }
 
 /// What all inside some blocks depends on: those from one outwards, so many at most.
@@ -28,8 +48,10 @@ fn depend_within(
     tree: &Tree,
     limit: usize,
     innermost: Option<BlockId>,
+    known: KnownConditions<'_>,
     env: &[Option<Value>],
 ) -> Tri
+    requires known { AreRight tree.now env.now known.depends.now known.visible.now }
     ensures { result ≡ blocks_depend tree.now (assignment_of tree.now env.now) (blocks_from tree.now.blocks limit innermost) }
 {
     let mut least = Tri::Yes;
@@ -38,10 +60,28 @@ fn depend_within(
         let Some(block) = block_at(tree, next) else {
             return least;
         };
-        least = least.and(conditions_tri(tree, block.depends(), env));
+        least = least.and(own_depends_tri(tree, next, block, known, env));
         next = block.parent();
     }
     least
+}
+
+/// What the `visible if` lines of a block say.
+fn own_visible_tri(
+    tree: &Tree,
+    id: Option<BlockId>,
+    block: &Block,
+    known: KnownConditions<'_>,
+    env: &[Option<Value>],
+) -> Tri
+    requires known { AreRight tree.now env.now known.depends.now known.visible.now }
+    requires block { option_and_then (λ i. slice_get tree.now.blocks i.0) id ≡ Some block.now }
+    ensures { result ≡ conditions_value tree.now (assignment_of tree.now env.now) block.now.visible }
+{
+    match known.visible_of(id) {
+        Some(value) => value,
+        None => conditions_tri(tree, block.visible(), env),
+    }
 }
 
 /// What the prompts inside some blocks depend on besides: those from one outwards, so many at most.
@@ -49,8 +89,10 @@ fn visible_within(
     tree: &Tree,
     limit: usize,
     innermost: Option<BlockId>,
+    known: KnownConditions<'_>,
     env: &[Option<Value>],
 ) -> Tri
+    requires known { AreRight tree.now env.now known.depends.now known.visible.now }
     ensures { result ≡ blocks_visible tree.now (assignment_of tree.now env.now) (blocks_from tree.now.blocks limit innermost) }
 {
     let mut least = Tri::Yes;
@@ -59,7 +101,7 @@ fn visible_within(
         let Some(block) = block_at(tree, next) else {
             return least;
         };
-        least = least.and(conditions_tri(tree, block.visible(), env));
+        least = least.and(own_visible_tri(tree, next, block, known, env));
         next = block.parent();
     }
     least
@@ -72,13 +114,10 @@ pub(crate) fn blocks_depend_tri(
     known: KnownConditions<'_>,
     env: &[Option<Value>],
 ) -> Tri
-    requires known { AreKnown tree.now env.now known.depends.now known.visible.now }
+    requires known { AreRight tree.now env.now known.depends.now known.visible.now }
     ensures { result ≡ blocks_depend tree.now (assignment_of tree.now env.now) (blocks_around tree.now innermost) }
 {
-    match known.depends_around(innermost) {
-        Some(value) => value,
-        None => depend_within(tree, MOST_OPEN_BLOCKS, innermost, env),
-    }
+    depend_within(tree, MOST_OPEN_BLOCKS, innermost, known, env)
 }
 
 /// What the prompts inside the blocks around a place depend on besides.
@@ -88,13 +127,10 @@ pub(crate) fn blocks_visible_tri(
     known: KnownConditions<'_>,
     env: &[Option<Value>],
 ) -> Tri
-    requires known { AreKnown tree.now env.now known.depends.now known.visible.now }
+    requires known { AreRight tree.now env.now known.depends.now known.visible.now }
     ensures { result ≡ blocks_visible tree.now (assignment_of tree.now env.now) (blocks_around tree.now innermost) }
 {
-    match known.visible_around(innermost) {
-        Some(value) => value,
-        None => visible_within(tree, MOST_OPEN_BLOCKS, innermost, env),
-    }
+    visible_within(tree, MOST_OPEN_BLOCKS, innermost, known, env)
 }
 
 /// The dependencies of a definition (kconfig-language.rst, "Menu dependencies"): its own `depends on` lines, and those
@@ -105,7 +141,7 @@ pub(crate) fn dependency_tri(
     known: KnownConditions<'_>,
     env: &[Option<Value>],
 ) -> Tri
-    requires known { AreKnown tree.now env.now known.depends.now known.visible.now }
+    requires known { AreRight tree.now env.now known.depends.now known.visible.now }
     ensures { result ≡ dependency tree.now (assignment_of tree.now env.now) definition.now }
 {
     let own = conditions_tri(tree, definition.depends(), env);
@@ -119,7 +155,7 @@ pub(crate) fn prompt_tri(
     known: KnownConditions<'_>,
     env: &[Option<Value>],
 ) -> Tri
-    requires known { AreKnown tree.now env.now known.depends.now known.visible.now }
+    requires known { AreRight tree.now env.now known.depends.now known.visible.now }
     ensures { result ≡ prompt_value tree.now (assignment_of tree.now env.now) definition.now }
 {
     let Some(prompt) = definition.prompt() else {
@@ -131,20 +167,27 @@ pub(crate) fn prompt_tri(
 }
 
 /// The condition of a menu over the values of the nodes in `env`.
-fn menu_tri(tree: &Tree, menu: &Block, env: &[Option<Value>]) -> Tri
+fn menu_tri(tree: &Tree, menu: &Block, known: KnownConditions<'_>, env: &[Option<Value>]) -> Tri
+    requires known { AreRight tree.now env.now known.depends.now known.visible.now }
     ensures { result ≡ menu_value tree.now (assignment_of tree.now env.now) menu.now }
 {
     let own = conditions_tri(tree, menu.depends(), env);
-    let around = blocks_depend_tri(tree, menu.parent(), KnownConditions::none(), env);
+    let around = blocks_depend_tri(tree, menu.parent(), known, env);
     own.and(around.and(conditions_tri(tree, menu.visible(), env)))
 }
 
 /// The condition of a comment over the values of the nodes in `env`.
-fn comment_tri(tree: &Tree, comment: &Comment, env: &[Option<Value>]) -> Tri
+fn comment_tri(
+    tree: &Tree,
+    comment: &Comment,
+    known: KnownConditions<'_>,
+    env: &[Option<Value>],
+) -> Tri
+    requires known { AreRight tree.now env.now known.depends.now known.visible.now }
     ensures { result ≡ comment_value tree.now (assignment_of tree.now env.now) comment.now }
 {
     let own = conditions_tri(tree, comment.depends(), env);
-    let around = blocks_depend_tri(tree, comment.block(), KnownConditions::none(), env);
+    let around = blocks_depend_tri(tree, comment.block(), known, env);
     own.and(around.and(mode_tri(tree, comment.choice(), env)))
 }
 
@@ -168,7 +211,7 @@ pub(crate) fn choice_prompt_tri(
     known: KnownConditions<'_>,
     env: &[Option<Value>],
 ) -> Tri
-    requires known { AreKnown tree.now env.now known.depends.now known.visible.now }
+    requires known { AreRight tree.now env.now known.depends.now known.visible.now }
     ensures { result ≡ choice_prompt_value tree.now (assignment_of tree.now env.now) choice.now }
 {
     let Some(prompt) = choice.prompt() else {
@@ -180,25 +223,39 @@ pub(crate) fn choice_prompt_tri(
 }
 
 /// The condition of a menu: its own `depends on` and `visible if` lines, and what the blocks around it depend on, but
-/// not their `visible if` lines. It is n for a number that the tree doesn't have. `env` has the values of all nodes.
-pub fn menu_condition(tree: &Tree, menu: BlockId, env: &[Option<Value>]) -> Tri
+/// not their `visible if` lines. It is n for a number that the tree doesn't have. `env` has the values of all nodes, and
+/// `conditions` what these give all blocks.
+pub fn menu_condition(
+    tree: &Tree,
+    menu: BlockId,
+    conditions: &BlockConditions,
+    env: &[Option<Value>],
+) -> Tri
+    requires { conditions.now ≡ block_conditions tree.now (assignment_of tree.now env.now) }
     ensures { (a : Assignment) → ((n : Node) → IsNodeOf tree.now n → assignment_of tree.now env.now n ≡ a n)
         → result ≡ menu_condition tree.now a menu }
 {
     match tree.blocks().get(menu.0 as usize) {
-        Some(block) => menu_tri(tree, block, env),
+        Some(block) => menu_tri(tree, block, conditions.known(), env),
         None => Tri::No,
     }
 }
 
 /// The condition of a comment: its own `depends on` lines, what the blocks around it depend on, and inside a choice its
-/// mode. It is n for a number that the tree doesn't have. `env` has the values of all nodes.
-pub fn comment_condition(tree: &Tree, comment: CommentId, env: &[Option<Value>]) -> Tri
+/// mode. It is n for a number that the tree doesn't have. `env` has the values of all nodes, and `conditions` what these
+/// give all blocks.
+pub fn comment_condition(
+    tree: &Tree,
+    comment: CommentId,
+    conditions: &BlockConditions,
+    env: &[Option<Value>],
+) -> Tri
+    requires { conditions.now ≡ block_conditions tree.now (assignment_of tree.now env.now) }
     ensures { (a : Assignment) → ((n : Node) → IsNodeOf tree.now n → assignment_of tree.now env.now n ≡ a n)
         → result ≡ comment_condition tree.now a comment }
 {
     match tree.comments().get(comment.0 as usize) {
-        Some(comment) => comment_tri(tree, comment, env),
+        Some(comment) => comment_tri(tree, comment, conditions.known(), env),
         None => Tri::No,
     }
 }

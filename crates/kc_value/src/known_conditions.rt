@@ -1,24 +1,26 @@
-//! The conditions of blocks, as far as a pass over the nodes has found them, so that it evaluates each once and not anew
-//! for each symbol inside.
+//! The own conditions of blocks, as far as a pass over the nodes has found them, so that it evaluates each once and not
+//! anew for each symbol and each block inside.
 
 ghost use Rattle.std.specs.Prelude.{◌≡◌, None, Contains, IfOk, IfSome, option_and_then, slice_get, slice_index_or};
 ghost use Rattle.std.specs.Option.{option_copied};
-ghost use Rattle.kc_outline.specs.TreeValue.{TreeValue, blocks_around};
+ghost use Rattle.kc_outline.specs.TreeValue.{TreeValue, BlockValue, blocks_around};
 ghost use Rattle.std.specs.Prelude.{List, Option, Some};
 ghost use Rattle.kc_tree.specs.declared.node.Node.{Node};
-ghost use Rattle.kc_tree.specs.Uses.{Uses, depends_nodes, visible_nodes, prompt_nodes, visibility_nodes, symbol_value_nodes, choice_prompt_nodes};
+ghost use Rattle.kc_tree.specs.Uses.{Uses, conditions_nodes, depends_nodes, visible_nodes, prompt_nodes, visibility_nodes, symbol_value_nodes, choice_prompt_nodes};
 ghost use Rattle.kc_value.specs.declared.value.Value.{Value};
 ghost use Rattle.kc_value.specs.Kept.{IsKept};
 ghost use Rattle.kc_value.specs.KnownConditions.{AreKnown};
 
-use crate::conditions::{blocks_depend_tri, blocks_visible_tri};
+use crate::conditions::block_at;
+use crate::expr_value::conditions_tri;
 use crate::slots::empty_slots;
 use crate::value::Value;
+use kc_outline::MOST_OPEN_BLOCKS;
 use kc_tree::{BlockId, Choice, ChoiceId, Definition, Node, SymId, Symbol, Tree, Tri};
 use std::alloc::{AllocError, Global};
 
-/// What is known, by the number of a block: what all inside it and the blocks around it depends on, and what the prompts
-/// inside depend on besides.
+/// What is known, by the number of a block: what its own lines say that all inside depends on, and what the prompts
+/// inside depend on besides. It says nothing of the blocks around.
 #[derive(Clone, Copy)]
 pub(crate) struct KnownConditions<'a> {
     pub depends: &'a [Option<Tri>],
@@ -38,7 +40,6 @@ fn known_at(known: &[Option<Tri>], block: Option<BlockId>) -> Option<Tri>
 
 impl<'a> KnownConditions<'a> {
     /// Nothing is known.
-    #[tactic(auto, using(crate::proofs::KnownLaws::nothing_known))]
     pub(crate) fn none() -> KnownConditions<'a>
         ensures { (t : TreeValue) (kept : List (Option Value)) → AreKnown t kept result.depends.now result.visible.now }
     {
@@ -48,22 +49,22 @@ impl<'a> KnownConditions<'a> {
         }
     }
 
-    /// What all inside a block depends on, if it is known.
-    pub(crate) fn depends_around(self, block: Option<BlockId>) -> Option<Tri>
+    /// What a block's own lines say that all inside depends on, if it is known.
+    pub(crate) fn depends_of(self, block: Option<BlockId>) -> Option<Tri>
         ensures { result ≡ option_and_then (λ b. slice_index_or self.entry.depends.now b.0 None) block }
     {
         known_at(self.depends, block)
     }
 
-    /// What the prompts inside a block depend on besides, if it is known.
-    pub(crate) fn visible_around(self, block: Option<BlockId>) -> Option<Tri>
+    /// What the `visible if` lines of a block say, if it is known.
+    pub(crate) fn visible_of(self, block: Option<BlockId>) -> Option<Tri>
         ensures { result ≡ option_and_then (λ b. slice_index_or self.entry.visible.now b.0 None) block }
     {
         known_at(self.visible, block)
     }
 }
 
-/// The conditions of blocks that a pass has found, by the number of the block.
+/// The own conditions of blocks that a pass has found, by the number of the block.
 #[derive(Drop)]
 pub(crate) struct FoundConditions {
     depends: Vec<Option<Tri>>,
@@ -135,36 +136,85 @@ impl FoundConditions {
         }
     }
 
-    /// Finds what all inside a block depends on. All that it reads is kept.
-    fn find_depends(&mut self, tree: &Tree, block: BlockId, env: &[Option<Value>])
+    /// Finds what a block's own lines say that all inside depends on, and gives the block around it; none where it was
+    /// found before. All that the lines read is kept.
+    fn find_own_depends(
+        &mut self,
+        tree: &Tree,
+        id: BlockId,
+        env: &[Option<Value>],
+    ) -> Option<BlockId>
         requires known { AreKnown tree.now env.now self.old.depends.items self.old.visible.items }
-        requires kept { (m : Node) → Contains (depends_nodes tree.now (blocks_around tree.now (Some block))) m → IsKept tree.now env.now m }
-        ensures { AreKnown tree.now env.now self.new.depends.items self.new.visible.items }
+        requires kept { (x : BlockValue) (m : Node) → slice_get tree.now.blocks id.0 ≡ Some x → Contains (conditions_nodes tree.now x.depends) m → IsKept tree.now env.now m }
+        ensures known { AreKnown tree.now env.now self.new.depends.items self.new.visible.items }
+        ensures around { IfSome result (λ p. option_and_then (λ x. x.parent) (slice_get tree.now.blocks id.0) ≡ Some p) }
     {
-        if block.0 >= self.depends.len() {
-            return;
+        let block = block_at(tree, Some(id))?;
+        if id.0 >= self.depends.len() {
+            return None;
         }
-        if self.depends[block.0].is_some() {
-            return;
+        if self.depends[id.0].is_some() {
+            return None;
         }
-        let value = blocks_depend_tri(tree, Some(block), self.known(), env);
-        self.depends[block.0] = Some(value);
+        let value = conditions_tri(tree, block.depends(), env);
+        self.depends[id.0] = Some(value);
+        block.parent()
     }
 
-    /// Finds what the prompts inside a block depend on besides. All that it reads is kept.
-    fn find_visible(&mut self, tree: &Tree, block: BlockId, env: &[Option<Value>])
+    /// Finds what the blocks around a place say that all inside depends on: from the innermost outwards, up to one of
+    /// which it was found before. All that it reads is kept.
+    fn find_depends(&mut self, tree: &Tree, innermost: BlockId, env: &[Option<Value>])
         requires known { AreKnown tree.now env.now self.old.depends.items self.old.visible.items }
-        requires kept { (m : Node) → Contains (visible_nodes tree.now (blocks_around tree.now (Some block))) m → IsKept tree.now env.now m }
+        requires kept { (m : Node) → Contains (depends_nodes tree.now (blocks_around tree.now (Some innermost))) m → IsKept tree.now env.now m }
         ensures { AreKnown tree.now env.now self.new.depends.items self.new.visible.items }
     {
-        if block.0 >= self.visible.len() {
-            return;
+        let mut next = Some(innermost);
+        for _ in 0..MOST_OPEN_BLOCKS {
+            let Some(block) = next else {
+                return;
+            };
+            next = self.find_own_depends(tree, block, env);
         }
-        if self.visible[block.0].is_some() {
-            return;
+    }
+
+    /// Finds what the `visible if` lines of a block say, and gives the block around it; none where it was
+    /// found before. All that the lines read is kept.
+    fn find_own_visible(
+        &mut self,
+        tree: &Tree,
+        id: BlockId,
+        env: &[Option<Value>],
+    ) -> Option<BlockId>
+        requires known { AreKnown tree.now env.now self.old.depends.items self.old.visible.items }
+        requires kept { (x : BlockValue) (m : Node) → slice_get tree.now.blocks id.0 ≡ Some x → Contains (conditions_nodes tree.now x.visible) m → IsKept tree.now env.now m }
+        ensures known { AreKnown tree.now env.now self.new.depends.items self.new.visible.items }
+        ensures around { IfSome result (λ p. option_and_then (λ x. x.parent) (slice_get tree.now.blocks id.0) ≡ Some p) }
+    {
+        let block = block_at(tree, Some(id))?;
+        if id.0 >= self.visible.len() {
+            return None;
         }
-        let value = blocks_visible_tri(tree, Some(block), self.known(), env);
-        self.visible[block.0] = Some(value);
+        if self.visible[id.0].is_some() {
+            return None;
+        }
+        let value = conditions_tri(tree, block.visible(), env);
+        self.visible[id.0] = Some(value);
+        block.parent()
+    }
+
+    /// Finds what the `visible if` lines of the blocks around a place say, in the same way.
+    fn find_visible(&mut self, tree: &Tree, innermost: BlockId, env: &[Option<Value>])
+        requires known { AreKnown tree.now env.now self.old.depends.items self.old.visible.items }
+        requires kept { (m : Node) → Contains (visible_nodes tree.now (blocks_around tree.now (Some innermost))) m → IsKept tree.now env.now m }
+        ensures { AreKnown tree.now env.now self.new.depends.items self.new.visible.items }
+    {
+        let mut next = Some(innermost);
+        for _ in 0..MOST_OPEN_BLOCKS {
+            let Some(block) = next else {
+                return;
+            };
+            next = self.find_own_visible(tree, block, env);
+        }
     }
 
     /// Finds what a prompt in a definition depends on by the blocks around. All that the prompt reads is kept.

@@ -2,6 +2,7 @@
 #![tactic(auto)]
 
 mod assignable_values;
+mod block_conditions;
 mod bounds;
 mod changed;
 mod choice_value;
@@ -29,6 +30,7 @@ mod value;
 mod without;
 
 pub use assignable_values::{assignable, assignable_among};
+pub use block_conditions::BlockConditions;
 pub use changed::changed_value;
 pub use conditions::{comment_condition, menu_condition};
 pub use evaluation::eval;

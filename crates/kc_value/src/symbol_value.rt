@@ -8,7 +8,7 @@ ghost use Rattle.kc_outline.specs.TreeValue.{definitions_of};
 ghost use Rattle.kc_value.specs.Assignment.{assignment_of};
 ghost use Rattle.kc_value.specs.Conditions.{dependency, prompt_value};
 ghost use Rattle.kc_value.specs.ExprValue.{own_condition};
-ghost use Rattle.kc_value.specs.KnownConditions.{AreKnown};
+ghost use Rattle.kc_value.specs.KnownConditions.{AreRight};
 ghost use Rattle.kc_value.specs.Defaults.{is_active};
 ghost use Rattle.kc_value.specs.Rule.{in_bool, has_modules, in_type, visibility, definition_default, reverse_value, reverse_values, direct, user_part, tri_rule, symbol_rule};
 
@@ -60,7 +60,7 @@ fn numbered_prompt_tri(
     known: KnownConditions<'_>,
     env: &[Option<Value>],
 ) -> Tri
-    requires known { AreKnown tree.now env.now known.depends.now known.visible.now }
+    requires known { AreRight tree.now env.now known.depends.now known.visible.now }
     ensures { result
         ≡ option_map_or (prompt_value tree.now (assignment_of tree.now env.now)) (slice_get tree.now.definitions number) No }
 {
@@ -78,7 +78,7 @@ pub(crate) fn symbol_visibility(
     known: KnownConditions<'_>,
     env: &[Option<Value>],
 ) -> Tri
-    requires known { AreKnown tree.now env.now known.depends.now known.visible.now }
+    requires known { AreRight tree.now env.now known.depends.now known.visible.now }
     ensures { result ≡ visibility tree.now (assignment_of tree.now env.now) symbol.now }
 {
     let mut greatest = Tri::No;
@@ -159,7 +159,7 @@ fn with_definition(
     known: KnownConditions<'_>,
     env: &[Option<Value>],
 ) -> Defined
-    requires known { AreKnown tree.now env.now known.depends.now known.visible.now }
+    requires known { AreRight tree.now env.now known.depends.now known.visible.now }
     ensures default { result.default ≡ option_or defined.default
         (option_and_then (definition_default tree.now (assignment_of tree.now env.now))
         (slice_get tree.now.definitions number)) }
@@ -187,7 +187,7 @@ fn definitions_of(
     known: KnownConditions<'_>,
     env: &[Option<Value>],
 ) -> Defined
-    requires known { AreKnown tree.now env.now known.depends.now known.visible.now }
+    requires known { AreRight tree.now env.now known.depends.now known.visible.now }
     ensures default { result.default
         ≡ slice_get
         (filter_map (definition_default tree.now (assignment_of tree.now env.now)) (definitions_of tree.now symbol.now)) 0 }
@@ -210,7 +210,7 @@ fn numbered_dependency_tri(
     known: KnownConditions<'_>,
     env: &[Option<Value>],
 ) -> Tri
-    requires known { AreKnown tree.now env.now known.depends.now known.visible.now }
+    requires known { AreRight tree.now env.now known.depends.now known.visible.now }
     ensures { result
         ≡ option_map_or (dependency tree.now (assignment_of tree.now env.now)) (slice_get tree.now.definitions number) No }
 {
@@ -227,7 +227,7 @@ fn reverse_tri(
     known: KnownConditions<'_>,
     env: &[Option<Value>],
 ) -> Tri
-    requires known { AreKnown tree.now env.now known.depends.now known.visible.now }
+    requires known { AreRight tree.now env.now known.depends.now known.visible.now }
     ensures { result ≡ reverse_value tree.now (assignment_of tree.now env.now) reverse.now }
 {
     let value = symbol_tri(tree, env, reverse.by);
@@ -245,7 +245,7 @@ fn reverses_tri(
     known: KnownConditions<'_>,
     env: &[Option<Value>],
 ) -> Tri
-    requires known { AreKnown tree.now env.now known.depends.now known.visible.now }
+    requires known { AreRight tree.now env.now known.depends.now known.visible.now }
     ensures { result ≡ reverse_values tree.now (assignment_of tree.now env.now) reverses.now }
 {
     let mut greatest = Tri::No;
@@ -277,7 +277,7 @@ pub(crate) fn tri_value(
     known: KnownConditions<'_>,
     env: &[Option<Value>],
 ) -> Value
-    requires known { AreKnown tree.now env.now known.depends.now known.visible.now }
+    requires known { AreRight tree.now env.now known.depends.now known.visible.now }
     ensures { result ≡ tri_rule tree.now (assignment_of tree.now env.now) symbol.now visibility (option_copied user.entry) }
 {
     let defined = definitions_of(tree, symbol, known, env);
@@ -306,7 +306,7 @@ pub(crate) fn symbol_value(
     known: KnownConditions<'_>,
     env: &[Option<Value>],
 ) -> Result<Value, AllocError>
-    requires known { AreKnown tree.now env.now known.depends.now known.visible.now }
+    requires known { AreRight tree.now env.now known.depends.now known.visible.now }
     ensures { IfOk result (λ v. v
         ≡ symbol_rule tree.now (assignment_of tree.now env.now) id symbol.now visibility (option_copied user.entry)) }
 {

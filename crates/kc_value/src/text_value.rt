@@ -7,7 +7,7 @@ ghost use Rattle.kc_outline.specs.TreeValue.{kind_of};
 ghost use Rattle.kc_value.specs.Assignment.{assignment_of};
 ghost use Rattle.kc_value.specs.BoundsRange.{AreSmall};
 ghost use Rattle.kc_value.specs.Conditions.{dependency};
-ghost use Rattle.kc_value.specs.KnownConditions.{AreKnown};
+ghost use Rattle.kc_value.specs.KnownConditions.{AreRight};
 ghost use Rattle.kc_value.specs.ExprValue.{own_condition};
 ghost use Rattle.kc_value.specs.TextRule.{value_text, definition_text, default_text, bounds_in, definition_bounds, bounds_of, is_range_active, user_text, text_rule};
 
@@ -40,7 +40,7 @@ fn definition_text<'a>(
     known: KnownConditions<'_>,
     env: &'a [Option<Value>],
 ) -> Option<&'a str>
-    requires known { AreKnown tree.now env.now known.depends.now known.visible.now }
+    requires known { AreRight tree.now env.now known.depends.now known.visible.now }
     ensures { option_map (λ w. w.now) result ≡ definition_text tree.now (assignment_of tree.now env.now) definition.now }
 {
     let depends = dependency_tri(tree, definition, known, env);
@@ -55,7 +55,7 @@ fn numbered_text<'a>(
     known: KnownConditions<'_>,
     env: &'a [Option<Value>],
 ) -> Option<&'a str>
-    requires known { AreKnown tree.now env.now known.depends.now known.visible.now }
+    requires known { AreRight tree.now env.now known.depends.now known.visible.now }
     ensures { option_map (λ w. w.now) result ≡ option_map_or (definition_text tree.now (assignment_of tree.now env.now)) (slice_get tree.now.definitions number) None }
 {
     match tree.definitions().get(number) {
@@ -71,7 +71,7 @@ fn default_text<'a>(
     known: KnownConditions<'_>,
     env: &'a [Option<Value>],
 ) -> Option<&'a str>
-    requires known { AreKnown tree.now env.now known.depends.now known.visible.now }
+    requires known { AreRight tree.now env.now known.depends.now known.visible.now }
     ensures { option_map (λ w. w.now) result ≡ default_text tree.now (assignment_of tree.now env.now) symbol.now }
 {
     for number in symbol.definitions() {
@@ -128,7 +128,7 @@ fn numbered_bounds(
     known: KnownConditions<'_>,
     env: &[Option<Value>],
 ) -> Option<Bounds>
-    requires known { AreKnown tree.now env.now known.depends.now known.visible.now }
+    requires known { AreRight tree.now env.now known.depends.now known.visible.now }
     ensures bounds { result ≡ option_map_or (definition_bounds tree.now (assignment_of tree.now env.now) kind) (slice_get tree.now.definitions number) None }
     ensures small { AreSmall kind result }
 {
@@ -145,7 +145,7 @@ fn bounds_of(
     known: KnownConditions<'_>,
     env: &[Option<Value>],
 ) -> Option<Bounds>
-    requires known { AreKnown tree.now env.now known.depends.now known.visible.now }
+    requires known { AreRight tree.now env.now known.depends.now known.visible.now }
     ensures bounds { result ≡ bounds_of tree.now (assignment_of tree.now env.now) symbol.now }
     ensures small { AreSmall (kind_of symbol.now) result }
 {
@@ -195,7 +195,7 @@ pub(crate) fn text_value(
     known: KnownConditions<'_>,
     env: &[Option<Value>],
 ) -> Result<Value, AllocError>
-    requires known { AreKnown tree.now env.now known.depends.now known.visible.now }
+    requires known { AreRight tree.now env.now known.depends.now known.visible.now }
     ensures { IfOk result (λ v. v
         ≡ text_rule tree.now (assignment_of tree.now env.now) symbol.now visibility (option_copied user.entry)) }
 {

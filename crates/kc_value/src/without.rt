@@ -5,6 +5,7 @@ ghost use Rattle.kc_tree.specs.declared.node.Node.TheVariants.{Val, Sel};
 ghost use Rattle.kc_tree.specs.Accepted.{IsAccepted};
 ghost use Rattle.kc_tree.specs.Nodes.{IsNodeOf};
 ghost use Rattle.kc_value.specs.Assignment.{assignment_of};
+ghost use Rattle.kc_value.specs.KnownConditions.{AreRight};
 ghost use Rattle.kc_value.specs.Rule.{rule};
 ghost use Rattle.kc_value.specs.UserValues.{UserValues};
 ghost use Rattle.kc_value.specs.Without.{user_without, value_without, selects_none, IsOwned};
@@ -39,24 +40,17 @@ pub(crate) fn value_alone(
     alloc: Global,
     tree: &Tree,
     symbol: SymId,
+    known: KnownConditions<'_>,
     env: &[Option<Value>],
 ) -> Result<Value, AllocError>
+    requires known { AreRight tree.now env.now known.depends.now known.visible.now }
     ensures { (u : UserValues) → IfOk result (λ v. v
         ≡ rule tree.now (user_without u (Val symbol)) (assignment_of tree.now env.now) (Val symbol)) }
 {
     match tree.symbols().get(symbol.0 as usize) {
         Some(found) => {
             let visibility = node_tri(tree, env, Node::Vis(symbol));
-            symbol_value(
-                alloc,
-                tree,
-                symbol,
-                found,
-                visibility,
-                None,
-                KnownConditions::none(),
-                env,
-            )
+            symbol_value(alloc, tree, symbol, found, visibility, None, known, env)
         }
         None => Ok(Value::Tri(Tri::No)),
     }
@@ -97,7 +91,10 @@ pub fn without_user<R: Resolver>(
     }
     let env = used_values(alloc, resolver, node)?;
     match node {
-        Node::Val(symbol) => value_alone(alloc, resolver.tree(), symbol, env.as_slice()),
+        Node::Val(symbol) => {
+            let known = KnownConditions::none();
+            value_alone(alloc, resolver.tree(), symbol, known, env.as_slice())
+        }
         Node::Sel(choice) => Ok(selection_alone(resolver.tree(), choice, env.as_slice())),
         Node::Vis(_) | Node::Mode(_) => unreachable!(),
     }
