@@ -150,20 +150,6 @@ impl<'a> Model for SharedRow<'a> {
     ghost view = { λ a. a.shared.now ++ whole_row a.nodes a.rows.now a.left.now };
 }
 
-impl<'a> SharedRow<'a> {
-    /// The result goes over the nodes that are left once more. It takes no memory.
-    pub fn again(&self) -> SharedRow<'a>
-        ensures { result ≡ self.now }
-    {
-        SharedRow {
-            nodes: self.nodes,
-            rows: self.rows,
-            left: self.left,
-            shared: self.shared,
-        }
-    }
-}
-
 impl<'a> Iterator for SharedRow<'a> {
     type Item = u32;
 

@@ -37,16 +37,6 @@ impl<'a> NodeRow<'a> {
     {
         NodeRow { symbols, left }
     }
-
-    /// Goes over the nodes that are left once more. This takes no memory.
-    pub fn again(&self) -> NodeRow<'a>
-        ensures { result ≡ self.now }
-    {
-        NodeRow {
-            symbols: self.symbols,
-            left: self.left.again(),
-        }
-    }
 }
 
 impl<'a> Iterator for NodeRow<'a> {
