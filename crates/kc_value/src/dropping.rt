@@ -9,38 +9,33 @@ ghost use Rattle.kc_value.specs.Dirty.{Drops};
 ghost use Rattle.kc_value.specs.DropWalk.{AreWalked, DropsAll, IsDropping};
 ghost use Rattle.kc_value.specs.Kept.{IsClosed, kept_count};
 
+use crate::kept_slots::KeptSlots;
 use crate::kept_values::KeptValues;
 use crate::marks::{clear_marks, is_marked, mark};
-use crate::value::Value;
 use kc_graph::Rows;
 use kc_tree::{Node, Tree};
 
 /// Drops the value of the node of a number, if it has one, and then lists the node. There is room for it, so that this
 /// takes no memory.
-pub(crate) fn drop_one(
-    tree: &Tree,
-    values: &mut Vec<Option<Value>>,
-    list: &mut Vec<Node>,
-    number: usize,
-)
+pub(crate) fn drop_one(tree: &Tree, values: &mut KeptSlots, list: &mut Vec<Node>, number: usize)
     requires inside { number < node_count tree.now }
-    requires whole { length values.old.items ≡ node_count tree.now }
-    requires room { length list.old.items + kept_count values.old.items ≤ vec_capacity list.old }
-    ensures drops { DropsAll tree.now (node_at tree.now number ∷ []) values.old.items values.new.items list.old.items list.new.items }
+    requires whole { length values.old ≡ node_count tree.now }
+    requires room { length list.old.items + kept_count values.old ≤ vec_capacity list.old }
+    ensures drops { DropsAll tree.now (node_at tree.now number ∷ []) values.old values.new list.old.items list.new.items }
     ensures capacity { vec_capacity list.old ≤ vec_capacity list.new }
 {
-    if values[number].is_some() {
-        values[number] = None;
+    if values.has(number) {
+        values.remove(number);
         let _ = list.push(tree.node(number));
     }
 }
 
 /// Drops the values of nodes by their numbers, and lists those that had one.
-fn drop_listed(tree: &Tree, values: &mut Vec<Option<Value>>, list: &mut Vec<Node>, numbers: &[u32])
+fn drop_listed(tree: &Tree, values: &mut KeptSlots, list: &mut Vec<Node>, numbers: &[u32])
     requires inside { (k : ℕ) → Contains numbers.now k → k < node_count tree.now }
-    requires whole { length values.old.items ≡ node_count tree.now }
-    requires room { length list.old.items + kept_count values.old.items ≤ vec_capacity list.old }
-    ensures drops { DropsAll tree.now (map (node_at tree.now) numbers.now) values.old.items values.new.items list.old.items list.new.items }
+    requires whole { length values.old ≡ node_count tree.now }
+    requires room { length list.old.items + kept_count values.old ≤ vec_capacity list.old }
+    ensures drops { DropsAll tree.now (map (node_at tree.now) numbers.now) values.old values.new list.old.items list.new.items }
     ensures capacity { vec_capacity list.old ≤ vec_capacity list.new }
 {
     for number in numbers {
@@ -54,17 +49,17 @@ fn drop_for_number(
     tree: &Tree,
     table: &Rows,
     walked: &mut Vec<bool>,
-    values: &mut Vec<Option<Value>>,
+    values: &mut KeptSlots,
     list: &mut Vec<Node>,
     number: usize,
 )
     requires shared { IsShared (node_count tree.now) table.now }
-    requires whole { length values.old.items ≡ node_count tree.now }
-    requires room { length list.old.items + kept_count values.old.items ≤ vec_capacity list.old }
-    requires walked { AreWalked tree.now table.now walked.old.items values.old.items }
+    requires whole { length values.old ≡ node_count tree.now }
+    requires room { length list.old.items + kept_count values.old ≤ vec_capacity list.old }
+    requires walked { AreWalked tree.now table.now walked.old.items values.old }
     ensures drops { DropsAll tree.now (map (node_at tree.now) (stands_for (node_count tree.now) table.now number))
-        values.old.items values.new.items list.old.items list.new.items }
-    ensures walked { AreWalked tree.now table.now walked.new.items values.new.items }
+        values.old values.new list.old.items list.new.items }
+    ensures walked { AreWalked tree.now table.now walked.new.items values.new }
     ensures capacity { vec_capacity list.old ≤ vec_capacity list.new }
 {
     let count = tree.node_count();
@@ -81,17 +76,17 @@ fn drop_row(
     tree: &Tree,
     table: &Rows,
     walked: &mut Vec<bool>,
-    values: &mut Vec<Option<Value>>,
+    values: &mut KeptSlots,
     list: &mut Vec<Node>,
     numbers: &[u32],
 )
     requires shared { IsShared (node_count tree.now) table.now }
-    requires whole { length values.old.items ≡ node_count tree.now }
-    requires room { length list.old.items + kept_count values.old.items ≤ vec_capacity list.old }
-    requires walked { AreWalked tree.now table.now walked.old.items values.old.items }
+    requires whole { length values.old ≡ node_count tree.now }
+    requires room { length list.old.items + kept_count values.old ≤ vec_capacity list.old }
+    requires walked { AreWalked tree.now table.now walked.old.items values.old }
     ensures drops { DropsAll tree.now (map (node_at tree.now) (whole_row (node_count tree.now) table.now numbers.now))
-        values.old.items values.new.items list.old.items list.new.items }
-    ensures walked { AreWalked tree.now table.now walked.new.items values.new.items }
+        values.old values.new list.old.items list.new.items }
+    ensures walked { AreWalked tree.now table.now walked.new.items values.new }
     ensures capacity { vec_capacity list.old ≤ vec_capacity list.new }
 {
     for number in numbers {
@@ -104,18 +99,18 @@ fn drop_row(
 /// that rows share once, and takes no memory.
 pub(crate) fn walk(
     tree: &Tree,
-    values: &mut Vec<Option<Value>>,
+    values: &mut KeptSlots,
     list: &mut Vec<Node>,
     walked: &mut Vec<bool>,
 )
     requires inside { (n : Node) → Contains list.old.items n → IsNodeOf tree.now n }
-    requires whole { length values.old.items ≡ node_count tree.now }
-    requires room { length list.old.items + kept_count values.old.items ≤ vec_capacity list.old }
+    requires whole { length values.old ≡ node_count tree.now }
+    requires room { length list.old.items + kept_count values.old ≤ vec_capacity list.old }
     requires unmarked { (k : ℕ) → slice_index_or walked.old.items k false ≡ false }
     ensures drops { (starts : List Node) (first : List (Option Value)) → IsClosed tree.now first
-        → IsDropping tree.now starts first values.old.items list.old.items
-        → IsClosed tree.now values.new.items × Drops tree.now starts first values.new.items }
-    ensures whole { length values.new.items ≡ length values.old.items }
+        → IsDropping tree.now starts first values.old list.old.items
+        → IsClosed tree.now values.new × Drops tree.now starts first values.new }
+    ensures whole { length values.new ≡ length values.old }
     ensures capacity { vec_capacity list.old ≤ vec_capacity list.new }
 {
     let table = tree.user_table();

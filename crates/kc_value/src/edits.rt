@@ -16,10 +16,10 @@ ghost use Rattle.kc_value.specs.Without.{is_optional_choice};
 
 use crate::changed::{is_same_member, is_same_user_value};
 use crate::dropping::{drop_one, walk};
+use crate::kept_slots::KeptSlots;
 use crate::kept_values::KeptValues;
 use crate::marks::clear_marks;
 use crate::user::User;
-use crate::value::Value;
 use kc_tree::{ChoiceId, Node, SymId, Tree, UserVal};
 
 /// Whether a user value, or none, is the same as another; texts are so as they are spelt.
@@ -80,17 +80,11 @@ fn is_node_changed(tree: &Tree, user: &User, next: &User, node: Node) -> bool
 
 /// Drops the values of all nodes that change where the user values become others, but not of what is computed from them,
 /// and lists the nodes that had one.
-fn drop_changed(
-    tree: &Tree,
-    values: &mut Vec<Option<Value>>,
-    list: &mut Vec<Node>,
-    user: &User,
-    next: &User,
-)
-    requires whole { length values.old.items ≡ node_count tree.now }
-    requires room { length list.old.items + kept_count values.old.items ≤ vec_capacity list.old }
+fn drop_changed(tree: &Tree, values: &mut KeptSlots, list: &mut Vec<Node>, user: &User, next: &User)
+    requires whole { length values.old ≡ node_count tree.now }
+    requires room { length list.old.items + kept_count values.old ≤ vec_capacity list.old }
     ensures drops { DropsAll tree.now (changed_nodes tree.now user.now next.now)
-        values.old.items values.new.items list.old.items list.new.items }
+        values.old values.new list.old.items list.new.items }
     ensures capacity { vec_capacity list.old ≤ vec_capacity list.new }
     ensures accepted { IsAccepted tree.now }
 {

@@ -8,14 +8,14 @@ ghost use Rattle.kc_tree.specs.declared.node.Node.{Node};
 ghost use Rattle.kc_tree.specs.Accepted.{IsAccepted, IsSharedTable};
 ghost use Rattle.kc_tree.specs.Nodes.{IsNodeOf, node_at, node_count, number_of};
 ghost use Rattle.kc_tree.specs.Uses.{Uses};
-ghost use Rattle.kc_value.specs.FillWalk.{HasValue, HaveValues, AllHaveValues, IsSettled, AreMarked, IsPassed};
+ghost use Rattle.kc_value.specs.FillWalk.{HaveValues, AllHaveValues, IsSettled, AreMarked, IsPassed};
 ghost use Rattle.kc_value.specs.Kept.{IsKept, AreKept, Fills};
 
+use crate::kept_slots::KeptSlots;
 use crate::kept_values::KeptValues;
 use crate::known_conditions::KnownConditions;
 use crate::marks::{is_marked, mark, no_marks};
 use crate::user::User;
-use crate::value::Value;
 use kc_graph::Rows;
 use kc_tree::{Node, Tree};
 use std::alloc::{AllocError, Global};
@@ -36,18 +36,8 @@ struct Missing {
     place: usize,
 }
 
-/// Whether the node of a number has a value.
-fn has_value(values: &[Option<Value>], number: u32) -> bool
-    ensures { result ≡ is_some (slice_index_or values.now number None) }
-{
-    match values.get(number as usize) {
-        Some(Some(_)) => true,
-        Some(None) | None => false,
-    }
-}
-
 /// The first node of a list of numbers, from a place on, that has no value. Those before the place have one.
-fn first_missing(values: &[Option<Value>], numbers: &[u32], from: usize) -> Option<Missing>
+fn first_missing(values: &KeptSlots, numbers: &[u32], from: usize) -> Option<Missing>
     requires before { HaveValues values.now numbers.now from }
     ensures at { IfSome result (λ m. (m.place < length numbers.now) × (m.number ≡ slice_index_or numbers.now m.place 0)) }
     ensures missing { IfSome result (λ m. is_some (slice_index_or values.now m.number None) ≡ false) }
@@ -57,7 +47,7 @@ fn first_missing(values: &[Option<Value>], numbers: &[u32], from: usize) -> Opti
     let mut place = from;
     while place < numbers.len() {
         let number = numbers[place];
-        if !has_value(values, number) {
+        if !values.has(number as usize) {
             return Some(Missing { number, place });
         }
         place += 1;
@@ -68,7 +58,7 @@ fn first_missing(values: &[Option<Value>], numbers: &[u32], from: usize) -> Opti
 /// The first node without a value of those that a number of a row stands for; of a shared list, the nodes before a place
 /// have values. A list whose nodes all have values is marked, and passed at once the next time.
 fn missing_for(
-    values: &[Option<Value>],
+    values: &KeptSlots,
     marks: &mut Vec<bool>,
     count: usize,
     table: &Rows,
@@ -86,7 +76,7 @@ fn missing_for(
 {
     let own = number as usize;
     if own < count {
-        if has_value(values, number) {
+        if values.has(number as usize) {
             return None;
         }
         return Some(Missing { number, place: 0 });
@@ -103,7 +93,7 @@ fn missing_for(
 
 /// The first node without a value of those that a step's node uses, from where the step is. The step goes on to there.
 fn missing_from(
-    values: &[Option<Value>],
+    values: &KeptSlots,
     marks: &mut Vec<bool>,
     count: usize,
     table: &Rows,
@@ -170,7 +160,7 @@ impl KeptValues {
         })?;
         while let Some(mut step) = path.pop() {
             let numbers = table.row(tree.number(step.node));
-            match missing_from(self.values(), marks, count, table, numbers, &mut step) {
+            match missing_from(self.slots(), marks, count, table, numbers, &mut step) {
                 Some(number) => {
                     path.push(step)?;
                     path.push(Step {

@@ -38,7 +38,7 @@ impl KeptValues {
             return Ok(());
         }
         self.evaluate(alloc, tree, user, found.known(), node)?;
-        found.find_for(tree, node, self.values.as_slice());
+        found.find_for(tree, node, self.values.values());
         Ok(())
     }
 

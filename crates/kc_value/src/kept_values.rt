@@ -9,10 +9,10 @@ ghost use Rattle.kc_value.specs.KnownConditions.{AreKnown};
 ghost use Rattle.kc_value.specs.Rule.{rule};
 
 use crate::evaluation::eval_over;
+use crate::kept_slots::KeptSlots;
 use crate::known_conditions::KnownConditions;
 use crate::marks::no_marks;
 use crate::meter::Meter;
-use crate::slots::empty_slots;
 use crate::user::User;
 use crate::value::Value;
 use kc_tree::{Node, Tree};
@@ -23,7 +23,7 @@ use std::marker::Model;
 /// each node, by number, and the count.
 #[derive(Drop)]
 pub struct KeptValues {
-    pub(crate) values: Vec<Option<Value>>,
+    pub(crate) values: KeptSlots,
     /// The nodes whose users are still to be dropped, which takes no memory: there is room for all nodes.
     pub(crate) dropped: Vec<Node>,
     /// By the number of a list that rows of the tree share: whether the walk of an edit has gone over it.
@@ -37,9 +37,9 @@ impl Model for KeptValues {
 
     ghost Value = { KeptValue };
 
-    ghost view = { λ k. record { values = k.values.items; evals = k.meter } };
+    ghost view = { λ k. record { values = k.values; evals = k.meter } };
 
-    ghost invariant = { λ k. length k.values.items ≤ vec_capacity k.dropped };
+    ghost invariant = { λ k. length k.values ≤ vec_capacity k.dropped };
 }
 
 impl KeptValues {
@@ -51,7 +51,7 @@ impl KeptValues {
     {
         let count = tree.node_count();
         Ok(KeptValues {
-            values: empty_slots(alloc, count)?,
+            values: KeptSlots::empty(alloc, count)?,
             dropped: Vec::with_capacity(alloc, count)?,
             walked: no_marks(alloc, tree, tree.user_table())?,
             meter: Meter::new(),
@@ -69,17 +69,21 @@ impl KeptValues {
     pub fn values(&self) -> &[Option<Value>]
         ensures { result.now ≡ self.now.values }
     {
-        self.values.as_slice()
+        self.values.values()
+    }
+
+    /// The same, with whether there is a value.
+    pub(crate) fn slots(&self) -> &KeptSlots
+        ensures { result.now ≡ self.now.values }
+    {
+        &self.values
     }
 
     /// Whether the value of a node is kept.
     pub fn is_kept(&self, tree: &Tree, node: Node) -> bool
         ensures { result ≡ is_kept tree.now self.now.values node }
     {
-        match self.values.get(tree.number(node)) {
-            Some(Some(_)) => true,
-            Some(None) | None => false,
-        }
+        self.values.has(tree.number(node))
     }
 
     /// The value of a node that is kept.
@@ -87,7 +91,7 @@ impl KeptValues {
         requires { IsKept tree.now self.now.values node }
         ensures { value_at tree.now self.now.values node ≡ Some result.now }
     {
-        match self.values.get(tree.number(node)) {
+        match self.values.values().get(tree.number(node)) {
             Some(Some(value)) => value,
             Some(None) | None => unreachable!(),
         }
@@ -117,12 +121,12 @@ impl KeptValues {
             tree,
             user,
             known,
-            self.values.as_slice(),
+            self.values.values(),
             node,
             &mut self.meter,
         )?;
         let number = tree.number(node);
-        self.values[number] = Some(value);
+        self.values.put(number, value);
         Ok(())
     }
 
@@ -132,11 +136,12 @@ impl KeptValues {
         ensures { slice_index_or self.values number None ≡ Some result }
     {
         let KeptValues {
-            mut values,
+            values,
             dropped: _,
             walked: _,
             meter: _,
         } = self;
+        let mut values = values.into_values();
         match values[number].take() {
             Some(value) => value,
             None => unreachable!(),

@@ -16,6 +16,7 @@ mod filling;
 mod filling_all;
 mod fresh;
 mod gathering;
+mod kept_slots;
 mod kept_values;
 mod known_conditions;
 mod marks;

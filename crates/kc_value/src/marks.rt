@@ -16,6 +16,13 @@ pub(crate) fn no_marks(alloc: Global, tree: &Tree, table: &Rows) -> Result<Vec<b
     vec![in alloc; false; count]
 }
 
+/// So many places, none of which is marked. The error comes where memory is refused.
+pub(crate) fn unmarked(alloc: Global, count: usize) -> Result<Vec<bool>, AllocError>
+    ensures { IfOk result (λ marks. marks.items ≡ replicate count false) }
+{
+    vec![in alloc; false; count]
+}
+
 /// Whether a place is marked; one that is not there is not.
 pub(crate) fn is_marked(marks: &Vec<bool>, place: usize) -> bool
     ensures { result ≡ slice_index_or marks.now.items place false }

@@ -16,16 +16,16 @@ drop_listed-requires-clause-inside c =
 pub returns-then-number-count-clause-walked : goal.returns-then-number-count-clause-walked
 returns-then-number-count-clause-walked c =
     let t = c.args.tree.now in
-    walked_after t c.args.table.now c.args.walked.now.items c.requires.shared c.args.values.now.items c.requires.walked (node_at t c.args.number ∷ [])
-    c.drop_one.new.values.items c.args.list.now.items c.drop_one.new.list.items c.drop_one.ensures.drops
+    walked_after t c.args.table.now c.args.walked.now.items c.requires.shared c.args.values.now c.requires.walked (node_at t c.args.number ∷ [])
+    c.drop_one.new.values c.args.list.now.items c.drop_one.new.list.items c.drop_one.ensures.drops
 
 pub returns-then-not-is_marked-clause-walked : goal.returns-then-not-is_marked-clause-walked
 returns-then-not-is_marked-clause-walked c =
     let t = c.args.tree.now in
     let g = c.args.table.now in
     let marks = c.args.walked.now.items in
-    let old = c.args.values.now.items in
-    let new = c.drop_listed.new.values.items in
+    let old = c.args.values.now in
+    let new = c.drop_listed.new.values in
     let place = c.args.number - c.node_count-count.result in
     let same : c.args.number ≡ node_count t + place = omega (arith, c.if-number-count.false, c.node_count-count.ensures.count) in
     let numbers : c.row.result.now ≡ row g (node_count t + place) = c.row.ensures.row ∙ ap (row g) same in
@@ -38,7 +38,7 @@ returns-else-not-is_marked-clause-drops c =
     let t = c.args.tree.now in
     let g = c.args.table.now in
     let marks = c.args.walked.now.items in
-    let old = c.args.values.now.items in
+    let old = c.args.values.now in
     let list = c.args.list.now.items in
     let place = c.args.number - c.node_count-count.result in
     let above : node_count t ≤ c.args.number = omega (arith, c.if-number-count.false, c.node_count-count.ensures.count) in

@@ -17,7 +17,7 @@ drop_one-requires-clause-whole c = c.loop-number.invariant.drops.whole ∙ c.req
 
 pub loop-number-init : goal.loop-number-init
 loop-number-init c = record {
-  drops = drops_nothing c.args.tree.now c.args.values.now.items c.args.list.now.items;
+  drops = drops_nothing c.args.tree.now c.args.values.now c.args.list.now.items;
   capacity = omega arith;
 }
 
@@ -25,7 +25,7 @@ pub loop-number-preserved : goal.loop-number-preserved
 loop-number-preserved c =
     let now = c.loop-number in
     record {
-      drops = listed_next c.args.tree.now c.args.numbers.now now.number-index c.args.values.now.items now.values.items c.drop_one.new.values.items
+      drops = listed_next c.args.tree.now c.args.numbers.now now.number-index c.args.values.now now.values c.drop_one.new.values
           c.args.list.now.items now.list.items c.drop_one.new.list.items 0 c.loop-number-test.true now.invariant.drops c.drop_one.ensures.drops;
       capacity = omega (arith, now.invariant.capacity, c.drop_one.ensures.capacity);
     }
@@ -34,5 +34,5 @@ pub returns-clause-drops : goal.returns-clause-drops
 returns-clause-drops c =
     let t = c.args.tree.now in
     let now = c.loop-number in
-    subst (λ ks. DropsAll t (map (node_at t) ks) c.args.values.now.items now.values.items c.args.list.now.items now.list.items)
+    subst (λ ks. DropsAll t (map (node_at t) ks) c.args.values.now now.values c.args.list.now.items now.list.items)
     (take_all now.number-index c.args.numbers.now (omega (arith, c.loop-number-test.false))) now.invariant.drops

@@ -1,11 +1,9 @@
-use Rattle.std.proofs.Common.{◌≡◌, [], ◌∷◌, ◌++◌, ◌<◌, true≢false, None, get_or, sym, ap, ◌∙◌, subst, arith, vec_len, vec_capacity, List, Result, Ok, Err, IsOk, is_ok, if◌then◌else◌}
+use Rattle.std.proofs.Common.{◌≡◌, [], ◌∷◌, ◌++◌, ◌<◌, true≢false, true, None, get_or, sym, ap, ◌∙◌, subst, arith, vec_len, vec_capacity, List, Result, Ok, Err, IsOk, is_ok, if◌then◌else◌}
 use Rattle.kc_tree.specs.declared.node.Node.{Node}
 use Rattle.std.specs.Prelude.{is_some}
 use Rattle.std.specs.List.{slice_set}
-use Rattle.std.proofs.lemmas.List.{get_or_default}
 use Rattle.kc_tree.specs.Nodes.{node_at, number_of}
 use Rattle.kc_tree.proofs.NodeNumbers.{at_below, number_of-node_at}
-use Rattle.kc_value.specs.Assignment.{value_at}
 use Rattle.kc_value.specs.DropWalk.{DropsAll}
 use Rattle.kc_value.specs.Kept.{IsKept, kept_count}
 use Rattle.kc_value.proofs.DropSteps.{some_kept, one_dropped}
@@ -15,20 +13,18 @@ when_ok : {A E : Type 0} (r : Result A E) (new more old : List Node) → new ≡
 when_ok (Ok x) new more old e ok = e
 when_ok (Err x) new more old e ok = absurd (true≢false (sym ok))
 
-pub returns-then-is_some-clause-drops : goal.returns-then-is_some-clause-drops
-returns-then-is_some-clause-drops c =
+pub returns-then-has-clause-drops : goal.returns-then-has-clause-drops
+returns-then-has-clause-drops c =
     let t = c.args.tree.now in
-    let old = c.args.values.now.items in
+    let old = c.args.values.now in
     let list = c.args.list.now.items in
     let k = c.args.number in
     let x = node_at t k in
     let number : number_of t x ≡ k = number_of-node_at t k in
-    let at : c.index.result.now ≡ value_at t old x =
-    c.index.ensures ∙ get_or_default old k c.index.result.now None (omega (arith, c.requires.inside, c.requires.whole)) ∙ ap (λ j. get_or old j None) (sym number) in
-    let kept : IsKept t old x = ap is_some (sym at) ∙ sym c.is_some.ensures ∙ c.if-is_some.true in
+    let kept : IsKept t old x = subst (λ j. is_some (get_or old j None) ≡ true) (sym number) (sym c.has.ensures ∙ c.if-has.true) in
     let some : 0 < kept_count old = some_kept t old x kept in
     let room : vec_len c.args.list.now < vec_capacity c.args.list.now = omega (arith, some, c.requires.room, c.args.list.now.ok.0) in
     let node : c.push.new.self.items ≡ list ++ c.node.result ∷ [] = when_ok c.push.result c.push.new.self.items (list ++ c.node.result ∷ []) list c.push.ensures.items (c.push.ensures.succeeds room) in
     let pushed : c.push.new.self.items ≡ list ++ x ∷ [] = node ∙ ap (λ n. list ++ n ∷ []) c.node.ensures.node in
-    let to : slice_set old (number_of t x) None ≡ slice_set old k None = ap (λ j. slice_set old j None) number in
+    let to : slice_set old (number_of t x) None ≡ c.remove.new.self = ap (λ j. slice_set old j None) number ∙ sym c.remove.ensures in
     subst (λ vs. DropsAll t (x ∷ []) old vs list c.push.new.self.items) to (subst (λ xs. DropsAll t (x ∷ []) old (slice_set old (number_of t x) None) list xs) (sym pushed) (one_dropped t old list x (at_below t k c.requires.inside) kept))

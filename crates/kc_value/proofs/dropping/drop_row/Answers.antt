@@ -8,7 +8,7 @@ use Rattle.kc_value.proofs.dropping.drop_row.Goals as goal
 
 pub loop-number-init : goal.loop-number-init
 loop-number-init c = record {
-  drops = drops_nothing c.args.tree.now c.args.values.now.items c.args.list.now.items;
+  drops = drops_nothing c.args.tree.now c.args.values.now c.args.list.now.items;
   walked = c.requires.walked;
   capacity = omega arith;
 }
@@ -23,7 +23,7 @@ pub loop-number-preserved : goal.loop-number-preserved
 loop-number-preserved c =
     let now = c.loop-number in
     record {
-      drops = row_next c.args.tree.now c.args.numbers.now now.number-index c.args.values.now.items now.values.items c.drop_for_number.new.values.items
+      drops = row_next c.args.tree.now c.args.numbers.now now.number-index c.args.values.now now.values c.drop_for_number.new.values
           c.args.list.now.items now.list.items c.drop_for_number.new.list.items 0 c.loop-number-test.true c.args.table.now now.invariant.drops c.drop_for_number.ensures.drops;
       walked = c.drop_for_number.ensures.walked;
       capacity = omega (arith, now.invariant.capacity, c.drop_for_number.ensures.capacity);
@@ -33,7 +33,7 @@ pub returns-clause-drops : goal.returns-clause-drops
 returns-clause-drops c =
     let t = c.args.tree.now in
     let now = c.loop-number in
-    subst (λ ks. DropsAll t (map (node_at t) (whole_row (node_count t) c.args.table.now ks)) c.args.values.now.items now.values.items c.args.list.now.items now.list.items)
+    subst (λ ks. DropsAll t (map (node_at t) (whole_row (node_count t) c.args.table.now ks)) c.args.values.now now.values c.args.list.now.items now.list.items)
     (take_all now.number-index c.args.numbers.now (omega (arith, c.loop-number-test.false))) now.invariant.drops
 
 pub returns-clause-walked : goal.returns-clause-walked

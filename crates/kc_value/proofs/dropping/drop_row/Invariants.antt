@@ -6,7 +6,7 @@ use Rattle.kc_value.proofs.dropping.drop_row.Given as goal
 
 abbrev pub invariant-loop-number : goal.invariant-loop-number
 invariant-loop-number l = record {
-  drops : DropsAll l.tree (map (node_at l.tree) (whole_row (node_count l.tree) l.table (take l.number-index l.numbers))) l.fn.values.items l.values.items l.fn.list.items l.list.items;
-  walked : AreWalked l.tree l.table l.walked.items l.values.items;
+  drops : DropsAll l.tree (map (node_at l.tree) (whole_row (node_count l.tree) l.table (take l.number-index l.numbers))) l.fn.values l.values l.fn.list.items l.list.items;
+  walked : AreWalked l.tree l.table l.walked.items l.values;
   capacity : vec_capacity l.fn.list ≤ vec_capacity l.list;
 }

@@ -10,12 +10,12 @@ use Rattle.kc_value.proofs.dropping.walk.Given as goal
 abbrev pub invariant-loop-next : goal.invariant-loop-next
 invariant-loop-next l = record {
   inside : (n : Node) → Contains l.list.items n → IsNodeOf l.tree n;
-  whole : length l.values.items ≡ length l.fn.values.items;
-  room : length l.list.items + kept_count l.values.items ≤ vec_capacity l.list;
-  walked : AreWalked l.tree l.table l.walked.items l.values.items;
-  walk : (starts : List Node) (first : List (Option Value)) → IsClosed l.tree first → IsDropping l.tree starts first l.fn.values.items l.fn.list.items → IsDropping l.tree starts first l.values.items l.list.items;
+  whole : length l.values ≡ length l.fn.values;
+  room : length l.list.items + kept_count l.values ≤ vec_capacity l.list;
+  walked : AreWalked l.tree l.table l.walked.items l.values;
+  walk : (starts : List Node) (first : List (Option Value)) → IsClosed l.tree first → IsDropping l.tree starts first l.fn.values l.fn.list.items → IsDropping l.tree starts first l.values l.list.items;
   capacity : vec_capacity l.fn.list ≤ vec_capacity l.list;
 }
 
 abbrev pub decreases-loop-next : goal.decreases-loop-next
-decreases-loop-next l = length l.list.items + kept_count l.values.items
+decreases-loop-next l = length l.list.items + kept_count l.values

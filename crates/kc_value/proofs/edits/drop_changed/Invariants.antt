@@ -5,6 +5,6 @@ use Rattle.kc_value.proofs.edits.drop_changed.Given as goal
 
 abbrev pub invariant-loop-number : goal.invariant-loop-number
 invariant-loop-number l = record {
-  drops : DropsAll l.tree (changed_below l.tree l.user l.next l.number) l.fn.values.items l.values.items l.fn.list.items l.list.items;
+  drops : DropsAll l.tree (changed_below l.tree l.user l.next l.number) l.fn.values l.values l.fn.list.items l.list.items;
   capacity : vec_capacity l.fn.list ≤ vec_capacity l.list;
 }

@@ -9,7 +9,7 @@ use Rattle.kc_value.proofs.KeptCounts.{kept_count-within}
 use Rattle.kc_value.proofs.kept_values.KeptValues.drop_for_user.Goals as goal
 
 pub drop_changed-requires-clause-room : goal.drop_changed-requires-clause-room
-drop_changed-requires-clause-room c = omega (arith, ap length c.clear.ensures.items, c.clear.ensures.capacity, kept_count-within c.self.inside.values.items, c.self.invariant)
+drop_changed-requires-clause-room c = omega (arith, ap length c.clear.ensures.items, c.clear.ensures.capacity, kept_count-within c.self.inside.values, c.self.invariant)
 
 pub walk-requires-clause-inside : goal.walk-requires-clause-inside
 walk-requires-clause-inside c =
@@ -17,34 +17,34 @@ walk-requires-clause-inside c =
     let u = c.args.user.now in
     let w = c.args.next.now in
     let starts : List Node = changed_nodes t u w in
-    let held = c.self.inside.values.items in
-    let new = c.drop_changed.new.values.items in
+    let held = c.self.inside.values in
+    let new = c.drop_changed.new.values in
     let list = c.drop_changed.new.list.items in
     listed_inside t starts held new list (changed_inside t u w) (drops_begun t starts held held new c.clear.new.self.items list refl c.clear.ensures.items c.drop_changed.ensures.drops)
 
 pub walk-requires-clause-room : goal.walk-requires-clause-room
 walk-requires-clause-room c =
-    omega (arith, ap length c.clear.ensures.items, c.clear.ensures.capacity, kept_count-within c.self.inside.values.items, c.self.invariant, c.drop_changed.ensures.drops.room, c.drop_changed.ensures.capacity)
+    omega (arith, ap length c.clear.ensures.items, c.clear.ensures.capacity, kept_count-within c.self.inside.values, c.self.invariant, c.drop_changed.ensures.drops.room, c.drop_changed.ensures.capacity)
 
-walked : (c : goal.After-walk) → IsClosed c.args.tree.now c.walk.new.values.items × Drops c.args.tree.now (changed_nodes c.args.tree.now c.args.user.now c.args.next.now) c.args.self.now.values c.walk.new.values.items
+walked : (c : goal.After-walk) → IsClosed c.args.tree.now c.walk.new.values × Drops c.args.tree.now (changed_nodes c.args.tree.now c.args.user.now c.args.next.now) c.args.self.now.values c.walk.new.values
 walked c =
     let t = c.args.tree.now in
     let starts : List Node = changed_nodes t c.args.user.now c.args.next.now in
     let old = c.args.self.now.values in
     let closed = c.requires.kept.closed in
-    let new = c.drop_changed.new.values.items in
+    let new = c.drop_changed.new.values in
     let list = c.drop_changed.new.list.items in
-    let values : c.self.inside.values.items ≡ old = ap (λ (k : KeptValue). k.values) c.self.view_is in
+    let values : c.self.inside.values ≡ old = ap (λ (k : KeptValue). k.values) c.self.view_is in
     c.walk.ensures.drops starts old closed
     (walk_begun t c.drop_changed.ensures.accepted starts old closed new list
-    (drops_begun t starts c.self.inside.values.items old new c.clear.new.self.items list values c.clear.ensures.items c.drop_changed.ensures.drops))
+    (drops_begun t starts c.self.inside.values old new c.clear.new.self.items list values c.clear.ensures.items c.drop_changed.ensures.drops))
 
 pub returns-clause-edits : goal.returns-clause-edits
 returns-clause-edits c =
-    changed_edits c.args.tree.now c.args.user.now c.args.next.now c.args.self.now (record { values = c.walk.new.values.items; evals = c.self.inside.meter }) (walked c).1
+    changed_edits c.args.tree.now c.args.user.now c.args.next.now c.args.self.now (record { values = c.walk.new.values; evals = c.self.inside.meter }) (walked c).1
     (ap (λ (k : KeptValue). k.evals) c.self.view_is)
 
 pub returns-clause-kept : goal.returns-clause-kept
 returns-clause-kept c =
-    kept_after c.args.tree.now c.args.user.now c.args.next.now c.drop_changed.ensures.accepted c.args.self.now (record { values = c.walk.new.values.items; evals = c.self.inside.meter })
+    kept_after c.args.tree.now c.args.user.now c.args.next.now c.drop_changed.ensures.accepted c.args.self.now (record { values = c.walk.new.values; evals = c.self.inside.meter })
     c.requires.kept (returns-clause-edits c) (walked c).0

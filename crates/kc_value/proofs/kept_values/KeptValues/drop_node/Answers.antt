@@ -12,7 +12,7 @@ use Rattle.kc_value.proofs.DropSteps.{drops_begun, listed_inside, of_one, walk_b
 use Rattle.kc_value.proofs.kept_values.KeptValues.drop_node.Goals as goal
 
 pub drop_one-requires-clause-room : goal.drop_one-requires-clause-room
-drop_one-requires-clause-room c = omega (arith, ap length c.clear.ensures.items, c.clear.ensures.capacity, kept_count-within c.self.inside.values.items, c.self.invariant)
+drop_one-requires-clause-room c = omega (arith, ap length c.clear.ensures.items, c.clear.ensures.capacity, kept_count-within c.self.inside.values, c.self.invariant)
 
 -- the one node is dropped, out of no list
 begun : (t : TreeValue) (x : Node) (k : ℕ) (held new : List (Option Value)) (kept : KeptValue) (meter : ℕ) (cleared list : List Node) → IsNodeOf t x → k ≡ number_of t x
@@ -26,26 +26,26 @@ pub walk-requires-clause-inside : goal.walk-requires-clause-inside
 walk-requires-clause-inside c =
     let t = c.args.tree.now in
     let x = c.args.node in
-    let new = c.drop_one.new.values.items in
+    let new = c.drop_one.new.values in
     let list = c.drop_one.new.list.items in
     listed_inside t (x ∷ []) c.args.self.now.values new list (λ n one. subst (λ m. IsNodeOf t m) (of_one x n one) c.requires.inside)
-    (begun t x c.number-number.result c.self.inside.values.items new c.args.self.now c.self.inside.meter c.clear.new.self.items list c.requires.inside c.number-number.ensures.number
+    (begun t x c.number-number.result c.self.inside.values new c.args.self.now c.self.inside.meter c.clear.new.self.items list c.requires.inside c.number-number.ensures.number
     c.self.view_is c.clear.ensures.items c.drop_one.ensures.drops)
 
 pub walk-requires-clause-room : goal.walk-requires-clause-room
 walk-requires-clause-room c =
-    omega (arith, ap length c.clear.ensures.items, c.clear.ensures.capacity, kept_count-within c.self.inside.values.items, c.self.invariant, c.drop_one.ensures.drops.room, c.drop_one.ensures.capacity)
+    omega (arith, ap length c.clear.ensures.items, c.clear.ensures.capacity, kept_count-within c.self.inside.values, c.self.invariant, c.drop_one.ensures.drops.room, c.drop_one.ensures.capacity)
 
-walked : (c : goal.After-walk) → IsClosed c.args.tree.now c.walk.new.values.items × Drops c.args.tree.now (c.args.node ∷ []) c.args.self.now.values c.walk.new.values.items
+walked : (c : goal.After-walk) → IsClosed c.args.tree.now c.walk.new.values × Drops c.args.tree.now (c.args.node ∷ []) c.args.self.now.values c.walk.new.values
 walked c =
     let t = c.args.tree.now in
     let x = c.args.node in
     let old = c.args.self.now.values in
-    let new = c.drop_one.new.values.items in
+    let new = c.drop_one.new.values in
     let list = c.drop_one.new.list.items in
     c.walk.ensures.drops (x ∷ []) old c.requires.closed
     (walk_begun t c.number-number.ensures.accepted (x ∷ []) old c.requires.closed new list
-    (begun t x c.number-number.result c.self.inside.values.items new c.args.self.now c.self.inside.meter c.clear.new.self.items list c.requires.inside c.number-number.ensures.number
+    (begun t x c.number-number.result c.self.inside.values new c.args.self.now c.self.inside.meter c.clear.new.self.items list c.requires.inside c.number-number.ensures.number
     c.self.view_is c.clear.ensures.items c.drop_one.ensures.drops))
 
 pub returns-clause-closed : goal.returns-clause-closed

@@ -32,6 +32,6 @@ find_for-requires-clause-known c =
     let t = c.args.tree.now in
     let old = c.args.self.now in
     let n = c.args.node in
-    subst (λ vs. AreKnown t vs c.args.found.now.depends.items c.args.found.now.visible.items) (sym (c.as_slice.ensures.value ∙ ap (λ (k : KeptValue). k.values) c.self.view_is))
+    subst (λ vs. AreKnown t vs c.args.found.now.depends.items c.args.found.now.visible.items) (sym (c.values.ensures ∙ ap (λ (k : KeptValue). k.values) c.self.view_is))
     (known_with_more t old.values c.evaluate.new.self.values n (rule t c.args.user.now (assignment_of t old.values) n) c.args.found.now.depends.items c.args.found.now.visible.items
     c.requires.inside c.requires.kept.closed.whole (sym c.is_kept.ensures ∙ c.if-is_kept.false) c.in_ok-evaluate.ensures.value c.requires.known)
