@@ -10,10 +10,11 @@ ghost use Rattle.kc_tree.specs.Nodes.{IsNodeOf, node_at, node_count, number_of};
 ghost use Rattle.kc_tree.specs.Uses.{Uses};
 ghost use Rattle.kc_value.specs.FillWalk.{HaveValues, AllHaveValues, IsSettled, AreMarked, IsPassed};
 ghost use Rattle.kc_value.specs.Kept.{IsKept, AreKept, Fills};
+ghost use Rattle.kc_value.specs.KnownConditions.{AreKnown};
 
 use crate::kept_slots::KeptSlots;
 use crate::kept_values::KeptValues;
-use crate::known_conditions::KnownConditions;
+use crate::known_conditions::FoundConditions;
 use crate::marks::{is_marked, mark, no_marks};
 use crate::user::User;
 use kc_graph::Rows;
@@ -127,7 +128,8 @@ impl KeptValues {
     /// after all that it uses, and keeps the values.
     ///
     /// The walk has a path from the node down to the one that it is at: each step uses the node of the next. So it
-    /// visits the nodes that are not kept, and what these use; a shared list is marked once all its nodes are kept.
+    /// visits the nodes that are not kept, and what these use; a shared list is marked once all its nodes are kept, and the
+    /// conditions of a block are evaluated once.
     ///
     /// The error comes where memory is refused; what was evaluated before is kept and counted then.
     fn fill_over(
@@ -137,12 +139,15 @@ impl KeptValues {
         user: &User,
         table: &Rows,
         marks: &mut Vec<bool>,
+        found: &mut FoundConditions,
         node: Node,
     ) -> Result<(), AllocError>
         requires inside { IsNodeOf tree.now node }
         requires table { IsSharedTable tree.now (Uses tree.now) table.now }
         requires marked { AreMarked (node_count tree.now) table.now self.old.values marks.old.items }
+        requires known { AreKnown tree.now self.old.values found.old.depends.items found.old.visible.items }
         requires kept { AreKept tree.now user.now self.old.values }
+        ensures known { AreKnown tree.now self.new.values found.new.depends.items found.new.visible.items }
         ensures marked { AreMarked (node_count tree.now) table.now self.new.values marks.new.items }
         ensures kept { AreKept tree.now user.now self.new.values }
         ensures fills { Fills tree.now (node ∷ []) self.old self.new }
@@ -169,7 +174,7 @@ impl KeptValues {
                         within: 0,
                     })?;
                 }
-                None => self.evaluate(alloc, tree, user, KnownConditions::none(), step.node)?,
+                None => self.evaluate_next(alloc, tree, user, found, step.node)?,
             }
         }
         Ok(())
@@ -197,7 +202,8 @@ impl KeptValues {
         if !self.is_kept(tree, node) {
             let table = tree.use_table();
             let mut marks = no_marks(alloc, tree, table)?;
-            self.fill_over(alloc, tree, user, table, &mut marks, node)?;
+            let mut found = FoundConditions::none(alloc, tree)?;
+            self.fill_over(alloc, tree, user, table, &mut marks, &mut found, node)?;
         }
         Ok(())
     }
@@ -222,8 +228,10 @@ impl KeptValues {
     {
         let table = tree.use_table();
         let mut marks = no_marks(alloc, tree, table)?;
+        let mut found = FoundConditions::none(alloc, tree)?;
         for number in first..first + count {
-            self.fill_over(alloc, tree, user, table, &mut marks, tree.node(number))?;
+            let node = tree.node(number);
+            self.fill_over(alloc, tree, user, table, &mut marks, &mut found, node)?;
         }
         Ok(())
     }

@@ -1,12 +1,15 @@
 //! Evaluating all nodes, as far as they are not kept.
 
-ghost use Rattle.std.specs.Prelude.{[], ◌∷◌, OnOk};
+ghost use Rattle.std.specs.Prelude.{◌≡◌, [], ◌∷◌, false, Some, OnErr, OnOk, length, slice_set};
 ghost use Rattle.kc_tree.specs.declared.node.Node.{Node};
 ghost use Rattle.kc_tree.specs.Accepted.{IsAccepted};
-ghost use Rattle.kc_tree.specs.Nodes.{IsNodeOf, all_nodes};
+ghost use Rattle.kc_tree.specs.Nodes.{IsNodeOf, all_nodes, node_count, number_of};
 ghost use Rattle.kc_tree.specs.Uses.{Uses};
-ghost use Rattle.kc_value.specs.Kept.{IsKept, AreKept, Fills};
+ghost use Rattle.kc_value.specs.Assignment.{assignment_of};
+ghost use Rattle.kc_value.specs.Counting.{raised};
+ghost use Rattle.kc_value.specs.Kept.{is_kept, IsKept, AreKept, Fills};
 ghost use Rattle.kc_value.specs.KnownConditions.{AreKnown};
+ghost use Rattle.kc_value.specs.Rule.{rule};
 
 use crate::kept_values::KeptValues;
 use crate::known_conditions::FoundConditions;
@@ -15,6 +18,34 @@ use kc_tree::{Node, Tree};
 use std::alloc::{AllocError, Global};
 
 impl KeptValues {
+    /// Evaluates a node that is not kept, with what is found of the conditions of blocks, and then finds those of the
+    /// blocks around it. All that it uses is kept.
+    ///
+    /// The error comes where memory is refused; nothing is kept or counted then.
+    pub(crate) fn evaluate_next(
+        &mut self,
+        alloc: Global,
+        tree: &Tree,
+        user: &User,
+        found: &mut FoundConditions,
+        node: Node,
+    ) -> Result<(), AllocError>
+        requires inside { IsNodeOf tree.now node }
+        requires missing { is_kept tree.now self.old.values node ≡ false }
+        requires whole { length self.old.values ≡ node_count tree.now }
+        requires known { AreKnown tree.now self.old.values found.old.depends.items found.old.visible.items }
+        requires ready { (m : Node) → Uses tree.now node m → IsKept tree.now self.old.values m }
+        ensures value { OnOk result (self.new.values
+            ≡ slice_set self.old.values (number_of tree.now node) (Some (rule tree.now user.now (assignment_of tree.now self.old.values) node))) }
+        ensures counted { OnOk result (self.new.evals ≡ raised self.old.evals 1) }
+        ensures stays { OnErr result (self.new ≡ self.old) }
+        ensures known { AreKnown tree.now self.new.values found.new.depends.items found.new.visible.items }
+    {
+        self.evaluate(alloc, tree, user, found.known(), node)?;
+        found.find_for(tree, node, self.values());
+        Ok(())
+    }
+
     /// Evaluates a node, if it is not kept. All that it uses is kept.
     fn fill_next(
         &mut self,
@@ -37,8 +68,7 @@ impl KeptValues {
         if self.is_kept(tree, node) {
             return Ok(());
         }
-        self.evaluate(alloc, tree, user, found.known(), node)?;
-        found.find_for(tree, node, self.values.values());
+        self.evaluate_next(alloc, tree, user, found, node)?;
         Ok(())
     }
 

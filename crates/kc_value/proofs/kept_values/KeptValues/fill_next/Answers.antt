@@ -15,7 +15,7 @@ pub returns-clause-kept : goal.returns-clause-kept
 returns-clause-kept c =
     let t = c.args.tree.now in
     let u = c.args.user.now in
-    subst (λ vs. AreKept t u vs) (sym c.in_ok-evaluate.ensures.value)
+    subst (λ vs. AreKept t u vs) (sym c.in_ok-evaluate_next.ensures.value)
     (one_more_right t u c.args.self.now.values c.args.node c.requires.accepted c.requires.inside c.requires.kept c.requires.ready)
 
 pub returns-clause-fills : goal.returns-clause-fills
@@ -23,15 +23,6 @@ returns-clause-fills c =
     let t = c.args.tree.now in
     let old = c.args.self.now in
     let n = c.args.node in
-    one_more_filled t (n ∷ []) old old c.evaluate.new.self n (rule t c.args.user.now (assignment_of t old.values) n) c.requires.inside c.requires.kept.closed.whole
+    one_more_filled t (n ∷ []) old old c.evaluate_next.new.self n (rule t c.args.user.now (assignment_of t old.values) n) c.requires.inside c.requires.kept.closed.whole
     (n, (0, omega arith, refl), here) (sym c.is_kept.ensures ∙ c.if-is_kept.false) (nothing_added t (n ∷ []) old)
-    c.in_ok-evaluate.ensures.value c.in_ok-evaluate.ensures.counted
-
-pub find_for-requires-clause-known : goal.find_for-requires-clause-known
-find_for-requires-clause-known c =
-    let t = c.args.tree.now in
-    let old = c.args.self.now in
-    let n = c.args.node in
-    subst (λ vs. AreKnown t vs c.args.found.now.depends.items c.args.found.now.visible.items) (sym (c.values.ensures ∙ ap (λ (k : KeptValue). k.values) c.self.view_is))
-    (known_with_more t old.values c.evaluate.new.self.values n (rule t c.args.user.now (assignment_of t old.values) n) c.args.found.now.depends.items c.args.found.now.visible.items
-    c.requires.inside c.requires.kept.closed.whole (sym c.is_kept.ensures ∙ c.if-is_kept.false) c.in_ok-evaluate.ensures.value c.requires.known)
+    c.in_ok-evaluate_next.ensures.value c.in_ok-evaluate_next.ensures.counted

@@ -9,7 +9,7 @@ pub returns-in_err-fill_over-clause-fills : goal.returns-in_err-fill_over-clause
 returns-in_err-fill_over-clause-fills c =
     let t = c.args.tree.now in
     let one : Fills t (node_at t c.loop-number.number ∷ []) c.loop-number.self c.fill_over.new.self =
-    subst (λ (n : Node). Fills t (n ∷ []) c.loop-number.self c.fill_over.new.self) c.node.ensures.node c.fill_over.ensures.fills
+    subst (λ (n : Node). Fills t (n ∷ []) c.loop-number.self c.fill_over.new.self) c.node-node.ensures.node c.fill_over.ensures.fills
     in
     number_filled t c.args.first c.args.count c.requires.inside c.loop-number.number c.loop-number.invariant.from c.loop-number-test.true c.args.self.now c.loop-number.self c.fill_over.new.self one
     c.loop-number.invariant.fills
@@ -23,10 +23,11 @@ loop-number-preserved c =
     let before = c.loop-number.self in
     let after = c.fill_over.new.self in
     let from = c.loop-number.invariant.from in
-    let one : Fills t (node_at t number ∷ []) before after = subst (λ (n : Node). Fills t (n ∷ []) before after) c.node.ensures.node c.fill_over.ensures.fills in
-    let here : IsKept t after.values (node_at t number) = subst (λ (n : Node). IsKept t after.values n) c.node.ensures.node c.in_ok-fill_over.ensures.done in
+    let one : Fills t (node_at t number ∷ []) before after = subst (λ (n : Node). Fills t (n ∷ []) before after) c.node-node.ensures.node c.fill_over.ensures.fills in
+    let here : IsKept t after.values (node_at t number) = subst (λ (n : Node). IsKept t after.values n) c.node-node.ensures.node c.in_ok-fill_over.ensures.done in
     record {
       marked = c.fill_over.ensures.marked;
+      known = c.fill_over.ensures.known;
       kept = c.fill_over.ensures.kept;
       fills = number_filled t first count c.requires.inside number from c.loop-number-test.true c.args.self.now before after one c.loop-number.invariant.fills;
       from = omega (arith, from);

@@ -34,6 +34,7 @@ loop-step-init c =
       path = subst (λ xs. IsPath t c.args.node values (nodes xs)) (sym one) (path_begun t values c.args.node c.requires.inside missing);
       steps = steps_push t g values [] c.push.new.self.items first one (no_steps t g values) (nothing_passed (node_count t) g values (row g (number_of t c.args.node)));
       marked = c.requires.marked;
+      known = c.requires.known;
       accepted = c.node_count-count.ensures.accepted;
     }
 
@@ -121,11 +122,12 @@ loop-step-preserved-in-Continue-branch-3 c =
           (nothing_passed (node_count t) g values (row g (number_of t below.node)));
       marked = subst (λ n. AreMarked n g values c.missing_from.new.marks.items) count
           (subst (λ vs. AreMarked c.node_count-count.result g vs c.missing_from.new.marks.items) c.slots.ensures c.missing_from.ensures.marked);
+      known = c.loop-step.invariant.known;
       accepted = c.loop-step.invariant.accepted;
     }
 
-pub evaluate-requires-clause-inside : goal.evaluate-requires-clause-inside
-evaluate-requires-clause-inside c =
+pub evaluate_next-requires-clause-inside : goal.evaluate_next-requires-clause-inside
+evaluate_next-requires-clause-inside c =
     let t = c.args.tree.now in
     let g = c.args.table.now in
     let values = c.loop-step.self.values in
@@ -135,6 +137,37 @@ evaluate-requires-clause-inside c =
     let path : IsPath t c.args.node values (nodes front ++ step.node ∷ []) = subst (λ ns. IsPath t c.args.node values ns) was c.loop-step.invariant.path in
     let inside : IsNodeOf t step.node = last_node t c.args.node values (nodes front) step.node path in
     subst (λ m. IsNodeOf t m) (sym c.missing_from.ensures.node) inside
+
+pub evaluate_next-requires-clause-missing : goal.evaluate_next-requires-clause-missing
+evaluate_next-requires-clause-missing c =
+    let t = c.args.tree.now in
+    let g = c.args.table.now in
+    let values = c.loop-step.self.values in
+    let front = c.pop.new.self.items in
+    let step = c.in-Some.step in
+    let was : nodes c.loop-step.path.items ≡ nodes front ++ step.node ∷ [] = pushed front c.loop-step.path.items step c.in-Some.ensures.items in
+    let path : IsPath t c.args.node values (nodes front ++ step.node ∷ []) = subst (λ ns. IsPath t c.args.node values ns) was c.loop-step.invariant.path in
+    subst (λ m. is_kept t values m ≡ false) (sym c.missing_from.ensures.node) (last_missing t c.args.node values (nodes front) step.node path)
+
+pub evaluate_next-requires-clause-ready : goal.evaluate_next-requires-clause-ready
+evaluate_next-requires-clause-ready c =
+    let t = c.args.tree.now in
+    let g = c.args.table.now in
+    let values = c.loop-step.self.values in
+    let front = c.pop.new.self.items in
+    let step = c.in-Some.step in
+    let was : nodes c.loop-step.path.items ≡ nodes front ++ step.node ∷ [] = pushed front c.loop-step.path.items step c.in-Some.ensures.items in
+    let path : IsPath t c.args.node values (nodes front ++ step.node ∷ []) = subst (λ ns. IsPath t c.args.node values ns) was c.loop-step.invariant.path in
+    let inside : IsNodeOf t step.node = last_node t c.args.node values (nodes front) step.node path in
+    let numbers : c.row-numbers.result.now ≡ row g (number_of t step.node) = c.row-numbers.ensures.row ∙ ap (row g) c.number.ensures.number in
+    let count = c.node_count-count.ensures.count in
+    let settled : (i : ℕ) → i < length c.row-numbers.result.now → IsSettled c.node_count-count.result g values (get_or c.row-numbers.result.now i 0) =
+    subst (λ vs. (i : ℕ) → i < length c.row-numbers.result.now → IsSettled c.node_count-count.result g vs (get_or c.row-numbers.result.now i 0)) c.slots.ensures c.in-None.ensures.settled
+    in
+    let ready : (m : Node) → Uses t step.node m → IsKept t values m =
+    step_done t g c.requires.table step.node inside values c.node_count-count.result c.row-numbers.result.now c.loop-step.invariant.accepted count numbers settled
+    in
+    λ m uses. ready m (subst (λ n. Uses t n m) c.missing_from.ensures.node uses)
 
 pub loop-step-smaller : goal.loop-step-smaller
 loop-step-smaller c =
@@ -148,10 +181,10 @@ loop-step-smaller c =
     let inside : IsNodeOf t step.node = last_node t c.args.node values (nodes front) step.node path in
     let same : c.missing_from.new.step.node ≡ step.node = c.missing_from.ensures.node in
     let v = rule t c.args.user.now (assignment_of t values) step.node in
-    let value : c.evaluate.new.self.values ≡ slice_set values (number_of t step.node) (Some v) =
-    c.in_ok-evaluate-in-None.ensures.value ∙ ap (λ x. slice_set values (number_of t x) (Some (rule t c.args.user.now (assignment_of t values) x))) same in
+    let value : c.evaluate_next.new.self.values ≡ slice_set values (number_of t step.node) (Some v) =
+    c.in_ok-evaluate_next-in-None.ensures.value ∙ ap (λ x. slice_set values (number_of t x) (Some (rule t c.args.user.now (assignment_of t values) x))) same in
     let less = shorter_less t c.args.node values (nodes front) step.node path v c.loop-step.invariant.kept.closed.whole in
-    subst (λ ns. work_left t c.evaluate.new.self.values (nodes front) < work_left t values ns) (sym was)
+    subst (λ ns. work_left t c.evaluate_next.new.self.values (nodes front) < work_left t values ns) (sym was)
     (subst (λ vs. work_left t vs (nodes front) < work_left t values (nodes front ++ step.node ∷ [])) (sym value) less)
 
 pub loop-step-preserved : goal.loop-step-preserved
@@ -168,9 +201,9 @@ loop-step-preserved c =
     let same : c.missing_from.new.step.node ≡ step.node = c.missing_from.ensures.node in
     let u = c.args.user.now in
     let v = rule t u (assignment_of t values) step.node in
-    let new = c.evaluate.new.self.values in
+    let new = c.evaluate_next.new.self.values in
     let value : new ≡ slice_set values (number_of t step.node) (Some v) =
-    c.in_ok-evaluate-in-None.ensures.value ∙ ap (λ x. slice_set values (number_of t x) (Some (rule t u (assignment_of t values) x))) same in
+    c.in_ok-evaluate_next-in-None.ensures.value ∙ ap (λ x. slice_set values (number_of t x) (Some (rule t u (assignment_of t values) x))) same in
     let count = c.node_count-count.ensures.count in
     let kept = c.loop-step.invariant.kept in
     let settled : (i : ℕ) → i < length c.row-numbers.result.now → IsSettled c.node_count-count.result g values (get_or c.row-numbers.result.now i 0) =
@@ -184,14 +217,15 @@ loop-step-preserved c =
     in
     record {
       kept = subst (λ vs. AreKept t u vs) (sym value) (one_more_right t u values step.node c.loop-step.invariant.accepted inside kept ready);
-      fills = one_more_filled t (c.args.node ∷ []) c.args.self.now c.loop-step.self c.evaluate.new.self step.node v inside kept.closed.whole
+      fills = one_more_filled t (c.args.node ∷ []) c.args.self.now c.loop-step.self c.evaluate_next.new.self step.node v inside kept.closed.whole
           (c.args.node, (0, omega arith, refl), last_reached t c.args.node values (nodes front) step.node path)
           (last_missing t c.args.node values (nodes front) step.node path) c.loop-step.invariant.fills
-          value c.in_ok-evaluate-in-None.ensures.counted;
+          value c.in_ok-evaluate_next-in-None.ensures.counted;
       path = subst (λ vs. IsPath t c.args.node vs (nodes front)) (sym value) (path_shorter t c.args.node values (nodes front) step.node path v kept.closed.whole);
       steps = steps_stay t g values new front stay (steps_front t g values front c.loop-step.path.items step c.in-Some.ensures.items c.loop-step.invariant.steps);
       marked = marked_stay (node_count t) g values new stay c.missing_from.new.marks.items
           (subst (λ n. AreMarked n g values c.missing_from.new.marks.items) count
           (subst (λ vs. AreMarked c.node_count-count.result g vs c.missing_from.new.marks.items) c.slots.ensures c.missing_from.ensures.marked));
+      known = c.evaluate_next.ensures.known;
       accepted = c.loop-step.invariant.accepted;
     }

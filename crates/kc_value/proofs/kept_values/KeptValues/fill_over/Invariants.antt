@@ -3,6 +3,7 @@ use Rattle.kc_tree.specs.Accepted.{IsAccepted}
 use Rattle.kc_tree.specs.Nodes.{node_count}
 use Rattle.kc_value.specs.FillWalk.{AreMarked}
 use Rattle.kc_value.specs.Kept.{AreKept, Fills}
+use Rattle.kc_value.specs.KnownConditions.{AreKnown}
 use Rattle.kc_value.proofs.PathLemmas.{IsPath, work_left}
 use Rattle.kc_value.proofs.StepLemmas.{AreSteps}
 use Rattle.kc_value.proofs.kept_values.KeptValues.fill_over.Given as goal
@@ -14,6 +15,7 @@ invariant-loop-step l = record {
   path : IsPath l.tree l.fn.node l.self.values (map (λ s. s.node) l.path.items);
   steps : AreSteps l.tree l.table l.self.values l.path.items;
   marked : AreMarked (node_count l.tree) l.table l.self.values l.marks.items;
+  known : AreKnown l.tree l.self.values l.found.depends.items l.found.visible.items;
   accepted : IsAccepted l.tree;
 }
 
