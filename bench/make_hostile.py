@@ -33,11 +33,16 @@ def appended(sign, size):
     return f"V {sign} a\n" + "V += \n" * size + 'config A\n\tstring "a"\n\tdefault "$(V)"\n'
 
 
+def any_of(size):
+    """So many bools, of which the last is y, and the condition that one of them is."""
+    names = [f"C{at}" for at in range(size)]
+    named = "".join(f'config {name}\n\tbool "c"\n' for name in names)
+    return named + "\tdefault y\n", " || ".join(names)
+
+
 def under_long_condition(size, inside):
     """A menu with something in it, whose condition names so many symbols, as far as a line has room."""
-    names = [f"C{at}" for at in range(size)]
-    condition = " || ".join(names)
-    named = "".join(f'config {name}\n\tbool "c"\n\tdefault {"y" if at + 1 == size else "n"}\n' for at, name in enumerate(names))
+    named, condition = any_of(size)
     return f'{named}menu "m"\n\tdepends on {condition}\n{inside}endmenu\n'
 
 
@@ -50,6 +55,13 @@ def choices_under_long_condition(size):
     """So many choices of one member in a menu whose condition names as many symbols."""
     choice = 'choice\n\tprompt "c"\nconfig S{0}\n\tbool "s"\nendchoice\n'
     return under_long_condition(size, "".join(choice.format(at) for at in range(size)))
+
+
+def selects_of_long_condition(size):
+    """A symbol whose own condition names so many symbols, and that selects as many."""
+    named, condition = any_of(size)
+    selects = "".join(f"\tselect S{at}\n" for at in range(size))
+    return f'{named}config L\n\tbool "l"\n\tdepends on {condition}\n{selects}{bools(size)}'
 
 
 def menus_under_long_condition(size):
@@ -172,6 +184,7 @@ KCONFIGS = {
     "long condition, choices": choices_under_long_condition,
     "long condition, menus": menus_under_long_condition,
     "long condition, savedefconfig": long_condition,
+    "long condition, selects": selects_of_long_condition,
     "long condition, edits": long_condition,
     "blocks in one another": nested,
     "menus in one another": stacks,

@@ -30,6 +30,7 @@ SHAPES = [
     ("long condition, choices", "session", "choice", 500, 5_000, 0),
     ("long condition, menus", "olddefconfig", "menu", 500, 5_000, 0),
     ("long condition, savedefconfig", "savedefconfig", "symbol", 500, 5_000, 0),
+    ("long condition, selects", "olddefconfig", "select", 500, 5_000, 0),
     ("long condition, edits", "session", "symbol", 500, 5_000, 0),
     ("blocks in one another", "olddefconfig", "symbol", 6_000, 60_000, 0),
     ("menus in one another", "olddefconfig", "64 menus", 60, 600, 0),

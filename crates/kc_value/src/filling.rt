@@ -129,7 +129,7 @@ impl KeptValues {
     ///
     /// The walk has a path from the node down to the one that it is at: each step uses the node of the next. So it
     /// visits the nodes that are not kept, and what these use; a shared list is marked once all its nodes are kept, and the
-    /// conditions of a block are evaluated once.
+    /// conditions of a block are evaluated once, where there is a place for them.
     ///
     /// The error comes where memory is refused; what was evaluated before is kept and counted then.
     fn fill_over(
@@ -202,7 +202,7 @@ impl KeptValues {
         if !self.is_kept(tree, node) {
             let table = tree.use_table();
             let mut marks = no_marks(alloc, tree, table)?;
-            let mut found = FoundConditions::none(alloc, tree)?;
+            let mut found = FoundConditions::without_places(alloc);
             self.fill_over(alloc, tree, user, table, &mut marks, &mut found, node)?;
         }
         Ok(())

@@ -125,6 +125,16 @@ impl FoundConditions {
         })
     }
 
+    /// None is found, and none will be, since there is no place for it: for a walk so short that finding costs more.
+    pub(crate) fn without_places(alloc: Global) -> FoundConditions
+        ensures { (t : TreeValue) (kept : List (Option Value)) → AreKnown t kept result.depends.items result.visible.items }
+    {
+        FoundConditions {
+            depends: Vec::new(alloc),
+            visible: Vec::new(alloc),
+        }
+    }
+
     /// What is known.
     pub(crate) fn known(&self) -> KnownConditions<'_>
         ensures depends { result.depends.now ≡ self.now.depends.items }
@@ -280,6 +290,9 @@ impl FoundConditions {
         requires kept { (m : Node) → Uses tree.now node m → IsKept tree.now env.now m }
         ensures { AreKnown tree.now env.now self.new.depends.items self.new.visible.items }
     {
+        if self.depends.is_empty() {
+            return;
+        }
         match node {
             Node::Vis(id) => {
                 if let Some(symbol) = symbol_at(tree, id) {
