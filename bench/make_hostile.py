@@ -57,11 +57,17 @@ def choices_under_long_condition(size):
     return under_long_condition(size, "".join(choice.format(at) for at in range(size)))
 
 
+def all_used_under_long_condition(size):
+    """So many symbols in such a menu, and one behind it that is y if one of these is."""
+    inside = " || ".join(f"S{at}" for at in range(size))
+    return long_condition(size) + f'config T\n\tbool "t"\n\tdefault y if {inside}\n'
+
+
 def selects_of_long_condition(size):
-    """A symbol whose own condition names so many symbols, and that selects as many."""
+    """A symbol that is y, whose own condition names so many symbols, and that selects as many."""
     named, condition = any_of(size)
     selects = "".join(f"\tselect S{at}\n" for at in range(size))
-    return f'{named}config L\n\tbool "l"\n\tdepends on {condition}\n{selects}{bools(size)}'
+    return f'{named}config L\n\tbool "l"\n\tdefault y\n\tdepends on {condition}\n{selects}{bools(size)}'
 
 
 def menus_under_long_condition(size):
@@ -181,10 +187,13 @@ KCONFIGS = {
     "append to =": lambda size: appended("=", size),
     "long condition": long_condition,
     "long condition, list": long_condition,
+    "long condition, listnewconfig": long_condition,
+    "long condition, show": all_used_under_long_condition,
     "long condition, choices": choices_under_long_condition,
     "long condition, menus": menus_under_long_condition,
     "long condition, savedefconfig": long_condition,
     "long condition, selects": selects_of_long_condition,
+    "long condition, selects, list": selects_of_long_condition,
     "long condition, edits": long_condition,
     "blocks in one another": nested,
     "menus in one another": stacks,
@@ -230,6 +239,8 @@ CONFIGS = {
 QUERIES = {
     "flat, list": b"list\n",
     "long condition, list": b"list\n",
+    "long condition, show": b"show T\n",
+    "long condition, selects, list": b"list\n",
     "long condition, choices": b"choices\n",
     "long condition, edits": b"config\nallyes\nconfig\nallno\nconfig\n",
 }

@@ -6,7 +6,7 @@ ghost use Rattle.kc_outline.specs.TreeValue.{name_of};
 ghost use Rattle.kc_statement.specs.Tristate.{is_no};
 ghost use Rattle.kc_value.specs.Assignment.{Assignment, assignment_of};
 ghost use Rattle.kc_value.specs.Conditions.{menu_condition, comment_condition};
-ghost use Rattle.kc_value.specs.KnownConditions.{block_conditions};
+ghost use Rattle.kc_value.specs.KnownConditions.{AreSharedBy};
 ghost use Rattle.kc_value.specs.Solution.{solution, IsOnlySolution};
 ghost use Rattle.kc_files.specs.ConfigText.{type_of, symbol_line, written_value, title_block, end_line, menu_title, comment_title, line_of_symbol, title_of, end_of, piece_if, piece_of, config_text_of};
 ghost use Rattle.kc_files.specs.DraftValue.{with_option, with_pieces, opens_menu, piece_after, Agrees};
@@ -16,17 +16,17 @@ use crate::prefix::Prefix;
 use crate::symbols::{type_of, written_value};
 use crate::titles::{comment_title, menu_title};
 use kc_tree::{BlockId, CommentId, Entry, SymId, Tree};
-use kc_value::{BlockConditions, Resolver, Value, all_values, comment_condition, menu_condition};
+use kc_value::{Resolver, SharedConditions, Value, all_values, comment_condition, menu_condition};
 use std::alloc::{AllocError, Global};
 
 /// Whether a menu has its lines: its condition is not n.
 fn menu_shows(
     tree: &Tree,
     menu: BlockId,
-    conditions: &BlockConditions,
+    conditions: &SharedConditions,
     values: &[Option<Value>],
 ) -> bool
-    requires { conditions.now ≡ block_conditions tree.now (assignment_of tree.now values.now) }
+    requires { AreSharedBy tree.now values.now conditions.now }
     ensures { (a : Assignment) → Agrees tree.now values.now a
         → result ≡ not (is_no (menu_condition tree.now a menu)) }
 {
@@ -37,10 +37,10 @@ fn menu_shows(
 fn comment_shows(
     tree: &Tree,
     comment: CommentId,
-    conditions: &BlockConditions,
+    conditions: &SharedConditions,
     values: &[Option<Value>],
 ) -> bool
-    requires { conditions.now ≡ block_conditions tree.now (assignment_of tree.now values.now) }
+    requires { AreSharedBy tree.now values.now conditions.now }
     ensures { (a : Assignment) → Agrees tree.now values.now a
         → result ≡ not (is_no (comment_condition tree.now a comment)) }
 {
@@ -79,11 +79,11 @@ fn push_symbol(
 fn push_menu(
     draft: &mut Draft,
     tree: &Tree,
-    conditions: &BlockConditions,
+    conditions: &SharedConditions,
     values: &[Option<Value>],
     menu: BlockId,
 ) -> Result<(), AllocError>
-    requires { conditions.now ≡ block_conditions tree.now (assignment_of tree.now values.now) }
+    requires { AreSharedBy tree.now values.now conditions.now }
     ensures { OnOk result ((a : Assignment) → Agrees tree.now values.now a
         → draft.new ≡ with_option draft.old (piece_if (not (is_no (menu_condition tree.now a menu)))
         (title_of (title_block (menu_title tree.now menu))))) }
@@ -98,12 +98,12 @@ fn push_menu(
 fn push_menu_end(
     draft: &mut Draft,
     tree: &Tree,
-    conditions: &BlockConditions,
+    conditions: &SharedConditions,
     values: &[Option<Value>],
     before: Option<Entry>,
     menu: BlockId,
 ) -> Result<(), AllocError>
-    requires { conditions.now ≡ block_conditions tree.now (assignment_of tree.now values.now) }
+    requires { AreSharedBy tree.now values.now conditions.now }
     ensures { OnOk result ((a : Assignment) → Agrees tree.now values.now a
         → draft.new ≡ with_option draft.old (piece_if
         (not (is_no (menu_condition tree.now a menu)) && not (opens_menu menu before))
@@ -119,11 +119,11 @@ fn push_menu_end(
 fn push_comment(
     draft: &mut Draft,
     tree: &Tree,
-    conditions: &BlockConditions,
+    conditions: &SharedConditions,
     values: &[Option<Value>],
     comment: CommentId,
 ) -> Result<(), AllocError>
-    requires { conditions.now ≡ block_conditions tree.now (assignment_of tree.now values.now) }
+    requires { AreSharedBy tree.now values.now conditions.now }
     ensures { OnOk result ((a : Assignment) → Agrees tree.now values.now a
         → draft.new ≡ with_option draft.old (piece_if (not (is_no (comment_condition tree.now a comment)))
         (title_of (title_block (comment_title tree.now comment))))) }
@@ -139,13 +139,13 @@ fn push_entry(
     draft: &mut Draft,
     tree: &Tree,
     prefix: &Prefix,
-    conditions: &BlockConditions,
+    conditions: &SharedConditions,
     values: &[Option<Value>],
     before: Option<Entry>,
     entry: Entry,
 ) -> Result<(), AllocError>
     requires entry { IsEntryOf tree.now entry }
-    requires conditions { conditions.now ≡ block_conditions tree.now (assignment_of tree.now values.now) }
+    requires conditions { AreSharedBy tree.now values.now conditions.now }
     ensures { OnOk result ((a : Assignment) → Agrees tree.now values.now a
         → draft.new ≡ with_option draft.old (piece_after tree.now prefix.now a before entry)) }
 {
@@ -163,10 +163,10 @@ fn push_entries(
     draft: &mut Draft,
     tree: &Tree,
     prefix: &Prefix,
-    conditions: &BlockConditions,
+    conditions: &SharedConditions,
     values: &[Option<Value>],
 ) -> Result<(), AllocError>
-    requires { conditions.now ≡ block_conditions tree.now (assignment_of tree.now values.now) }
+    requires { AreSharedBy tree.now values.now conditions.now }
     ensures { OnOk result ((a : Assignment) → Agrees tree.now values.now a
         → draft.new ≡ with_pieces draft.old (filter_map (piece_of tree.now prefix.now a) tree.now.entries)) }
 {
@@ -190,7 +190,7 @@ pub fn config_text_over(
     ensures { IfOk result (λ text. (a : Assignment) → Agrees tree.now values.now a
         → string_bytes text ≡ config_text_of tree.now prefix.now header.now a) }
 {
-    let conditions = BlockConditions::of(alloc, tree, values)?;
+    let conditions = SharedConditions::of(alloc, tree, values)?;
     let mut draft = Draft::new(String::from_str(alloc, header)?);
     push_entries(&mut draft, tree, prefix, &conditions, values)?;
     Ok(draft.into_string())

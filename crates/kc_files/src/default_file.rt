@@ -6,9 +6,8 @@ ghost use Rattle.kc_outline.specs.Entries.{IsEntryOf};
 ghost use Rattle.kc_tree.specs.declared.node.Node.TheVariants.{Vis, Val, Sel};
 ghost use Rattle.kc_tree.specs.Accepted.{IsAccepted};
 ghost use Rattle.kc_tree.specs.Nodes.{IsNodeOf, all_nodes};
-ghost use Rattle.kc_value.specs.Assignment.{assignment_of};
 ghost use Rattle.kc_value.specs.ChangedValue.{changed_value, ChangesAreJustEnough};
-ghost use Rattle.kc_value.specs.KnownConditions.{block_conditions};
+ghost use Rattle.kc_value.specs.KnownConditions.{AreSharedBy};
 ghost use Rattle.kc_value.specs.Replay.{shown_in};
 ghost use Rattle.kc_value.specs.Solution.{solution, AreSolved, IsOnlySolution};
 ghost use Rattle.kc_files.specs.DefaultLoading.{HasNoFeeds, KeepsChanges};
@@ -18,7 +17,7 @@ use crate::prefix::Prefix;
 use crate::symbol_line::push_symbol_line;
 use crate::symbols::{choice_of, is_symbol, selected_member, type_of};
 use kc_tree::{ChoiceId, Entry, Node, SymId, Tree, Tri, UserVal};
-use kc_value::{BlockConditions, Resolver, User, Value, all_values, changed_value};
+use kc_value::{Resolver, SharedConditions, User, Value, all_values, changed_value};
 use std::alloc::{AllocError, Global};
 
 /// The value of a symbol, where it is another than without the user's own: it is the same where the user gave none.
@@ -27,13 +26,13 @@ fn changed_symbol(
     alloc: Global,
     tree: &Tree,
     user: &User,
-    conditions: &BlockConditions,
+    conditions: &SharedConditions,
     values: &[Option<Value>],
     symbol: SymId,
 ) -> Result<Option<Value>, AllocError>
     requires node { IsNodeOf tree.now (Val symbol) }
     requires changes { ChangesAreJustEnough tree.now user.now }
-    requires conditions { conditions.now ≡ block_conditions tree.now (assignment_of tree.now values.now) }
+    requires conditions { AreSharedBy tree.now values.now conditions.now }
     ensures { AreSolved tree.now user.now values.now
         → IfOk result (λ v. v ≡ changed_value tree.now user.now (Val symbol)) }
 {
@@ -49,13 +48,13 @@ fn changed_selection(
     alloc: Global,
     tree: &Tree,
     user: &User,
-    conditions: &BlockConditions,
+    conditions: &SharedConditions,
     values: &[Option<Value>],
     choice: ChoiceId,
 ) -> Result<Option<Value>, AllocError>
     requires node { IsNodeOf tree.now (Sel choice) }
     requires changes { ChangesAreJustEnough tree.now user.now }
-    requires conditions { conditions.now ≡ block_conditions tree.now (assignment_of tree.now values.now) }
+    requires conditions { AreSharedBy tree.now values.now conditions.now }
     ensures { AreSolved tree.now user.now values.now
         → IfOk result (λ v. v ≡ changed_value tree.now user.now (Sel choice)) }
 {
@@ -70,13 +69,13 @@ fn is_changed_member(
     alloc: Global,
     tree: &Tree,
     user: &User,
-    conditions: &BlockConditions,
+    conditions: &SharedConditions,
     values: &[Option<Value>],
     choice: ChoiceId,
     member: SymId,
 ) -> Result<bool, AllocError>
     requires changes { ChangesAreJustEnough tree.now user.now }
-    requires conditions { conditions.now ≡ block_conditions tree.now (assignment_of tree.now values.now) }
+    requires conditions { AreSharedBy tree.now values.now conditions.now }
     ensures { AreSolved tree.now user.now values.now
         → IfOk result (λ b. b ≡ is_changed_member tree.now user.now choice member) }
 {
@@ -95,13 +94,13 @@ fn default_value(
     alloc: Global,
     tree: &Tree,
     user: &User,
-    conditions: &BlockConditions,
+    conditions: &SharedConditions,
     values: &[Option<Value>],
     symbol: SymId,
 ) -> Result<Option<UserVal>, AllocError>
     requires node { IsNodeOf tree.now (Vis symbol) }
     requires changes { ChangesAreJustEnough tree.now user.now }
-    requires conditions { conditions.now ≡ block_conditions tree.now (assignment_of tree.now values.now) }
+    requires conditions { AreSharedBy tree.now values.now conditions.now }
     ensures { AreSolved tree.now user.now values.now
         → IfOk result (λ v. v ≡ default_value tree.now user.now symbol) }
 {
@@ -133,13 +132,13 @@ fn push_symbol(
     tree: &Tree,
     user: &User,
     prefix: &str,
-    conditions: &BlockConditions,
+    conditions: &SharedConditions,
     values: &[Option<Value>],
     symbol: SymId,
 ) -> Result<(), AllocError>
     requires node { IsNodeOf tree.now (Vis symbol) }
     requires changes { ChangesAreJustEnough tree.now user.now }
-    requires conditions { conditions.now ≡ block_conditions tree.now (assignment_of tree.now values.now) }
+    requires conditions { AreSharedBy tree.now values.now conditions.now }
     ensures { AreSolved tree.now user.now values.now
         → OnOk result (string_bytes out.new ≡ string_bytes out.old ++ default_line tree.now user.now prefix.now symbol) }
 {
@@ -162,13 +161,13 @@ fn push_entry(
     tree: &Tree,
     user: &User,
     prefix: &str,
-    conditions: &BlockConditions,
+    conditions: &SharedConditions,
     values: &[Option<Value>],
     entry: Entry,
 ) -> Result<(), AllocError>
     requires entry { IsEntryOf tree.now entry }
     requires changes { ChangesAreJustEnough tree.now user.now }
-    requires conditions { conditions.now ≡ block_conditions tree.now (assignment_of tree.now values.now) }
+    requires conditions { AreSharedBy tree.now values.now conditions.now }
     ensures { AreSolved tree.now user.now values.now
         → OnOk result (string_bytes out.new ≡ string_bytes out.old ++ default_entry tree.now user.now prefix.now entry) }
 {
@@ -191,11 +190,11 @@ fn push_entries(
     tree: &Tree,
     user: &User,
     prefix: &str,
-    conditions: &BlockConditions,
+    conditions: &SharedConditions,
     values: &[Option<Value>],
 ) -> Result<(), AllocError>
     requires changes { ChangesAreJustEnough tree.now user.now }
-    requires conditions { conditions.now ≡ block_conditions tree.now (assignment_of tree.now values.now) }
+    requires conditions { AreSharedBy tree.now values.now conditions.now }
     ensures accepted { IsAccepted tree.now }
     ensures text { AreSolved tree.now user.now values.now
         → OnOk result (string_bytes out.new ≡ string_bytes out.old ++ default_text_of tree.now user.now prefix.now) }
@@ -233,7 +232,7 @@ pub fn defconfig_text<R: Resolver>(
     let all = all_values(alloc, resolver)?;
     let values = all.as_slice();
     let tree = resolver.tree();
-    let conditions = BlockConditions::of(alloc, tree, values)?;
+    let conditions = SharedConditions::of(alloc, tree, values)?;
     let mut text = String::new(alloc);
     push_entries(
         alloc,

@@ -7,6 +7,7 @@ ghost use Rattle.kc_tree.specs.declared.node.Node.TheVariants.{Vis};
 ghost use Rattle.kc_tree.specs.Nodes.{IsNodeOf, all_nodes};
 ghost use Rattle.kc_value.specs.Assignment.{assignment_of};
 ghost use Rattle.kc_value.specs.ChoiceRule.{is_visible};
+ghost use Rattle.kc_value.specs.KnownConditions.{AreSharedBy};
 ghost use Rattle.kc_value.specs.Solution.{solution, AreSolved, IsOnlySolution};
 ghost use Rattle.kc_value.specs.UserValues.{IsUserFor};
 ghost use Rattle.kc_files.specs.NewText.{has_another_value, is_new_symbol, visible_count, is_new_member, is_new, new_line, new_entry, new_text_of};
@@ -17,7 +18,7 @@ use crate::symbols::{
     choice_of, is_symbol, is_tri_type, selected_member, shown_text, type_of, visibility,
 };
 use kc_tree::{ChoiceId, Entry, SymId, Tree};
-use kc_value::{Resolver, User, Value, all_values, assignable_among};
+use kc_value::{Resolver, SharedConditions, User, Value, all_values, assignable_among};
 use std::alloc::{AllocError, Global};
 
 /// Whether a user can give the symbol another value than it has.
@@ -25,18 +26,20 @@ fn has_another_value(
     alloc: Global,
     tree: &Tree,
     user: &User,
+    conditions: &SharedConditions,
     values: &[Option<Value>],
     symbol: SymId,
 ) -> Result<bool, AllocError>
     requires inside { IsNodeOf tree.now (Vis symbol) }
     requires sized { IsUserFor tree.now user.now }
+    requires conditions { AreSharedBy tree.now values.now conditions.now }
     requires solved { AreSolved tree.now user.now values.now }
     ensures { IfOk result (λ b. b ≡ has_another_value tree.now user.now symbol) }
 {
     if !is_tri_type(type_of(tree, symbol)) {
         return Ok(true);
     }
-    let assignable = assignable_among(alloc, tree, values, symbol)?;
+    let assignable = assignable_among(alloc, tree, conditions, values, symbol)?;
     Ok(assignable.len() >= 2)
 }
 
@@ -45,18 +48,20 @@ fn is_new_symbol(
     alloc: Global,
     tree: &Tree,
     user: &User,
+    conditions: &SharedConditions,
     values: &[Option<Value>],
     symbol: SymId,
 ) -> Result<bool, AllocError>
     requires inside { IsNodeOf tree.now (Vis symbol) }
     requires sized { IsUserFor tree.now user.now }
+    requires conditions { AreSharedBy tree.now values.now conditions.now }
     requires solved { AreSolved tree.now user.now values.now }
     ensures { IfOk result (λ b. b ≡ is_new_symbol tree.now user.now symbol) }
 {
     if visibility(tree, values, symbol).is_no() || user.get(symbol).is_some() {
         return Ok(false);
     }
-    has_another_value(alloc, tree, user, values, symbol)
+    has_another_value(alloc, tree, user, conditions, values, symbol)
 }
 
 /// Whether a symbol of the tree is visible.
@@ -110,17 +115,19 @@ fn is_new(
     alloc: Global,
     tree: &Tree,
     user: &User,
+    conditions: &SharedConditions,
     values: &[Option<Value>],
     symbol: SymId,
 ) -> Result<bool, AllocError>
     requires inside { IsNodeOf tree.now (Vis symbol) }
     requires sized { IsUserFor tree.now user.now }
+    requires conditions { AreSharedBy tree.now values.now conditions.now }
     requires solved { AreSolved tree.now user.now values.now }
     ensures { IfOk result (λ b. b ≡ is_new tree.now user.now symbol) }
 {
     match choice_of(tree, symbol) {
         Some(choice) => Ok(is_new_member(tree, user, values, choice, symbol)),
-        None => is_new_symbol(alloc, tree, user, values, symbol),
+        None => is_new_symbol(alloc, tree, user, conditions, values, symbol),
     }
 }
 
@@ -131,16 +138,18 @@ fn push_symbol(
     tree: &Tree,
     user: &User,
     prefix: &Prefix,
+    conditions: &SharedConditions,
     values: &[Option<Value>],
     symbol: SymId,
 ) -> Result<(), AllocError>
     requires inside { IsNodeOf tree.now (Vis symbol) }
     requires sized { IsUserFor tree.now user.now }
+    requires conditions { AreSharedBy tree.now values.now conditions.now }
     requires solved { AreSolved tree.now user.now values.now }
     ensures { OnOk result (string_bytes out.new
         ≡ string_bytes out.old ++ new_line tree.now user.now prefix.now symbol) }
 {
-    if is_new(alloc, tree, user, values, symbol)? {
+    if is_new(alloc, tree, user, conditions, values, symbol)? {
         let value = shown_text(tree, values, symbol);
         push_text_line(
             out,
@@ -160,17 +169,21 @@ fn push_entry(
     tree: &Tree,
     user: &User,
     prefix: &Prefix,
+    conditions: &SharedConditions,
     values: &[Option<Value>],
     entry: Entry,
 ) -> Result<(), AllocError>
     requires inside { IsEntryOf tree.now entry }
     requires sized { IsUserFor tree.now user.now }
+    requires conditions { AreSharedBy tree.now values.now conditions.now }
     requires solved { AreSolved tree.now user.now values.now }
     ensures { OnOk result (string_bytes out.new
         ≡ string_bytes out.old ++ new_entry tree.now user.now prefix.now entry) }
 {
     match entry {
-        Entry::Symbol(symbol) => push_symbol(alloc, out, tree, user, prefix, values, symbol),
+        Entry::Symbol(symbol) => push_symbol(
+            alloc, out, tree, user, prefix, conditions, values, symbol,
+        ),
         Entry::Again(_)
         | Entry::Choice(_)
         | Entry::Menu(_)
@@ -186,15 +199,19 @@ fn push_entries(
     tree: &Tree,
     user: &User,
     prefix: &Prefix,
+    conditions: &SharedConditions,
     values: &[Option<Value>],
 ) -> Result<(), AllocError>
     requires sized { IsUserFor tree.now user.now }
+    requires conditions { AreSharedBy tree.now values.now conditions.now }
     requires solved { AreSolved tree.now user.now values.now }
     ensures { OnOk result (string_bytes out.new
         ≡ string_bytes out.old ++ new_text_of tree.now user.now prefix.now) }
 {
     for entry in tree.entries() {
-        push_entry(alloc, out, tree, user, prefix, values, *entry)?;
+        push_entry(
+            alloc, out, tree, user, prefix, conditions, values, *entry,
+        )?;
     }
     Ok(())
 }
@@ -217,9 +234,19 @@ pub fn new_text<R: Resolver>(
     ensures user { R.user_of resolver.new ≡ R.user_of resolver.old }
     ensures grew { R.grew resolver.old resolver.new (all_nodes (R.tree_of resolver.old)) }
 {
-    let values = all_values(alloc, resolver)?;
+    let all = all_values(alloc, resolver)?;
+    let values = all.as_slice();
+    let tree = resolver.tree();
+    let conditions = SharedConditions::of(alloc, tree, values)?;
     let mut text = String::new(alloc);
-    let (tree, user) = (resolver.tree(), resolver.user());
-    push_entries(alloc, &mut text, tree, user, prefix, values.as_slice())?;
+    push_entries(
+        alloc,
+        &mut text,
+        tree,
+        resolver.user(),
+        prefix,
+        &conditions,
+        values,
+    )?;
     Ok(text)
 }

@@ -19,7 +19,7 @@ use crate::kept_resolver::KeptResolver;
 use crate::show::{list_text, show_line};
 use kc_files::{Prefix, config_text_over, defconfig_text, header_text_over, new_text};
 use kc_tree::{Node, SymId};
-use kc_value::Resolver;
+use kc_value::{Resolver, SharedConditions};
 use std::alloc::{AllocError, Global};
 
 impl KeptResolver {
@@ -32,7 +32,15 @@ impl KeptResolver {
         ensures done { OnOk result (AreAllKept (Vis symbol ∷ Val symbol ∷ []) self.new) }
     {
         self.fill(Node::Val(symbol))?;
-        show_line(alloc, self.tree(), self.user(), self.values(), symbol)
+        let conditions = SharedConditions::none(alloc);
+        show_line(
+            alloc,
+            self.tree(),
+            self.user(),
+            &conditions,
+            self.values(),
+            symbol,
+        )
     }
 
     /// The lines about all symbols.

@@ -7,6 +7,7 @@ ghost use Rattle.kc_tree.specs.declared.node.Node.TheVariants.{Vis, Val};
 ghost use Rattle.kc_tree.specs.Nodes.{IsNodeOf};
 ghost use Rattle.kc_outline.specs.TreeValue.{name_of};
 ghost use Rattle.kc_value.specs.Kept.{IsKept, AreKept};
+ghost use Rattle.kc_value.specs.KnownConditions.{AreSharedBy};
 ghost use Rattle.kc_value.specs.UserValues.{IsUserFor};
 ghost use Rattle.kc_files.specs.ConfigText.{type_of};
 ghost use Rattle.kc_session.specs.ShowLine.{show_line_of, list_text_of, line_text, type_text, tri_text, values_text, user_part, given_text};
@@ -15,10 +16,11 @@ use crate::kept::kept_value;
 use crate::values::{choice_of, type_of};
 use kc_files::push_text_in;
 use kc_tree::{Node, SymId, SymbolType, Tree, Tri, UserVal};
-use kc_value::{User, Value, assignable_among, tri_letter};
+use kc_value::{SharedConditions, User, Value, assignable_among, tri_letter};
 use std::alloc::{AllocError, Global};
 
 /// The line of `show` about a symbol whose value is kept. What it is computed from, as its visibility, is kept with it.
+/// `conditions` is what the values give many nodes, as far as it is known.
 ///
 /// The error comes where memory is refused.
 #[tactic(auto, unfolding(crate::specs::ShowLine::show_line_of))]
@@ -26,18 +28,20 @@ pub(crate) fn show_line(
     alloc: Global,
     tree: &Tree,
     user: &User,
+    conditions: &SharedConditions,
     values: &[Option<Value>],
     symbol: SymId,
 ) -> Result<String, AllocError>
     requires inside { IsNodeOf tree.now (Vis symbol) }
     requires user { IsUserFor tree.now user.now }
+    requires conditions { AreSharedBy tree.now values.now conditions.now }
     requires kept { AreKept tree.now user.now values.now }
     requires asked { IsKept tree.now values.now (Val symbol) }
     ensures { IfOk result (λ text. string_bytes text ≡ show_line_of tree.now user.now symbol) }
 {
     let value = kept_value(tree, values, Node::Val(symbol));
     let visibility = kept_value(tree, values, Node::Vis(symbol)).as_tri();
-    let assignable = assignable_among(alloc, tree, values, symbol)?;
+    let assignable = assignable_among(alloc, tree, conditions, values, symbol)?;
     line_of(
         alloc,
         tree,
@@ -156,9 +160,10 @@ pub(crate) fn list_text(
     requires asked { (s : SymId) → IsNodeOf tree.now (Val s) → IsKept tree.now values.now (Val s) }
     ensures { IfOk result (λ text. string_bytes text ≡ list_text_of tree.now user.now) }
 {
+    let conditions = SharedConditions::of(alloc, tree, values)?;
     let mut text = String::new(alloc);
     for number in 0..symbol_count(tree) {
-        let line = show_line(alloc, tree, user, values, SymId(number))?;
+        let line = show_line(alloc, tree, user, &conditions, values, SymId(number))?;
         text.push_str(line.as_str())?;
     }
     Ok(text)

@@ -3,8 +3,8 @@ use Rattle.std.proofs.Common.{◌≡◌, ℕ, suc, ◌+◌, ◌<◌, ◌≤◌, 
 use Rattle.std.specs.List.{list_any, flat_map, slice_get, Contains}
 use Rattle.std.specs.Option.{option_map_or}
 use Rattle.std.proofs.Math.Bool.{or_assoc}
-use Rattle.std.proofs.lemmas.Bool.{or_cases, eqb-true, eq-eqb, cases_lt}
-use Rattle.std.proofs.lemmas.List.{take_more, append-nil, length_push, get_or_push, get_or_past, get_or_append_left, map_push}
+use Rattle.std.proofs.lemmas.Bool.{or_cases, eqb-true, eq-eqb}
+use Rattle.std.proofs.lemmas.List.{take_more, append-nil}
 use Rattle.std.proofs.lemmas.Option.{slice_get_past, slice_get_cases}
 use Rattle.std.proofs.lemmas.List.Folds.{list_any-append, list_any_at}
 use Rattle.std.proofs.lemmas.Grind.{flat_map-append}
@@ -14,7 +14,7 @@ use Rattle.kc_tree.specs.Nodes.{number_in}
 use Rattle.kc_outline.specs.TreeValue.{TreeValue}
 use Rattle.kc_statement.specs.Grammar.{formula, all_joined, any_joined}
 use Rattle.kc_tree.specs.Uses.{formula_nodes, value_nodes}
-use Rattle.kc_tree.specs.Collected.{has_number, has_node, Adds, HaveSame, HasNodes, Holds}
+use Rattle.kc_tree.specs.Collected.{has_number, has_node, Adds, HaveSame, HasNodes}
 
 -- ---- tests of lists
 pub same_tests : (a b : Bool) → (a ≡ true → b ≡ true) → (b ≡ true → a ≡ true) → a ≡ b
@@ -169,44 +169,3 @@ module _ (symbols : ℕ) where
 
   pub node_has : (ns : List Node) (n : Node) → Contains ns n → has_node symbols ns (number_in symbols n) ≡ true
   node_has ns n c = any_contains (λ m. eqb (number_in symbols m) (number_in symbols n)) ns n c (eq-eqb (number_in symbols n) (number_in symbols n) refl)
-
-  -- ---- tables
-  pub holds_none : (rows : List (List ℕ)) → rows ≡ [] → Holds symbols [] rows
-  holds_none rows e = record {
-    whole = ap length e;
-    each = λ j k. ap (λ rs. has_number (get_or rs j []) k) e;
-  }
-
-  pub holds_push : (lists : List (List Node)) (rows : List (List ℕ)) (l : List Node) (r : List ℕ) → Holds symbols lists rows → HasNodes symbols l r → Holds symbols (lists ++ l ∷ []) (rows ++ r ∷ [])
-  holds_push lists rows l r h made = record {
-    whole = omega (arith, length_push rows r, length_push lists l, h.whole);
-    each = λ j k. at j k (cases_lt j (length rows));
-  }
-    where
-      past : (j k : ℕ) → length rows ≤ j → (j < length rows + 1) ⊎ (length rows + 1 ≤ j) → has_number (get_or (rows ++ r ∷ []) j []) k ≡ has_node symbols (get_or (lists ++ l ∷ []) j []) k
-      past j k i (inl m) =
-          ap (λ ks. has_number ks k) (get_or_push rows r [] j (omega arith))
-          ∙ made.has k
-          ∙ sym (ap (λ ns. has_node symbols ns k) (get_or_push lists l [] j (omega (arith, h.whole))))
-      past j k i (inr m) =
-          ap (λ ks. has_number ks k) (get_or_past (rows ++ r ∷ []) j [] (omega (arith, length_push rows r)))
-          ∙ sym (ap (λ ns. has_node symbols ns k) (get_or_past (lists ++ l ∷ []) j [] (omega (arith, length_push lists l, h.whole))))
-
-      at : (j k : ℕ) → (j < length rows) ⊎ (length rows ≤ j) → has_number (get_or (rows ++ r ∷ []) j []) k ≡ has_node symbols (get_or (lists ++ l ∷ []) j []) k
-      at j k (inl i) =
-          ap (λ ks. has_number ks k) (get_or_append_left rows (r ∷ []) [] j i)
-          ∙ h.each j k
-          ∙ sym (ap (λ ns. has_node symbols ns k) (get_or_append_left lists (l ∷ []) [] j (omega (arith, h.whole))))
-      at j k (inr i) = past j k i (cases_lt j (length rows + 1))
-
-  -- a row that was made is added
-  pub holds_row : (lists : List (List Node)) (rows new : List (List ℕ)) (l : List Node) (row items : List ℕ) → Holds symbols lists rows → new ≡ rows ++ row ∷ [] → row ≡ items → HasNodes symbols l items → Holds symbols (lists ++ l ∷ []) new
-  holds_row lists rows new l row items h e r k =
-      subst (λ (rs : List (List ℕ)). Holds symbols (lists ++ l ∷ []) rs) (sym e)
-      (holds_push lists rows l row h (subst (λ (ks : List ℕ). HasNodes symbols l ks) (sym r) k))
-
-  -- the table of one more list
-  pub holds_more : {X : Type 0} (f : X → List Node) (xs : List X) (i : ℕ) (x : X) (rows : List (List ℕ)) → i < length xs → x ≡ get_or xs i x → Holds symbols (map f (take i xs) ++ f x ∷ []) rows → Holds symbols (map f (take (i + 1) xs)) rows
-  holds_more f xs i x rows h e g =
-      let one : take (i + 1) xs ≡ take i xs ++ x ∷ [] = take_more xs i x h ∙ ap (λ y. take i xs ++ y ∷ []) (sym e) in
-      subst (λ ls. Holds symbols ls rows) (sym (ap (map f) one ∙ map_push f (take i xs) x)) g

@@ -13,7 +13,7 @@ use Rattle.kc_tree.specs.declared.node.Node.{Node}
 use Rattle.kc_tree.specs.Nodes.{number_in}
 use Rattle.kc_outline.specs.TreeValue.{TreeValue, BlockValue, DefinitionValue, blocks_from, blocks_around}
 use Rattle.kc_tree.specs.Uses.{symbol_nodes, conditions_nodes, own_condition_nodes, depends_nodes, visible_nodes, dependency_nodes, default_nodes, range_nodes, definition_nodes, prompt_nodes, reverse_nodes}
-use Rattle.kc_tree.specs.Collected.{has_number, has_node, HaveSame, Holds, own_lists, depends_lists, visible_lists, own_at, dependency_at, depends_at, visible_at, block_numbers, block_numbers_at, innermost_at, defaults_at, ranges_at, prompt_own_at, prompted_at, source_nodes}
+use Rattle.kc_tree.specs.Collected.{has_number, has_node, HaveSame, own_lists, depends_lists, visible_lists, own_at, dependency_at, depends_at, visible_at, block_numbers, block_numbers_at, innermost_at, defaults_at, ranges_at, prompt_own_at, prompted_at, source_nodes}
 use Rattle.kc_tree.proofs.CollectedLaws.{any_same, any_alike, any_or, any_flat, any_map, or_false}
 
 -- ---- lists and options
@@ -124,6 +124,13 @@ around_nodes t f j = at (slice_get t.definitions j)
     at None = refl
     at (Some d) = reads (block_numbers t.blocks 64 d.block) ∙ sym (block_nodes f t.blocks 64 d.block)
 
+-- ---- what the own lines of definitions read, from a list of what those of each read
+pub own_same : (t : TreeValue) (js : List ℕ) → flat_map (λ j. get_or (own_lists t) j []) js ≡ flat_map (own_at t) js
+own_same t [] = refl
+own_same t (j ∷ js) =
+    ap (λ ns. ns ++ flat_map (λ j. get_or (own_lists t) j []) js) (get_or_mapped (λ d. conditions_nodes t d.depends) t.definitions j)
+    ∙ ap (λ ns. own_at t j ++ ns) (own_same t js)
+
 -- in a tree of so many symbols
 module _ (symbols : ℕ) where
   has_both : (xs ys : List Node) (k : ℕ) → has_node symbols (xs ++ ys) k ≡ (has_node symbols xs k || has_node symbols ys k)
@@ -159,14 +166,6 @@ module _ (symbols : ℕ) where
       at : (o : Option DefinitionValue) → (has_node symbols (option_map_or (λ d. conditions_nodes t d.depends) o []) k || has_node symbols (option_map_or (λ d. depends_nodes t (blocks_around t d.block)) o []) k) ≡ has_node symbols (option_map_or (dependency_nodes t) o []) k
       at None = refl
       at (Some d) = sym (has_both (conditions_nodes t d.depends) (depends_nodes t (blocks_around t d.block)) k)
-
-  -- what their own lines read, from a table of it
-  pub own_alike : (t : TreeValue) (own : List (List ℕ)) (js : List ℕ) → Holds symbols (own_lists t) own → (k : ℕ) → has_number (flat_map (λ j. get_or own j []) js) k ≡ has_node symbols (flat_map (own_at t) js) k
-  own_alike t own js f k =
-      any_flat (λ i. eqb i k) (λ j. get_or own j []) js
-      ∙ any_alike (λ j. has_number (get_or own j []) k) (λ j. has_node symbols (own_at t j) k) js
-      (λ j. f.each j k ∙ ap (λ ns. has_node symbols ns k) (get_or_mapped (λ d. conditions_nodes t d.depends) t.definitions j))
-      ∙ sym (any_flat (λ n. eqb (number_in symbols n) k) (own_at t) js)
 
   pub dependencies : (t : TreeValue) (js js₂ bs : List ℕ) → HaveSame js₂ js → HaveSame bs (flat_map (block_numbers_at t) js₂) → (k : ℕ) → has_node symbols (flat_map (own_at t) js₂ ++ flat_map (λ b. get_or (depends_lists t) b []) bs) k ≡ has_node symbols (flat_map (dependency_at t) js) k
   dependencies t js js₂ bs e h k =

@@ -6,11 +6,10 @@ use Rattle.std.proofs.lemmas.List.Elements.{All-from_get_or, All-map}
 use Rattle.std.proofs.lemmas.Bool.{cases_lt}
 use Rattle.kc_tree.specs.declared.fault.ChoiceProblem.{ChoiceProblem}
 use Rattle.kc_tree.specs.declared.fault.NamedNode.{NamedNode}
-use Rattle.kc_tree.specs.Uses.{Uses}
-use Rattle.kc_tree.specs.Accepted.{IsAccepted, IsTableOf}
+use Rattle.kc_tree.specs.Accepted.{IsAccepted}
 use Rattle.kc_tree.specs.declared.node.Node.{Node}
 use Rattle.kc_outline.specs.TreeValue.{modules_symbol, TreeValue}
-use Rattle.kc_tree.specs.Nodes.{node_in, number_of, node_at}
+use Rattle.kc_tree.specs.Nodes.{number_of, node_at}
 use Rattle.kc_tree.specs.Order.{IsOrder, IsLoop}
 use Rattle.kc_tree.specs.declared.tree.Tree.TheInside.{Inside}
 use Rattle.kc_tree.specs.Inside.{IsWellMade}

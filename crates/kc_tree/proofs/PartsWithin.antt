@@ -1,5 +1,5 @@
 -- The nodes that the parts of definitions read are nodes of the tree.
-use Rattle.std.proofs.Common.{ℕ, ◌<◌, List, [], ◌∷◌, Option, Some, None, length}
+use Rattle.std.proofs.Common.{ℕ, ◌<◌, List, [], ◌∷◌, Option, length}
 use Rattle.std.specs.List.{All, flat_map, slice_get}
 use Rattle.std.specs.Option.{option_map_or}
 use Rattle.std.proofs.lemmas.List.Elements.{All-cons}
@@ -11,9 +11,9 @@ use Rattle.kc_tree.specs.declared.node.Node.{Node}
 use Rattle.kc_tree.specs.declared.node.Node.TheVariants.{Vis, Val}
 use Rattle.kc_outline.specs.TreeValue.{TreeValue, SymbolValue, ChoiceValue}
 use Rattle.kc_tree.specs.Nodes.{IsNodeOf}
-use Rattle.kc_tree.specs.Uses.{symbol_nodes, conditions_nodes, own_condition_nodes, default_nodes, range_nodes, type_nodes, mode_nodes, selection_nodes, choice_value_nodes}
-use Rattle.kc_tree.specs.Collected.{own_at, defaults_at, ranges_at, prompt_own_at, source_nodes}
-use Rattle.kc_tree.proofs.WithinLaws.{none, joined, flat, option, symbol, conditions, own_condition, default_value, range, typed, moded, selected, choice_value}
+use Rattle.kc_tree.specs.Uses.{symbol_nodes, own_condition_nodes, default_nodes, range_nodes, type_nodes, mode_nodes, selection_nodes, choice_value_nodes}
+use Rattle.kc_tree.specs.Collected.{defaults_at, ranges_at, prompt_own_at, source_nodes}
+use Rattle.kc_tree.proofs.WithinLaws.{none, joined, flat, option, symbol, own_condition, default_value, range, typed, moded, selected, choice_value}
 
 module _ (t : TreeValue) where
   abbrev IsNode : Node → Type 0
@@ -24,10 +24,6 @@ module _ (t : TreeValue) where
 
   value_is : (s : SymId) → s.0 < length t.symbols → IsNode (Val s)
   value_is s h = h
-
-  pub own_within : (js : List ℕ) → AreNodes (flat_map (own_at t) js)
-  own_within js = flat IsNode (own_at t) js
-      (λ j. option IsNode (λ d. conditions_nodes t d.depends) (slice_get t.definitions j) (λ d. conditions t IsNode value_is d.depends))
 
   pub defaults_within : (js : List ℕ) → AreNodes (flat_map (defaults_at t) js)
   defaults_within js = flat IsNode (defaults_at t) js

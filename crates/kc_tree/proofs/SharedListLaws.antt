@@ -1,63 +1,107 @@
--- The lists that rows share, by the number that stands for each.
-use Rattle.std.proofs.Common.{◌≡◌, ℕ, zero, suc, ◌+◌, ◌-◌, ◌<◌, ◌≤◌, List, [], ◌∷◌, ◌++◌, length, get_or, map, refl, sym, ap, subst, ◌∙◌, inl, inr, arith}
-use Rattle.std.specs.List.{All}
+-- Shared lists that are added one after another: rows mean what they meant.
+use Rattle.std.proofs.Common.{◌≡◌, ℕ, zero, suc, ◌+◌, ◌-◌, ◌<◌, ◌≤◌, Bool, List, [], ◌∷◌, ◌++◌, length, get_or, refl, sym, ap, subst, ◌∙◌, inl, inr, ◌⊎◌, arith}
+use Rattle.std.specs.List.{All, Contains, list_any}
 use Rattle.std.proofs.lemmas.Bool.{cases_lt}
-use Rattle.std.proofs.lemmas.List.{length-append, length-map, get_or_append_left, get_or-append_right}
-use Rattle.std.proofs.lemmas.List.Elements.{All-nil}
+use Rattle.std.proofs.lemmas.List.{get_or_append_left, get_or_push, get_or_past, length_push}
 use Rattle.kc_tree.specs.declared.node.Node.{Node}
-use Rattle.kc_statement.specs.declared.expr.Expr.{Expr}
-use Rattle.kc_outline.specs.TreeValue.{TreeValue, BlockValue}
+use Rattle.kc_outline.specs.TreeValue.{TreeValue}
 use Rattle.kc_tree.specs.Nodes.{IsNodeOf, node_count}
-use Rattle.kc_tree.specs.Uses.{conditions_nodes}
-use Rattle.kc_tree.specs.Collected.{has_node, depends_lists, visible_lists, Holds}
-use Rattle.kc_tree.specs.SharedLists.{shared_lists, row_count, stands, AreShared}
-use Rattle.kc_tree.proofs.MeaningLaws.{of_list}
-use Rattle.kc_tree.proofs.WithinLaws.{conditions}
+use Rattle.kc_tree.specs.Collected.{has_number, HasNodes}
+use Rattle.kc_tree.specs.SharedLists.{stands, means, IsInside, Means, AreMeant, AreOfNodes, Grows, IsShortened}
+use Rattle.kc_tree.proofs.CollectedLaws.{same_tests, found, any_contains, number_found, or_false}
+use Rattle.kc_tree.proofs.MeaningLaws.{itself, of_list, below, row_means, row_inside}
 
-module _ (t : TreeValue) where
-  abbrev AreNodes : List Node → Type 0
-  AreNodes ns = All (λ n. IsNodeOf t n) ns
+any_in : {X : Type 0} (p q : X → Bool) (xs : List X) → ((x : X) → Contains xs x → p x ≡ q x) → list_any p xs ≡ list_any q xs
+any_in p q xs h = same_tests (list_any p xs) (list_any q xs)
+    (λ e. let f = found p xs e in any_contains q xs f.0 f.1 (sym (h f.0 f.1) ∙ f.2))
+    (λ e. let f = found q xs e in any_contains p xs f.0 f.1 (h f.0 f.1 ∙ f.2))
 
-  -- the lists of blocks are of nodes of the tree
-  lists_within : (f : BlockValue → List Expr) (blocks : List BlockValue) (b : ℕ) → AreNodes (get_or (map (λ x. conditions_nodes t (f x)) blocks) b [])
-  lists_within f [] b = All-nil (λ n. IsNodeOf t n)
-  lists_within f (x ∷ blocks) zero = conditions t (λ n. IsNodeOf t n) (λ s h. h) (f x)
-  lists_within f (x ∷ blocks) (suc b) = lists_within f blocks b
+-- ---- one more list
+module _ (t : TreeValue) (old : List (List ℕ)) (r : List ℕ) where
+  abbrev new : List (List ℕ)
+  new = old ++ r ∷ []
 
-  depends_count : length (depends_lists t) ≡ length t.blocks
-  depends_count = length-map t.blocks (λ b. conditions_nodes t b.depends)
+  stands_alike : (j k : ℕ) → j < node_count t + length old → stands t new j k ≡ stands t old j k
+  stands_alike j k h = elim (cases_lt j (node_count t)) [
+    | inl l ↦ itself t new j k l ∙ sym (itself t old j k l)
+    | inr l ↦
+        of_list t new j k l
+        ∙ ap (λ ks. has_number ks k) (get_or_append_left old (r ∷ []) [] (j - node_count t) (omega (arith, l, h)))
+        ∙ sym (of_list t old j k l)
+  ]
 
-  visible_count : length (visible_lists t) ≡ length t.blocks
-  visible_count = length-map t.blocks (λ b. conditions_nodes t b.visible)
+  means_alike : (row : List ℕ) (k : ℕ) → IsInside t old row → means t new row k ≡ means t old row k
+  means_alike row k i = any_in (λ j. stands t new j k) (λ j. stands t old j k) row (λ j c. stands_alike j k (i j c))
 
-  shared_count : length (shared_lists t) ≡ length (depends_lists t) + length (visible_lists t)
-  shared_count = length-append (depends_lists t) (visible_lists t)
+  meant_alike : (lists : List (List Node)) (rows : List (List ℕ)) → AreMeant t old lists rows → AreMeant t new lists rows
+  meant_alike lists rows m = record {
+    whole = m.whole;
+    each = λ j k. means_alike (get_or rows j []) k (m.inside j) ∙ m.each j k;
+    inside = λ j i c. let h = m.inside j i c in omega (arith, h, length_push old r);
+  }
 
-  pub depends_shared : (rows : List (List ℕ)) → Holds (length t.symbols) (depends_lists t) rows → AreShared t (node_count t) (depends_lists t) rows
-  depends_shared rows holds = record {
-    holds = holds;
-    nodes = λ b. lists_within (λ x. x.depends) t.blocks b;
-    stand = λ b k h.
-        of_list t (node_count t + b) k (omega arith)
-        ∙ ap (λ (i : ℕ). has_node (length t.symbols) (get_or (shared_lists t) i []) k) (behind b)
-        ∙ ap (λ ns. has_node (length t.symbols) ns k) (get_or_append_left (depends_lists t) (visible_lists t) [] b h);
-    inside = λ b h. omega (arith, h, shared_count);
+  nodes_alike : ((k : ℕ) → Contains r k → k < node_count t) → AreOfNodes t old → AreOfNodes t new
+  nodes_alike f n = record { below = λ b k c. at b k c (cases_lt b (length old)) }
+    where
+      last : (b k : ℕ) → Contains (get_or new b []) k → length old ≤ b → (b < length old + 1) ⊎ (length old + 1 ≤ b) → k < node_count t
+      last b k c h (inl m) = f k (subst (λ ks. Contains ks k) (get_or_push old r [] b (omega arith)) c)
+      last b k c h (inr m) =
+          let none = subst (λ ks. Contains ks k) (get_or_past new b [] (omega (arith, length_push old r))) c in
+          absurd (omega (arith, none.1))
+
+      at : (b k : ℕ) → Contains (get_or new b []) k → (b < length old) ⊎ (length old ≤ b) → k < node_count t
+      at b k c (inl h) = n.below b k (subst (λ ks. Contains ks k) (get_or_append_left old (r ∷ []) [] b h) c)
+      at b k c (inr h) = last b k c h (cases_lt b (length old + 1))
+
+  one_more : ((k : ℕ) → Contains r k → k < node_count t) → Grows t old new
+  one_more f = record { meant = meant_alike; nodes = nodes_alike f }
+
+  -- the number that stands for it
+  standing : (ns : List Node) → HasNodes (length t.symbols) ns r → Means t new ns ((node_count t + length old) ∷ [])
+  standing ns has = record {
+    has = λ k.
+        sym (or_false (stands t new (node_count t + length old) k))
+        ∙ of_list t new (node_count t + length old) k (omega arith)
+        ∙ ap (λ (i : ℕ). has_number (get_or new i []) k) behind
+        ∙ ap (λ ks. has_number ks k) (get_or_push old r [] (length old) refl)
+        ∙ has.has k;
+    inside = λ j c. let same = single j c in omega (arith, same, length_push old r);
   }
     where
-      behind : (b : ℕ) → node_count t + b - node_count t ≡ b
-      behind b = omega arith
+      behind : node_count t + length old - node_count t ≡ length old
+      behind = omega arith
 
-  pub visible_shared : (rows : List (List ℕ)) (first : ℕ) → first ≡ node_count t + length t.blocks → Holds (length t.symbols) (visible_lists t) rows → AreShared t first (visible_lists t) rows
-  visible_shared rows first e holds = record {
-    holds = holds;
-    nodes = λ b. lists_within (λ x. x.visible) t.blocks b;
-    stand = λ b k h.
-        of_list t (first + b) k (omega (arith, e))
-        ∙ ap (λ ns. has_node (length t.symbols) ns k)
-        (get_or-append_right (depends_lists t) (visible_lists t) (length t.blocks) (first + b - node_count t) [] depends_count (omega (arith, e))
-        ∙ ap (λ (i : ℕ). get_or (visible_lists t) i []) (behind b));
-    inside = λ b h. omega (arith, e, h, shared_count, depends_count);
-  }
-    where
-      behind : (b : ℕ) → first + b - node_count t - length t.blocks ≡ b
-      behind b = omega (arith, e)
+      single : (j : ℕ) → Contains ((node_count t + length old) ∷ []) j → node_count t + length old ≡ j
+      single j (zero, h, e) = e
+      single j (suc i, h, e) = absurd (omega arith)
+
+-- ---- some more, or none
+pub grows_none : (t : TreeValue) (old : List (List ℕ)) → Grows t old old
+grows_none t old = record { meant = λ lists rows m. m; nodes = λ n. n }
+
+pub grows_then : (t : TreeValue) (a b c : List (List ℕ)) → Grows t a b → Grows t b c → Grows t a c
+grows_then t a b c f g = record { meant = λ lists rows m. g.meant lists rows (f.meant lists rows m); nodes = λ n. g.nodes (f.nodes n) }
+
+-- no shared list
+pub none_of_nodes : (t : TreeValue) (shared : List (List ℕ)) → shared ≡ [] → AreOfNodes t shared
+none_of_nodes t shared e = record {
+  below = λ b k c. let none = subst (λ rs. Contains (get_or rs b []) k) e c in absurd (omega (arith, none.1));
+}
+
+-- ---- a row that has the numbers of nodes, once it is shortened
+module _ (t : TreeValue) (before after : List (List ℕ)) (old new : List ℕ) (ns : List Node) (are : All (λ n. IsNodeOf t n) ns) (has : HasNodes (length t.symbols) ns old) where
+  long : Grows t before (before ++ old ∷ [])
+  long = one_more t before old (λ k c. below t before ns k are (sym (has.has k) ∙ number_found old k c))
+
+  pub shortened_grows : IsShortened (node_count t) before after old new → Grows t before after
+  shortened_grows (inl e) = subst (λ rows. Grows t before rows) (sym e.0) (grows_none t before)
+  shortened_grows (inr e) = subst (λ rows. Grows t before rows) (sym e.0) long
+
+  pub shortened_means : IsShortened (node_count t) before after old new → Means t after ns new
+  shortened_means (inl e) =
+      subst (λ rows. Means t rows ns new) (sym e.0)
+      (subst (λ row. Means t before ns row) (sym e.1)
+      (record { has = λ k. row_means t before old ns k are has.has; inside = row_inside t before old ns are has.has }))
+  shortened_means (inr e) =
+      subst (λ rows. Means t rows ns new) (sym e.0)
+      (subst (λ row. Means t (before ++ old ∷ []) ns row) (sym e.1) (standing t before old ns has))

@@ -1,5 +1,5 @@
 -- The rows of all nodes are the graph of the nodes.
-use Rattle.std.proofs.Common.{◌≡◌, ℕ, zero, suc, ◌+◌, ◌-◌, ◌*◌, ◌<◌, ◌≤◌, true, eqb, cond, List, [], ◌∷◌, ◌++◌, append_assoc, length, get_or, take, map, Option, refl, sym, ap, subst, ◌∙◌, inl, inr, arith, get_or-take, length-take-le}
+use Rattle.std.proofs.Common.{◌≡◌, ℕ, zero, suc, ◌+◌, ◌-◌, ◌*◌, ◌<◌, ◌≤◌, true, eqb, cond, List, [], ◌∷◌, ◌++◌, length, get_or, take, Option, refl, sym, ap, subst, ◌∙◌, inl, inr, arith, get_or-take, length-take-le}
 use Rattle.std.specs.List.{All, Contains}
 use Rattle.std.specs.Option.{option_map_or}
 use Rattle.std.proofs.lemmas.List.Elements.{All-contains}
@@ -13,13 +13,12 @@ use Rattle.kc_outline.specs.TreeValue.{TreeValue, SymbolValue, ChoiceValue}
 use Rattle.kc_tree.specs.Nodes.{number_in, node_in, node_count, IsNodeOf}
 use Rattle.kc_tree.specs.Uses.{visibility_nodes, symbol_value_nodes, choice_prompt_nodes, choice_value_nodes, used_nodes, Uses}
 use Rattle.kc_tree.specs.NodeGraph.{IsGraphOf}
-use Rattle.kc_tree.specs.Collected.{has_number, has_node, depends_lists, visible_lists, Holds, used_lists, used_lists_with}
-use Rattle.kc_tree.specs.SharedLists.{shared_lists, row_count, stands, means, AreMeant}
+use Rattle.kc_tree.specs.Collected.{has_number, has_node, used_lists, used_lists_with}
+use Rattle.kc_tree.specs.SharedLists.{stands, means, AreMeant, AreOfNodes}
 use Rattle.kc_graph.specs.Shared.{stands_for, whole_row, whole_rows, IsShared}
 use Rattle.kc_tree.proofs.NodeNumbers.{number_in-node_in, node_in-number_in, at_below, below_at}
 use Rattle.kc_tree.proofs.CollectedLaws.{any_alike, any_flat, or_false, number_found, number_there, node_found, node_has}
-use Rattle.kc_tree.proofs.MeaningLaws.{itself, of_list, below}
-use Rattle.kc_tree.proofs.SharedListLaws.{depends_shared, visible_shared}
+use Rattle.kc_tree.proofs.MeaningLaws.{itself, of_list}
 use Rattle.kc_tree.proofs.WithinLaws.{used_nodes_within}
 
 lists_count : (t : TreeValue) (n : ℕ) → length (used_lists t n) ≡ 2 * n
@@ -155,59 +154,39 @@ module _ (t : TreeValue) where
   has_at ns q c = ap (has_node (length t.symbols) ns) (sym (number_in-node_in (length t.symbols) q)) ∙ node_has (length t.symbols) ns (node_in (length t.symbols) q) c
 
   -- ---- the rows of all nodes, and behind them the lists that they share
-  module _ (own depends visible : List (List ℕ)) (are : AreMeant t all own) (depend : Holds (length t.symbols) (depends_lists t) depends) (see : Holds (length t.symbols) (visible_lists t) visible) where
+  module _ (own shared : List (List ℕ)) (are : AreMeant t shared all own) (behind : AreOfNodes t shared) where
     abbrev table : List (List ℕ)
-    table = (own ++ depends) ++ visible
-
-    abbrev behind : List (List ℕ)
-    behind = depends ++ visible
+    table = own ++ shared
 
     own_count : length own ≡ node_count t
     own_count = are.whole ∙ count
 
-    parted : table ≡ own ++ behind
-    parted = append_assoc own depends visible
-
-    long : length table ≡ row_count t
-    long = omega (arith, length-append (own ++ depends) visible, length-append own depends, length-append (depends_lists t) (visible_lists t), own_count, depend.whole, see.whole)
+    long : length table ≡ node_count t + length shared
+    long = omega (arith, length-append own shared, own_count)
 
     own_row : (p : ℕ) → p < node_count t → get_or table p [] ≡ get_or own p []
-    own_row p h = ap (λ rs. get_or rs p []) parted ∙ get_or_append_left own behind [] p (omega (arith, h, own_count))
+    own_row p h = get_or_append_left own shared [] p (omega (arith, h, own_count))
 
-    shared_row : (p : ℕ) → node_count t ≤ p → get_or table p [] ≡ get_or behind (p - node_count t) []
-    shared_row p h = ap (λ rs. get_or rs p []) parted ∙ get_or-append_right own behind (node_count t) p [] own_count h
-
-    -- a shared list
-    list_row : (b k : ℕ) → has_number (get_or behind b []) k ≡ has_node (length t.symbols) (get_or (shared_lists t) b []) k
-    list_row b k = elim (cases_lt b (length (depends_lists t))) [
-      | inl h ↦
-          ap (λ ks. has_number ks k) (get_or_append_left depends visible [] b (omega (arith, h, depend.whole)))
-          ∙ depend.each b k
-          ∙ ap (λ ns. has_node (length t.symbols) ns k) (sym (get_or_append_left (depends_lists t) (visible_lists t) [] b h))
-      | inr h ↦
-          ap (λ ks. has_number ks k) (get_or-append_right depends visible (length (depends_lists t)) b [] depend.whole h)
-          ∙ see.each (b - length (depends_lists t)) k
-          ∙ ap (λ ns. has_node (length t.symbols) ns k) (sym (get_or-append_right (depends_lists t) (visible_lists t) (length (depends_lists t)) b [] refl h))
-    ]
+    shared_row : (p : ℕ) → node_count t ≤ p → get_or table p [] ≡ get_or shared (p - node_count t) []
+    shared_row p h = get_or-append_right own shared (node_count t) p [] own_count h
 
     -- what a number stands for in the table is what it means in the tree
-    number_stands : (k j : ℕ) → has_number (stands_for (node_count t) table j) k ≡ stands t j k
+    number_stands : (k j : ℕ) → has_number (stands_for (node_count t) table j) k ≡ stands t shared j k
     number_stands k j = elim (cases_lt j (node_count t)) [
       | inl h ↦
           ap (λ b. has_number (cond b (j ∷ []) (get_or table j [])) k) (lt-ltb j (node_count t) h)
           ∙ sym (or_false (eqb j k))
-          ∙ sym (itself t j k h)
+          ∙ sym (itself t shared j k h)
       | inr h ↦
           ap (λ b. has_number (cond b (j ∷ []) (get_or table j [])) k) (le-ltb j (node_count t) h)
           ∙ ap (λ ks. has_number ks k) (shared_row j h)
-          ∙ list_row (j - node_count t) k
-          ∙ sym (of_list t j k h)
+          ∙ sym (of_list t shared j k h)
     ]
 
-    row_meant : (row : List ℕ) (k : ℕ) → has_number (whole_row (node_count t) table row) k ≡ means t row k
+    row_meant : (row : List ℕ) (k : ℕ) → has_number (whole_row (node_count t) table row) k ≡ means t shared row k
     row_meant row k =
         any_flat (λ j. eqb j k) (stands_for (node_count t) table) row
-        ∙ any_alike (λ j. has_number (stands_for (node_count t) table j) k) (λ j. stands t j k) row (number_stands k)
+        ∙ any_alike (λ j. has_number (stands_for (node_count t) table j) k) (λ j. stands t shared j k) row (number_stands k)
 
     whole : length (whole_rows (node_count t) table) ≡ node_count t
     whole = length-map (take (node_count t) table) (whole_row (node_count t) table) ∙ length-take-le (node_count t) table (omega (arith, long))
@@ -240,36 +219,22 @@ module _ (t : TreeValue) where
       );
     }
 
-    -- a list of a block is one of nodes of the tree
-    list_below : (b q : ℕ) → Contains (get_or behind b []) q → q < node_count t
-    list_below b q c = elim (cases_lt b (length (depends_lists t))) [
-      | inl h ↦
-          let is = get_or_append_left (depends_lists t) (visible_lists t) [] b h in
-          below t (get_or (depends_lists t) b []) q ((depends_shared t depends depend).nodes b)
-          (ap (λ ns. has_node (length t.symbols) ns q) (sym is) ∙ sym (list_row b q) ∙ number_found (get_or behind b []) q c)
-      | inr h ↦
-          let is = get_or-append_right (depends_lists t) (visible_lists t) (length (depends_lists t)) b [] refl h in
-          below t (get_or (visible_lists t) (b - length (depends_lists t)) []) q ((visible_shared t visible (node_count t + length t.blocks) refl see).nodes (b - length (depends_lists t)))
-          (ap (λ ns. has_node (length t.symbols) ns q) (sym is) ∙ sym (list_row b q) ∙ number_found (get_or behind b []) q c)
-    ]
-
     pub rows_shared : IsShared (node_count t) table
     rows_shared = record {
       few = omega (arith, long);
       own = λ p q h u. let inside = are.inside p q (subst (λ ks. Contains ks q) (own_row p h) u) in omega (arith, inside, long);
-      shared = λ p q h u. list_below (p - node_count t) q (subst (λ ks. Contains ks q) (shared_row p h) u);
+      shared = λ p q h u. behind.below (p - node_count t) q (subst (λ ks. Contains ks q) (shared_row p h) u);
     }
 
 -- the table as it is made
 abbrev pub IsTable : TreeValue → ℕ → List (List ℕ) → Type 0
 IsTable t nodes rows = IsShared nodes rows × IsGraphOf t (whole_rows nodes rows)
 
-pub table_made : (t u : TreeValue) (nodes : ℕ) (own rows : List (List ℕ)) → u ≡ t → nodes ≡ node_count u → AreMeant u (used_lists_with u (length u.choices)) own
-    → ((depends visible : List (List ℕ)) × Holds (length u.symbols) (depends_lists u) depends × Holds (length u.symbols) (visible_lists u) visible × (rows ≡ (own ++ depends) ++ visible))
+pub table_made : (t u : TreeValue) (nodes : ℕ) (own shared rows : List (List ℕ)) → u ≡ t → nodes ≡ node_count u → AreMeant u shared (used_lists_with u (length u.choices)) own → AreOfNodes u shared → rows ≡ own ++ shared
     → IsTable t nodes rows
-table_made t u nodes own rows same count are parts =
+table_made t u nodes own shared rows same count are behind parts =
     let P : TreeValue → Type 0 = λ x. IsTable x nodes rows in
     let Q : ℕ → Type 0 = λ n. IsTable u n rows in
     let R : List (List ℕ) → Type 0 = λ rs. IsTable u (node_count u) rs in
-    let made : IsTable u (node_count u) ((own ++ parts.0) ++ parts.1) = (rows_shared u own parts.0 parts.1 are parts.2 parts.3, graph_of_rows u own parts.0 parts.1 are parts.2 parts.3) in
-    subst P same (subst Q (sym count) (subst R (sym parts.4) made))
+    let made : IsTable u (node_count u) (own ++ shared) = (rows_shared u own shared are behind, graph_of_rows u own shared are behind) in
+    subst P same (subst Q (sym count) (subst R (sym parts) made))

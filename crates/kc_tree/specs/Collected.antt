@@ -1,5 +1,5 @@
 -- What rows of numbers hold of nodes while they are being collected: this project's own.
-use Rattle.std.specs.Prelude.{◌≡◌, ℕ, zero, suc, ◌==◌, Bool, ◌||◌, List, [], ◌∷◌, ◌++◌, Option, Some, None, map, length, flat_map, slice_get, slice_index_or}
+use Rattle.std.specs.Prelude.{◌≡◌, ℕ, zero, suc, ◌==◌, Bool, ◌||◌, List, [], ◌∷◌, ◌++◌, Option, Some, None, map, length, flat_map, slice_get}
 use Rattle.std.specs.Option.{option_map_or}
 use Rattle.std.specs.List.{list_any}
 use Rattle.kc_outline.specs.declared.id.BlockId.{BlockId}
@@ -30,11 +30,6 @@ pub record HaveSame (xs ys : List ℕ) : Type 0 where
 -- the row has just the numbers of the nodes
 pub record HasNodes (symbols : ℕ) (nodes : List Node) (row : List ℕ) : Type 0 where
   pub has : (k : ℕ) → has_number row k ≡ has_node symbols nodes k
-
--- each row of a table has just the numbers of the nodes of its list
-pub record Holds (symbols : ℕ) (lists : List (List Node)) (rows : List (List ℕ)) : Type 0 where
-  pub whole : length rows ≡ length lists
-  pub each : (j k : ℕ) → has_number (slice_index_or rows j []) k ≡ has_node symbols (slice_index_or lists j []) k
 
 -- ---- what is collected once
 -- what the own `depends on` lines of each definition read

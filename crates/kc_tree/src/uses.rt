@@ -32,8 +32,8 @@ fn add_symbol(
     requires few { length collected.now.reader.outline.now.symbols ≤ MOST_SYMBOLS }
     requires few_choices { length collected.now.reader.outline.now.choices ≤ 2 ^ 30 }
     requires symbol { slice_get collected.now.reader.outline.now.symbols id.0 ≡ Some symbol.now }
-    ensures { OnOk result ((lists : List (List Node)) → AreMeant collected.now.reader.outline.now lists rows.old
-        → AreMeant collected.now.reader.outline.now ((lists ++ used_nodes collected.now.reader.outline.now (Vis id) ∷ []) ++ used_nodes collected.now.reader.outline.now (Val id) ∷ []) rows.new) }
+    ensures { OnOk result ((lists : List (List Node)) → AreMeant collected.now.reader.outline.now collected.now.shared lists rows.old
+        → AreMeant collected.now.reader.outline.now collected.now.shared ((lists ++ used_nodes collected.now.reader.outline.now (Vis id) ∷ []) ++ used_nodes collected.now.reader.outline.now (Val id) ∷ []) rows.new) }
 {
     collected.visibility_row(row, scratch, symbol)?;
     rows.add_row(row.as_slice())?;
@@ -53,8 +53,8 @@ fn add_choice(
     requires few { length collected.now.reader.outline.now.symbols ≤ MOST_SYMBOLS }
     requires few_choices { length collected.now.reader.outline.now.choices ≤ 2 ^ 30 }
     requires choice { slice_get collected.now.reader.outline.now.choices id.0 ≡ Some choice.now }
-    ensures { OnOk result ((lists : List (List Node)) → AreMeant collected.now.reader.outline.now lists rows.old
-        → AreMeant collected.now.reader.outline.now ((lists ++ used_nodes collected.now.reader.outline.now (Mode id) ∷ []) ++ used_nodes collected.now.reader.outline.now (Sel id) ∷ []) rows.new) }
+    ensures { OnOk result ((lists : List (List Node)) → AreMeant collected.now.reader.outline.now collected.now.shared lists rows.old
+        → AreMeant collected.now.reader.outline.now collected.now.shared ((lists ++ used_nodes collected.now.reader.outline.now (Mode id) ∷ []) ++ used_nodes collected.now.reader.outline.now (Sel id) ∷ []) rows.new) }
 {
     collected.mode_row(row, scratch, choice)?;
     rows.add_row(row.as_slice())?;
@@ -72,7 +72,7 @@ fn add_symbols(
     requires few { length collected.now.reader.outline.now.symbols ≤ MOST_SYMBOLS }
     requires few_choices { length collected.now.reader.outline.now.choices ≤ 2 ^ 30 }
     requires empty { rows.old ≡ [] }
-    ensures { OnOk result (AreMeant collected.now.reader.outline.now (used_lists collected.now.reader.outline.now (length collected.now.reader.outline.now.symbols)) rows.new) }
+    ensures { OnOk result (AreMeant collected.now.reader.outline.now collected.now.shared (used_lists collected.now.reader.outline.now (length collected.now.reader.outline.now.symbols)) rows.new) }
 {
     let outline = collected.reader.outline;
     for (number, symbol) in outline.symbols().iter().enumerate() {
@@ -91,8 +91,8 @@ fn add_choices(
 ) -> Result<(), AllocError>
     requires few { length collected.now.reader.outline.now.symbols ≤ MOST_SYMBOLS }
     requires few_choices { length collected.now.reader.outline.now.choices ≤ 2 ^ 30 }
-    requires symbols { AreMeant collected.now.reader.outline.now (used_lists collected.now.reader.outline.now (length collected.now.reader.outline.now.symbols)) rows.old }
-    ensures { OnOk result (AreMeant collected.now.reader.outline.now (used_lists_with collected.now.reader.outline.now (length collected.now.reader.outline.now.choices)) rows.new) }
+    requires symbols { AreMeant collected.now.reader.outline.now collected.now.shared (used_lists collected.now.reader.outline.now (length collected.now.reader.outline.now.symbols)) rows.old }
+    ensures { OnOk result (AreMeant collected.now.reader.outline.now collected.now.shared (used_lists_with collected.now.reader.outline.now (length collected.now.reader.outline.now.choices)) rows.new) }
 {
     let outline = collected.reader.outline;
     for (number, choice) in outline.choices().iter().enumerate() {
@@ -103,7 +103,8 @@ fn add_choices(
 }
 
 /// The rows of all nodes by number, each without repeats: at a cost in proportion to the terms and the uses, but for
-/// the sort of each row. What the lines of a block read is collected once, and is shared by the rows of all inside.
+/// the sort of each row. What the own lines of a definition and the lines of a block read is collected once. Where it is
+/// long, it is shared by the rows of all that depends on it.
 pub(crate) fn used_rows(alloc: Global, outline: &Outline) -> Result<SharedRows, AllocError>
     requires few { length outline.now.symbols ≤ MOST_SYMBOLS }
     requires few_choices { length outline.now.choices ≤ 2 ^ 30 }

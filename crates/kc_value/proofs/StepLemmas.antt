@@ -1,11 +1,11 @@
 -- The steps of a fill: how far a walk has gone over what a node uses.
-use Rattle.std.proofs.Common.{◌≡◌, ◌⊎◌, ◌↔◌, ℕ, ◌+◌, ◌-◌, ◌<◌, ◌≤◌, Bool, true, false, List, [], ◌∷◌, ◌++◌, Option, Some, None, IfSome, is_some, length, get_or, slice_set, inl, inr, refl, sym, ap, ◌∙◌, subst, ⊎_elim, true≢false, get_or-set_same, get_or-set_other, arith}
+use Rattle.std.proofs.Common.{◌≡◌, ℕ, ◌+◌, ◌-◌, ◌<◌, ◌≤◌, Bool, true, false, List, [], ◌∷◌, ◌++◌, Option, Some, None, IfSome, is_some, length, get_or, slice_set, refl, sym, ◌∙◌, subst, ⊎_elim, true≢false, get_or-set_other, arith}
 use Rattle.std.specs.List.{Contains}
 use Rattle.std.proofs.lemmas.Bool.{cases_eq, cases_lt}
-use Rattle.std.proofs.lemmas.List.{get_or_default, get_or_past, length-set}
+use Rattle.std.proofs.lemmas.List.{get_or_default}
 use Rattle.std.proofs.lemmas.List.Elements.{Contains-push_cases, Contains-append_left, Contains-append_right}
 use Rattle.kc_graph.specs.Graph.{row, Uses as Names}
-use Rattle.kc_graph.specs.Shared.{Holds, stands_for, is_node}
+use Rattle.kc_graph.specs.Shared.{Holds, stands_for}
 use Rattle.kc_graph.specs.Shared.Holds.{itself, through}
 use Rattle.kc_graph.proofs.SharedLaws.{one-node, shared-row}
 use Rattle.kc_outline.specs.TreeValue.{TreeValue}
@@ -13,7 +13,7 @@ use Rattle.kc_tree.specs.declared.node.Node.{Node}
 use Rattle.kc_tree.specs.Accepted.{IsAccepted, IsSharedTable}
 use Rattle.kc_tree.specs.Nodes.{IsNodeOf, node_at, node_count, number_of}
 use Rattle.kc_tree.specs.Uses.{Uses}
-use Rattle.kc_tree.proofs.NodeNumbers.{at_below, number_below, number_of-node_at}
+use Rattle.kc_tree.proofs.NodeNumbers.{at_below, number_of-node_at}
 use Rattle.kc_value.specs.declared.filling.Missing.{Missing}
 use Rattle.kc_value.specs.declared.filling.Step.{Step}
 use Rattle.kc_value.specs.declared.value.Value.{Value}

@@ -14,6 +14,7 @@ ghost use Rattle.kc_outline.specs.TreeOf.{same_type};
 ghost use Rattle.kc_outline.specs.TreeValue.{choice_of};
 ghost use Rattle.kc_value.specs.Assignable.{same_tri, is_shown_with_some, assignable_values};
 ghost use Rattle.kc_value.specs.Assignment.{as_tri, assignment_of};
+ghost use Rattle.kc_value.specs.KnownConditions.{AreRight, AreSharedBy};
 ghost use Rattle.kc_value.specs.Rule.{tri_rule};
 ghost use Rattle.kc_value.specs.Solution.{solution, AreSolved};
 ghost use Rattle.kc_value.specs.UserValues.{UserValues, IsUserFor};
@@ -22,6 +23,7 @@ use crate::expr_value::node_tri;
 use crate::gathering::used_values;
 use crate::known_conditions::KnownConditions;
 use crate::resolver::Resolver;
+use crate::shared_conditions::SharedConditions;
 use crate::symbol_value::tri_value;
 use crate::value::Value;
 use kc_tree::{Node, SymId, Symbol, SymbolType, Tree, Tri, UserVal};
@@ -38,12 +40,19 @@ pub(crate) fn is_same(left: Tri, right: Tri) -> bool
 }
 
 /// What a symbol of this number shows with a user value, over the values of the nodes that it is computed from.
-fn shown_with(tree: &Tree, id: SymId, symbol: &Symbol, value: Tri, env: &[Option<Value>]) -> Tri
+fn shown_with(
+    tree: &Tree,
+    id: SymId,
+    symbol: &Symbol,
+    value: Tri,
+    known: KnownConditions<'_>,
+    env: &[Option<Value>],
+) -> Tri
+    requires known { AreRight tree.now env.now known.depends.now known.visible.now known.own.now }
     ensures { result ≡ as_tri (tri_rule tree.now (assignment_of tree.now env.now) symbol.now
         (as_tri (assignment_of tree.now env.now (Vis id))) (Some (TriVal value))) }
 {
     let visibility = node_tri(tree, env, Node::Vis(id));
-    let known = KnownConditions::none();
     tri_value(
         tree,
         symbol,
@@ -85,8 +94,10 @@ fn shown_values(
     alloc: Global,
     tree: &Tree,
     id: SymId,
+    known: KnownConditions<'_>,
     env: &[Option<Value>],
 ) -> Result<Vec<Tri>, AllocError>
+    requires known { AreRight tree.now env.now known.depends.now known.visible.now known.own.now }
     requires inside { IsNodeOf tree.now (Val id) }
     requires alone { is_some (choice_of tree.now id) ≡ false }
     ensures { (u : UserValues) → IsUserFor tree.now u → IfOk result (λ v. v.items
@@ -96,9 +107,9 @@ fn shown_values(
     let Some(symbol) = tree.symbols().get(id.0 as usize) else {
         return Ok(values);
     };
-    let with_no = shown_with(tree, id, symbol, Tri::No, env);
-    let with_module = shown_with(tree, id, symbol, Tri::Module, env);
-    let with_yes = shown_with(tree, id, symbol, Tri::Yes, env);
+    let with_no = shown_with(tree, id, symbol, Tri::No, known, env);
+    let with_module = shown_with(tree, id, symbol, Tri::Module, known, env);
+    let with_yes = shown_with(tree, id, symbol, Tri::Yes, known, env);
     let kind = symbol.kind();
     push_if(
         &mut values,
@@ -164,21 +175,25 @@ pub fn assignable<R: Resolver>(
         return one_value(alloc, Tri::Yes);
     }
     let env = used_values(alloc, resolver, Node::Val(symbol))?;
-    let values = shown_values(alloc, resolver.tree(), symbol, env.as_slice())?;
+    let known = KnownConditions::none();
+    let values = shown_values(alloc, resolver.tree(), symbol, known, env.as_slice())?;
     Ok(values)
 }
 
 /// The values that a user can give a symbol with an effect, as [`assignable`] has them, over the values of all nodes, or
-/// of those that the value of the symbol is computed from.
+/// of those that the value of the symbol is computed from. `conditions` is what these values give many nodes, as far as it
+/// is known.
 ///
 /// The error comes where memory is refused.
 pub fn assignable_among(
     alloc: Global,
     tree: &Tree,
+    conditions: &SharedConditions,
     values: &[Option<Value>],
     symbol: SymId,
 ) -> Result<Vec<Tri>, AllocError>
-    requires { IsNodeOf tree.now (Vis symbol) }
+    requires inside { IsNodeOf tree.now (Vis symbol) }
+    requires conditions { AreSharedBy tree.now values.now conditions.now }
     ensures solved { (u : UserValues) → IsUserFor tree.now u → AreSolved tree.now u values.now
         → IfOk result (λ v. v.items ≡ assignable_values tree.now u symbol) }
     ensures used { (u : UserValues) → IsUserFor tree.now u
@@ -191,5 +206,5 @@ pub fn assignable_among(
     if is_member(tree, symbol) {
         return one_value(alloc, Tri::Yes);
     }
-    shown_values(alloc, tree, symbol, values)
+    shown_values(alloc, tree, symbol, conditions.known(), values)
 }

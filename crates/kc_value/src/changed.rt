@@ -5,13 +5,13 @@ ghost use Rattle.kc_tree.specs.Accepted.{IsAccepted};
 ghost use Rattle.kc_tree.specs.Nodes.{IsNodeOf};
 ghost use Rattle.kc_value.specs.Assignment.{assignment_of};
 ghost use Rattle.kc_value.specs.ChangedValue.{same_user_value, same_member, same_value, changed_value, ChangesAreJustEnough};
-ghost use Rattle.kc_value.specs.KnownConditions.{block_conditions};
+ghost use Rattle.kc_value.specs.KnownConditions.{AreSharedBy};
 ghost use Rattle.kc_value.specs.Solution.{AreSolved};
 ghost use Rattle.kc_value.specs.UserValues.{UserValues};
 ghost use Rattle.kc_value.specs.Without.{value_without, IsOwned};
 
 use crate::assignable_values::is_same;
-use crate::block_conditions::BlockConditions;
+use crate::shared_conditions::SharedConditions;
 use crate::value::{Value, copy_of};
 use crate::without::{selection_alone, selects_none, value_alone};
 use kc_tree::{Node, SymId, Tree, Tri, UserVal};
@@ -75,13 +75,13 @@ fn value_at(
 fn value_without(
     alloc: Global,
     tree: &Tree,
-    conditions: &BlockConditions,
+    conditions: &SharedConditions,
     values: &[Option<Value>],
     node: Node,
 ) -> Result<Value, AllocError>
     requires inside { IsNodeOf tree.now node }
     requires owned { IsOwned node }
-    requires conditions { conditions.now ≡ block_conditions tree.now (assignment_of tree.now values.now) }
+    requires conditions { AreSharedBy tree.now values.now conditions.now }
     ensures { (u : UserValues) → AreSolved tree.now u values.now
         → IfOk result (λ v. v ≡ value_without tree.now u node) }
 {
@@ -97,7 +97,7 @@ fn value_without(
 
 /// The value of a symbol or the selection of a choice, where it is another than it would be without the user's own
 /// value or chosen member, all else as it is; none where that makes no difference. `values` has the value of each node,
-/// by number, and `conditions` what these give all blocks. Texts are compared as they are spelt.
+/// by number, and `conditions` what these give many nodes. Texts are compared as they are spelt.
 ///
 /// User values that hold just these, of all symbols and choices, give each visibility, value and selection as it is,
 /// and each mode but that of an optional choice, which is n where it selects none. None of them can be left out: user
@@ -108,13 +108,13 @@ fn value_without(
 pub fn changed_value(
     alloc: Global,
     tree: &Tree,
-    conditions: &BlockConditions,
+    conditions: &SharedConditions,
     values: &[Option<Value>],
     node: Node,
 ) -> Result<Option<Value>, AllocError>
     requires inside { IsNodeOf tree.now node }
     requires owned { IsOwned node }
-    requires conditions { conditions.now ≡ block_conditions tree.now (assignment_of tree.now values.now) }
+    requires conditions { AreSharedBy tree.now values.now conditions.now }
     ensures value { (u : UserValues) → AreSolved tree.now u values.now
         → IfOk result (λ v. v ≡ changed_value tree.now u node) }
     ensures laws { (u : UserValues) → ChangesAreJustEnough tree.now u }

@@ -28,7 +28,7 @@ pub(crate) fn mode_value(
     known: KnownConditions<'_>,
     env: &[Option<Value>],
 ) -> Tri
-    requires known { AreRight tree.now env.now known.depends.now known.visible.now }
+    requires known { AreRight tree.now env.now known.depends.now known.visible.now known.own.now }
     ensures { result ≡ mode tree.now (assignment_of tree.now env.now) choice.now chosen }
 {
     let is_wanted = !choice.is_optional() || chosen.is_some();

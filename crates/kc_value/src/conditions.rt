@@ -1,18 +1,19 @@
 //! The conditions of definitions, menus and comments.
 
 ghost use Rattle.std.specs.Prelude.{◌≡◌, Some, option_and_then, slice_get};
-ghost use Rattle.std.specs.Option.{option_copied};
+ghost use Rattle.std.specs.Option.{option_copied, option_map_or};
+ghost use Rattle.kc_statement.specs.declared.tri.Tri.TheVariants.{No};
 ghost use Rattle.kc_tree.specs.Nodes.{IsNodeOf};
 ghost use Rattle.kc_tree.specs.declared.node.Node.{Node};
 ghost use Rattle.kc_value.specs.Assignment.{Assignment, assignment_of};
 ghost use Rattle.kc_outline.specs.TreeValue.{blocks_from, blocks_around};
 ghost use Rattle.kc_value.specs.ExprValue.{conditions_value};
-ghost use Rattle.kc_value.specs.KnownConditions.{AreRight, block_conditions};
+ghost use Rattle.kc_value.specs.KnownConditions.{AreRight, AreSharedBy};
 ghost use Rattle.kc_value.specs.Conditions.{blocks_depend, blocks_visible, dependency, prompt_value, mode_around, choice_prompt_value, menu_value, comment_value, menu_condition, comment_condition};
 
-use crate::block_conditions::BlockConditions;
 use crate::expr_value::{conditions_tri, node_tri, own_condition_tri};
 use crate::known_conditions::KnownConditions;
+use crate::shared_conditions::SharedConditions;
 use crate::value::Value;
 use kc_outline::MOST_OPEN_BLOCKS;
 use kc_tree::{Block, BlockId, Choice, ChoiceId, Comment, CommentId, Definition, Node, Tree, Tri};
@@ -33,7 +34,7 @@ fn own_depends_tri(
     known: KnownConditions<'_>,
     env: &[Option<Value>],
 ) -> Tri
-    requires known { AreRight tree.now env.now known.depends.now known.visible.now }
+    requires known { AreRight tree.now env.now known.depends.now known.visible.now known.own.now }
     requires block { option_and_then (λ i. slice_get tree.now.blocks i.0) id ≡ Some block.now }
     ensures { result ≡ conditions_value tree.now (assignment_of tree.now env.now) block.now.depends }
 {
@@ -51,7 +52,7 @@ fn depend_within(
     known: KnownConditions<'_>,
     env: &[Option<Value>],
 ) -> Tri
-    requires known { AreRight tree.now env.now known.depends.now known.visible.now }
+    requires known { AreRight tree.now env.now known.depends.now known.visible.now known.own.now }
     ensures { result ≡ blocks_depend tree.now (assignment_of tree.now env.now) (blocks_from tree.now.blocks limit innermost) }
 {
     let mut least = Tri::Yes;
@@ -60,6 +61,9 @@ fn depend_within(
         let Some(block) = block_at(tree, next) else {
             return least;
         };
+        if least.is_no() {
+            return Tri::No;
+        }
         least = least.and(own_depends_tri(tree, next, block, known, env));
         next = block.parent();
     }
@@ -74,7 +78,7 @@ fn own_visible_tri(
     known: KnownConditions<'_>,
     env: &[Option<Value>],
 ) -> Tri
-    requires known { AreRight tree.now env.now known.depends.now known.visible.now }
+    requires known { AreRight tree.now env.now known.depends.now known.visible.now known.own.now }
     requires block { option_and_then (λ i. slice_get tree.now.blocks i.0) id ≡ Some block.now }
     ensures { result ≡ conditions_value tree.now (assignment_of tree.now env.now) block.now.visible }
 {
@@ -92,7 +96,7 @@ fn visible_within(
     known: KnownConditions<'_>,
     env: &[Option<Value>],
 ) -> Tri
-    requires known { AreRight tree.now env.now known.depends.now known.visible.now }
+    requires known { AreRight tree.now env.now known.depends.now known.visible.now known.own.now }
     ensures { result ≡ blocks_visible tree.now (assignment_of tree.now env.now) (blocks_from tree.now.blocks limit innermost) }
 {
     let mut least = Tri::Yes;
@@ -101,6 +105,9 @@ fn visible_within(
         let Some(block) = block_at(tree, next) else {
             return least;
         };
+        if least.is_no() {
+            return Tri::No;
+        }
         least = least.and(own_visible_tri(tree, next, block, known, env));
         next = block.parent();
     }
@@ -114,7 +121,7 @@ pub(crate) fn blocks_depend_tri(
     known: KnownConditions<'_>,
     env: &[Option<Value>],
 ) -> Tri
-    requires known { AreRight tree.now env.now known.depends.now known.visible.now }
+    requires known { AreRight tree.now env.now known.depends.now known.visible.now known.own.now }
     ensures { result ≡ blocks_depend tree.now (assignment_of tree.now env.now) (blocks_around tree.now innermost) }
 {
     depend_within(tree, MOST_OPEN_BLOCKS, innermost, known, env)
@@ -127,10 +134,52 @@ pub(crate) fn blocks_visible_tri(
     known: KnownConditions<'_>,
     env: &[Option<Value>],
 ) -> Tri
-    requires known { AreRight tree.now env.now known.depends.now known.visible.now }
+    requires known { AreRight tree.now env.now known.depends.now known.visible.now known.own.now }
     ensures { result ≡ blocks_visible tree.now (assignment_of tree.now env.now) (blocks_around tree.now innermost) }
 {
     visible_within(tree, MOST_OPEN_BLOCKS, innermost, known, env)
+}
+
+/// What the own `depends on` lines of a definition of this number say.
+fn own_lines_tri(
+    tree: &Tree,
+    number: usize,
+    definition: &Definition,
+    known: KnownConditions<'_>,
+    env: &[Option<Value>],
+) -> Tri
+    requires known { AreRight tree.now env.now known.depends.now known.visible.now known.own.now }
+    requires definition { slice_get tree.now.definitions number ≡ Some definition.now }
+    ensures { result ≡ conditions_value tree.now (assignment_of tree.now env.now) definition.now.depends }
+{
+    match known.own_of(number) {
+        Some(value) => value,
+        None => conditions_tri(tree, definition.depends(), env),
+    }
+}
+
+/// The dependencies of the definition of a number, n where there is none: the same as [`dependency_tri`] gives, for a
+/// definition whose own lines many symbols read.
+pub(crate) fn shared_dependency_tri(
+    tree: &Tree,
+    number: usize,
+    known: KnownConditions<'_>,
+    env: &[Option<Value>],
+) -> Tri
+    requires known { AreRight tree.now env.now known.depends.now known.visible.now known.own.now }
+    ensures { result
+        ≡ option_map_or (dependency tree.now (assignment_of tree.now env.now)) (slice_get tree.now.definitions number) No }
+{
+    match tree.definitions().get(number) {
+        Some(definition) => {
+            let lines = own_lines_tri(tree, number, definition, known, env);
+            if lines.is_no() {
+                return Tri::No;
+            }
+            lines.and(blocks_depend_tri(tree, definition.block(), known, env))
+        }
+        None => Tri::No,
+    }
 }
 
 /// The dependencies of a definition (kconfig-language.rst, "Menu dependencies"): its own `depends on` lines, and those
@@ -141,10 +190,13 @@ pub(crate) fn dependency_tri(
     known: KnownConditions<'_>,
     env: &[Option<Value>],
 ) -> Tri
-    requires known { AreRight tree.now env.now known.depends.now known.visible.now }
+    requires known { AreRight tree.now env.now known.depends.now known.visible.now known.own.now }
     ensures { result ≡ dependency tree.now (assignment_of tree.now env.now) definition.now }
 {
     let own = conditions_tri(tree, definition.depends(), env);
+    if own.is_no() {
+        return Tri::No;
+    }
     own.and(blocks_depend_tri(tree, definition.block(), known, env))
 }
 
@@ -155,20 +207,26 @@ pub(crate) fn prompt_tri(
     known: KnownConditions<'_>,
     env: &[Option<Value>],
 ) -> Tri
-    requires known { AreRight tree.now env.now known.depends.now known.visible.now }
+    requires known { AreRight tree.now env.now known.depends.now known.visible.now known.own.now }
     ensures { result ≡ prompt_value tree.now (assignment_of tree.now env.now) definition.now }
 {
     let Some(prompt) = definition.prompt() else {
         return Tri::No;
     };
     let own = own_condition_tri(tree, prompt.condition.as_ref(), env);
-    let visible = blocks_visible_tri(tree, definition.block(), known, env);
-    own.and(dependency_tri(tree, definition, known, env).and(visible))
+    if own.is_no() {
+        return Tri::No;
+    }
+    let depends = dependency_tri(tree, definition, known, env);
+    if depends.is_no() {
+        return Tri::No;
+    }
+    own.and(depends.and(blocks_visible_tri(tree, definition.block(), known, env)))
 }
 
 /// The condition of a menu over the values of the nodes in `env`.
 fn menu_tri(tree: &Tree, menu: &Block, known: KnownConditions<'_>, env: &[Option<Value>]) -> Tri
-    requires known { AreRight tree.now env.now known.depends.now known.visible.now }
+    requires known { AreRight tree.now env.now known.depends.now known.visible.now known.own.now }
     ensures { result ≡ menu_value tree.now (assignment_of tree.now env.now) menu.now }
 {
     let own = conditions_tri(tree, menu.depends(), env);
@@ -183,7 +241,7 @@ fn comment_tri(
     known: KnownConditions<'_>,
     env: &[Option<Value>],
 ) -> Tri
-    requires known { AreRight tree.now env.now known.depends.now known.visible.now }
+    requires known { AreRight tree.now env.now known.depends.now known.visible.now known.own.now }
     ensures { result ≡ comment_value tree.now (assignment_of tree.now env.now) comment.now }
 {
     let own = conditions_tri(tree, comment.depends(), env);
@@ -211,7 +269,7 @@ pub(crate) fn choice_prompt_tri(
     known: KnownConditions<'_>,
     env: &[Option<Value>],
 ) -> Tri
-    requires known { AreRight tree.now env.now known.depends.now known.visible.now }
+    requires known { AreRight tree.now env.now known.depends.now known.visible.now known.own.now }
     ensures { result ≡ choice_prompt_value tree.now (assignment_of tree.now env.now) choice.now }
 {
     let Some(prompt) = choice.prompt() else {
@@ -224,14 +282,14 @@ pub(crate) fn choice_prompt_tri(
 
 /// The condition of a menu: its own `depends on` and `visible if` lines, and what the blocks around it depend on, but
 /// not their `visible if` lines. It is n for a number that the tree doesn't have. `env` has the values of all nodes, and
-/// `conditions` what these give all blocks.
+/// `conditions` what these give many nodes.
 pub fn menu_condition(
     tree: &Tree,
     menu: BlockId,
-    conditions: &BlockConditions,
+    conditions: &SharedConditions,
     env: &[Option<Value>],
 ) -> Tri
-    requires { conditions.now ≡ block_conditions tree.now (assignment_of tree.now env.now) }
+    requires { AreSharedBy tree.now env.now conditions.now }
     ensures { (a : Assignment) → ((n : Node) → IsNodeOf tree.now n → assignment_of tree.now env.now n ≡ a n)
         → result ≡ menu_condition tree.now a menu }
 {
@@ -243,14 +301,14 @@ pub fn menu_condition(
 
 /// The condition of a comment: its own `depends on` lines, what the blocks around it depend on, and inside a choice its
 /// mode. It is n for a number that the tree doesn't have. `env` has the values of all nodes, and `conditions` what these
-/// give all blocks.
+/// give many nodes.
 pub fn comment_condition(
     tree: &Tree,
     comment: CommentId,
-    conditions: &BlockConditions,
+    conditions: &SharedConditions,
     env: &[Option<Value>],
 ) -> Tri
-    requires { conditions.now ≡ block_conditions tree.now (assignment_of tree.now env.now) }
+    requires { AreSharedBy tree.now env.now conditions.now }
     ensures { (a : Assignment) → ((n : Node) → IsNodeOf tree.now n → assignment_of tree.now env.now n ≡ a n)
         → result ≡ comment_condition tree.now a comment }
 {

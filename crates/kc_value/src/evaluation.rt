@@ -24,7 +24,7 @@ fn visibility(
     env: &[Option<Value>],
     id: SymId,
 ) -> Value
-    requires known { AreRight tree.now env.now known.depends.now known.visible.now }
+    requires known { AreRight tree.now env.now known.depends.now known.visible.now known.own.now }
     ensures { result ≡ rule tree.now user.now (assignment_of tree.now env.now) (Vis id) }
 {
     match tree.symbols().get(id.0 as usize) {
@@ -43,7 +43,7 @@ fn value(
     env: &[Option<Value>],
     id: SymId,
 ) -> Result<Value, AllocError>
-    requires known { AreRight tree.now env.now known.depends.now known.visible.now }
+    requires known { AreRight tree.now env.now known.depends.now known.visible.now known.own.now }
     ensures { IfOk result (λ v. v ≡ rule tree.now user.now (assignment_of tree.now env.now) (Val id)) }
 {
     let Some(symbol) = tree.symbols().get(id.0 as usize) else {
@@ -71,7 +71,7 @@ fn mode(
     env: &[Option<Value>],
     id: ChoiceId,
 ) -> Value
-    requires known { AreRight tree.now env.now known.depends.now known.visible.now }
+    requires known { AreRight tree.now env.now known.depends.now known.visible.now known.own.now }
     ensures { result ≡ rule tree.now user.now (assignment_of tree.now env.now) (Mode id) }
 {
     match tree.choices().get(id.0 as usize) {
@@ -101,7 +101,7 @@ fn apply_rule(
     env: &[Option<Value>],
     node: Node,
 ) -> Result<Value, AllocError>
-    requires known { AreRight tree.now env.now known.depends.now known.visible.now }
+    requires known { AreRight tree.now env.now known.depends.now known.visible.now known.own.now }
     ensures { IfOk result (λ v. v ≡ rule tree.now user.now (assignment_of tree.now env.now) node) }
 {
     match node {
@@ -142,7 +142,7 @@ pub(crate) fn eval_over(
     node: Node,
     meter: &mut Meter,
 ) -> Result<Value, AllocError>
-    requires known { AreRight tree.now env.now known.depends.now known.visible.now }
+    requires known { AreRight tree.now env.now known.depends.now known.visible.now known.own.now }
     ensures value { IfOk result (λ v. v ≡ rule tree.now user.now (assignment_of tree.now env.now) node) }
     ensures counted { meter.new ≡ (if is_ok result then raised meter.old 1 else meter.old) }
 {

@@ -129,7 +129,7 @@ impl KeptValues {
     ///
     /// The walk has a path from the node down to the one that it is at: each step uses the node of the next. So it
     /// visits the nodes that are not kept, and what these use; a shared list is marked once all its nodes are kept, and the
-    /// conditions of a block are evaluated once, where there is a place for them.
+    /// conditions that many nodes read are evaluated once, where there is a place for them.
     ///
     /// The error comes where memory is refused; what was evaluated before is kept and counted then.
     fn fill_over(
@@ -145,9 +145,9 @@ impl KeptValues {
         requires inside { IsNodeOf tree.now node }
         requires table { IsSharedTable tree.now (Uses tree.now) table.now }
         requires marked { AreMarked (node_count tree.now) table.now self.old.values marks.old.items }
-        requires known { AreKnown tree.now self.old.values found.old.depends.items found.old.visible.items }
+        requires known { AreKnown tree.now self.old.values found.old.depends.items found.old.visible.items found.old.own.items }
         requires kept { AreKept tree.now user.now self.old.values }
-        ensures known { AreKnown tree.now self.new.values found.new.depends.items found.new.visible.items }
+        ensures known { AreKnown tree.now self.new.values found.new.depends.items found.new.visible.items found.new.own.items }
         ensures marked { AreMarked (node_count tree.now) table.now self.new.values marks.new.items }
         ensures kept { AreKept tree.now user.now self.new.values }
         ensures fills { Fills tree.now (node ∷ []) self.old self.new }

@@ -33,14 +33,15 @@ impl KeptValues {
         requires inside { IsNodeOf tree.now node }
         requires missing { is_kept tree.now self.old.values node ≡ false }
         requires whole { length self.old.values ≡ node_count tree.now }
-        requires known { AreKnown tree.now self.old.values found.old.depends.items found.old.visible.items }
+        requires known { AreKnown tree.now self.old.values found.old.depends.items found.old.visible.items found.old.own.items }
         requires ready { (m : Node) → Uses tree.now node m → IsKept tree.now self.old.values m }
         ensures value { OnOk result (self.new.values
             ≡ slice_set self.old.values (number_of tree.now node) (Some (rule tree.now user.now (assignment_of tree.now self.old.values) node))) }
         ensures counted { OnOk result (self.new.evals ≡ raised self.old.evals 1) }
         ensures stays { OnErr result (self.new ≡ self.old) }
-        ensures known { AreKnown tree.now self.new.values found.new.depends.items found.new.visible.items }
+        ensures known { AreKnown tree.now self.new.values found.new.depends.items found.new.visible.items found.new.own.items }
     {
+        found.prepare(alloc, tree)?;
         self.evaluate(alloc, tree, user, found.known(), node)?;
         found.find_for(tree, node, self.values());
         Ok(())
@@ -58,10 +59,10 @@ impl KeptValues {
         requires accepted { IsAccepted tree.now }
         requires inside { IsNodeOf tree.now node }
         requires kept { AreKept tree.now user.now self.old.values }
-        requires known { AreKnown tree.now self.old.values found.old.depends.items found.old.visible.items }
+        requires known { AreKnown tree.now self.old.values found.old.depends.items found.old.visible.items found.old.own.items }
         requires ready { (m : Node) → Uses tree.now node m → IsKept tree.now self.old.values m }
         ensures kept { AreKept tree.now user.now self.new.values }
-        ensures known { AreKnown tree.now self.new.values found.new.depends.items found.new.visible.items }
+        ensures known { AreKnown tree.now self.new.values found.new.depends.items found.new.visible.items found.new.own.items }
         ensures fills { Fills tree.now (node ∷ []) self.old self.new }
         ensures done { OnOk result (IsKept tree.now self.new.values node) }
     {

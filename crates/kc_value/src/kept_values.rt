@@ -110,7 +110,7 @@ impl KeptValues {
     ) -> Result<(), AllocError>
         requires inside { IsNodeOf tree.now node }
         requires whole { length self.old.values ≡ node_count tree.now }
-        requires known { AreKnown tree.now self.old.values known.depends.now known.visible.now }
+        requires known { AreKnown tree.now self.old.values known.depends.now known.visible.now known.own.now }
         ensures value { OnOk result (self.new.values
             ≡ slice_set self.old.values (number_of tree.now node) (Some (rule tree.now user.now (assignment_of tree.now self.old.values) node))) }
         ensures counted { OnOk result (self.new.evals ≡ raised self.old.evals 1) }

@@ -2,7 +2,6 @@
 #![tactic(auto)]
 
 mod assignable_values;
-mod block_conditions;
 mod bounds;
 mod changed;
 mod choice_value;
@@ -23,6 +22,7 @@ mod marks;
 mod meter;
 mod numeral;
 mod resolver;
+mod shared_conditions;
 mod slots;
 mod symbol_value;
 mod text_value;
@@ -31,7 +31,6 @@ mod value;
 mod without;
 
 pub use assignable_values::{assignable, assignable_among};
-pub use block_conditions::BlockConditions;
 pub use changed::changed_value;
 pub use conditions::{comment_condition, menu_condition};
 pub use evaluation::eval;
@@ -41,6 +40,7 @@ pub use gathering::all_values;
 pub use kept_values::KeptValues;
 pub use meter::Meter;
 pub use resolver::Resolver;
+pub use shared_conditions::SharedConditions;
 pub use user::User;
 pub use value::{Value, tri_letter};
 pub use without::without_user;

@@ -13,7 +13,7 @@ ghost use Rattle.kc_value.specs.Defaults.{is_active};
 ghost use Rattle.kc_value.specs.Rule.{in_bool, has_modules, in_type, visibility, definition_default, reverse_value, reverse_values, direct, user_part, tri_rule, symbol_rule};
 
 use crate::choice_value::member_value;
-use crate::conditions::{dependency_tri, mode_tri, prompt_tri};
+use crate::conditions::{dependency_tri, mode_tri, prompt_tri, shared_dependency_tri};
 use crate::expr_value::{modules_tri, own_condition_tri, symbol_tri, tri};
 use crate::known_conditions::KnownConditions;
 use crate::text_value::text_value;
@@ -60,7 +60,7 @@ fn numbered_prompt_tri(
     known: KnownConditions<'_>,
     env: &[Option<Value>],
 ) -> Tri
-    requires known { AreRight tree.now env.now known.depends.now known.visible.now }
+    requires known { AreRight tree.now env.now known.depends.now known.visible.now known.own.now }
     ensures { result
         ≡ option_map_or (prompt_value tree.now (assignment_of tree.now env.now)) (slice_get tree.now.definitions number) No }
 {
@@ -78,7 +78,7 @@ pub(crate) fn symbol_visibility(
     known: KnownConditions<'_>,
     env: &[Option<Value>],
 ) -> Tri
-    requires known { AreRight tree.now env.now known.depends.now known.visible.now }
+    requires known { AreRight tree.now env.now known.depends.now known.visible.now known.own.now }
     ensures { result ≡ visibility tree.now (assignment_of tree.now env.now) symbol.now }
 {
     let mut greatest = Tri::No;
@@ -159,7 +159,7 @@ fn with_definition(
     known: KnownConditions<'_>,
     env: &[Option<Value>],
 ) -> Defined
-    requires known { AreRight tree.now env.now known.depends.now known.visible.now }
+    requires known { AreRight tree.now env.now known.depends.now known.visible.now known.own.now }
     ensures default { result.default ≡ option_or defined.default
         (option_and_then (definition_default tree.now (assignment_of tree.now env.now))
         (slice_get tree.now.definitions number)) }
@@ -187,7 +187,7 @@ fn definitions_of(
     known: KnownConditions<'_>,
     env: &[Option<Value>],
 ) -> Defined
-    requires known { AreRight tree.now env.now known.depends.now known.visible.now }
+    requires known { AreRight tree.now env.now known.depends.now known.visible.now known.own.now }
     ensures default { result.default
         ≡ slice_get
         (filter_map (definition_default tree.now (assignment_of tree.now env.now)) (definitions_of tree.now symbol.now)) 0 }
@@ -203,23 +203,6 @@ fn definitions_of(
     defined
 }
 
-/// The dependencies of a definition by number, n where there is none.
-fn numbered_dependency_tri(
-    tree: &Tree,
-    number: usize,
-    known: KnownConditions<'_>,
-    env: &[Option<Value>],
-) -> Tri
-    requires known { AreRight tree.now env.now known.depends.now known.visible.now }
-    ensures { result
-        ≡ option_map_or (dependency tree.now (assignment_of tree.now env.now)) (slice_get tree.now.definitions number) No }
-{
-    match tree.definitions().get(number) {
-        Some(definition) => dependency_tri(tree, definition, known, env),
-        None => Tri::No,
-    }
-}
-
 /// What a `select` or `imply` gives: the least of the value of its symbol and its condition.
 fn reverse_tri(
     tree: &Tree,
@@ -227,7 +210,7 @@ fn reverse_tri(
     known: KnownConditions<'_>,
     env: &[Option<Value>],
 ) -> Tri
-    requires known { AreRight tree.now env.now known.depends.now known.visible.now }
+    requires known { AreRight tree.now env.now known.depends.now known.visible.now known.own.now }
     ensures { result ≡ reverse_value tree.now (assignment_of tree.now env.now) reverse.now }
 {
     let value = symbol_tri(tree, env, reverse.by);
@@ -235,7 +218,7 @@ fn reverse_tri(
         return Tri::No;
     }
     let own = own_condition_tri(tree, reverse.condition.as_ref(), env);
-    value.and(own.and(numbered_dependency_tri(tree, reverse.definition, known, env)))
+    value.and(own.and(shared_dependency_tri(tree, reverse.definition, known, env)))
 }
 
 /// The greatest that some `select` or `imply` lines give.
@@ -245,11 +228,14 @@ fn reverses_tri(
     known: KnownConditions<'_>,
     env: &[Option<Value>],
 ) -> Tri
-    requires known { AreRight tree.now env.now known.depends.now known.visible.now }
+    requires known { AreRight tree.now env.now known.depends.now known.visible.now known.own.now }
     ensures { result ≡ reverse_values tree.now (assignment_of tree.now env.now) reverses.now }
 {
     let mut greatest = Tri::No;
     for reverse in reverses {
+        if matches!(greatest, Tri::Yes) {
+            return Tri::Yes;
+        }
         greatest = greatest.or(reverse_tri(tree, reverse, known, env));
     }
     greatest
@@ -277,7 +263,7 @@ pub(crate) fn tri_value(
     known: KnownConditions<'_>,
     env: &[Option<Value>],
 ) -> Value
-    requires known { AreRight tree.now env.now known.depends.now known.visible.now }
+    requires known { AreRight tree.now env.now known.depends.now known.visible.now known.own.now }
     ensures { result ≡ tri_rule tree.now (assignment_of tree.now env.now) symbol.now visibility (option_copied user.entry) }
 {
     let defined = definitions_of(tree, symbol, known, env);
@@ -306,7 +292,7 @@ pub(crate) fn symbol_value(
     known: KnownConditions<'_>,
     env: &[Option<Value>],
 ) -> Result<Value, AllocError>
-    requires known { AreRight tree.now env.now known.depends.now known.visible.now }
+    requires known { AreRight tree.now env.now known.depends.now known.visible.now known.own.now }
     ensures { IfOk result (λ v. v
         ≡ symbol_rule tree.now (assignment_of tree.now env.now) id symbol.now visibility (option_copied user.entry)) }
 {

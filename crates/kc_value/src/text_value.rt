@@ -40,7 +40,7 @@ fn definition_text<'a>(
     known: KnownConditions<'_>,
     env: &'a [Option<Value>],
 ) -> Option<&'a str>
-    requires known { AreRight tree.now env.now known.depends.now known.visible.now }
+    requires known { AreRight tree.now env.now known.depends.now known.visible.now known.own.now }
     ensures { option_map (λ w. w.now) result ≡ definition_text tree.now (assignment_of tree.now env.now) definition.now }
 {
     let depends = dependency_tri(tree, definition, known, env);
@@ -55,7 +55,7 @@ fn numbered_text<'a>(
     known: KnownConditions<'_>,
     env: &'a [Option<Value>],
 ) -> Option<&'a str>
-    requires known { AreRight tree.now env.now known.depends.now known.visible.now }
+    requires known { AreRight tree.now env.now known.depends.now known.visible.now known.own.now }
     ensures { option_map (λ w. w.now) result ≡ option_map_or (definition_text tree.now (assignment_of tree.now env.now)) (slice_get tree.now.definitions number) None }
 {
     match tree.definitions().get(number) {
@@ -71,7 +71,7 @@ fn default_text<'a>(
     known: KnownConditions<'_>,
     env: &'a [Option<Value>],
 ) -> Option<&'a str>
-    requires known { AreRight tree.now env.now known.depends.now known.visible.now }
+    requires known { AreRight tree.now env.now known.depends.now known.visible.now known.own.now }
     ensures { option_map (λ w. w.now) result ≡ default_text tree.now (assignment_of tree.now env.now) symbol.now }
 {
     for number in symbol.definitions() {
@@ -128,7 +128,7 @@ fn numbered_bounds(
     known: KnownConditions<'_>,
     env: &[Option<Value>],
 ) -> Option<Bounds>
-    requires known { AreRight tree.now env.now known.depends.now known.visible.now }
+    requires known { AreRight tree.now env.now known.depends.now known.visible.now known.own.now }
     ensures bounds { result ≡ option_map_or (definition_bounds tree.now (assignment_of tree.now env.now) kind) (slice_get tree.now.definitions number) None }
     ensures small { AreSmall kind result }
 {
@@ -145,7 +145,7 @@ fn bounds_of(
     known: KnownConditions<'_>,
     env: &[Option<Value>],
 ) -> Option<Bounds>
-    requires known { AreRight tree.now env.now known.depends.now known.visible.now }
+    requires known { AreRight tree.now env.now known.depends.now known.visible.now known.own.now }
     ensures bounds { result ≡ bounds_of tree.now (assignment_of tree.now env.now) symbol.now }
     ensures small { AreSmall (kind_of symbol.now) result }
 {
@@ -195,7 +195,7 @@ pub(crate) fn text_value(
     known: KnownConditions<'_>,
     env: &[Option<Value>],
 ) -> Result<Value, AllocError>
-    requires known { AreRight tree.now env.now known.depends.now known.visible.now }
+    requires known { AreRight tree.now env.now known.depends.now known.visible.now known.own.now }
     ensures { IfOk result (λ v. v
         ≡ text_rule tree.now (assignment_of tree.now env.now) symbol.now visibility (option_copied user.entry)) }
 {

@@ -43,7 +43,7 @@ pub(crate) fn value_alone(
     known: KnownConditions<'_>,
     env: &[Option<Value>],
 ) -> Result<Value, AllocError>
-    requires known { AreRight tree.now env.now known.depends.now known.visible.now }
+    requires known { AreRight tree.now env.now known.depends.now known.visible.now known.own.now }
     ensures { (u : UserValues) → IfOk result (λ v. v
         ≡ rule tree.now (user_without u (Val symbol)) (assignment_of tree.now env.now) (Val symbol)) }
 {

@@ -7,9 +7,9 @@ ghost use Rattle.kc_tree.specs.declared.node.Node.{Node};
 ghost use Rattle.kc_tree.specs.declared.node.Node.TheVariants.{Vis};
 ghost use Rattle.kc_outline.specs.TreeValue.{TreeValue};
 ghost use Rattle.kc_tree.specs.Nodes.{node_count};
-ghost use Rattle.kc_tree.specs.SharedLists.{Takes, Means, AreShared, IsRowAdded};
+ghost use Rattle.kc_tree.specs.SharedLists.{Takes, Means, AreMeant, AreOfNodes, Grows, IsShortened};
 ghost use Rattle.kc_tree.specs.Uses.{conditions_nodes, definition_nodes, prompt_nodes, reverse_nodes, type_nodes, visibility_nodes, free_value_nodes, symbol_value_nodes, mode_nodes, selection_nodes, choice_prompt_nodes, choice_value_nodes};
-ghost use Rattle.kc_tree.specs.Collected.{Adds, HaveSame, HasNodes, Holds, own_lists, depends_lists, visible_lists, dependency_at, depends_at, visible_at, block_numbers_at, defaults_at, ranges_at, prompt_own_at, prompted_at};
+ghost use Rattle.kc_tree.specs.Collected.{Adds, HaveSame, own_lists, depends_lists, visible_lists, dependency_at, depends_at, visible_at, block_numbers_at, defaults_at, ranges_at, prompt_own_at, prompted_at};
 ghost use Rattle.kc_statement.specs.declared.limits.TheConstants.{MOST_SYMBOLS};
 
 use super::reader::Reader;
@@ -26,67 +26,123 @@ pub struct Collected<'a> {
     own: Rows,
     depends: Rows,
     visible: Rows,
-    /// How many nodes there are. From this number on, numbers stand for the lists that the rows of the blocks hold.
-    nodes: usize,
-    ghost own_is: { Holds (length reader.outline.now.symbols) (own_lists reader.outline.now) own },
-    ghost depends_is: { Holds (length reader.outline.now.symbols) (depends_lists reader.outline.now) depends },
-    ghost visible_is: { Holds (length reader.outline.now.symbols) (visible_lists reader.outline.now) visible },
-    ghost nodes_is: { nodes ≡ node_count reader.outline.now },
+    /// The long ones of these rows, each of which a number from the count of nodes on stands for.
+    pub shared: Rows,
+    ghost own_is: { AreMeant reader.outline.now shared (own_lists reader.outline.now) own },
+    ghost depends_is: { AreMeant reader.outline.now shared (depends_lists reader.outline.now) depends },
+    ghost visible_is: { AreMeant reader.outline.now shared (visible_lists reader.outline.now) visible },
+    ghost shared_is: { AreOfNodes reader.outline.now shared },
 }
 
 /// A row with more numbers than this is shared by the rows of nodes; others are copied.
 const LONGEST_COPIED: usize = 8;
 
+/// Puts a long row behind the shared ones, and the number that stands for it in its place, in a tree of so many nodes. A
+/// row that is not long stays.
+fn shorten(nodes: usize, shared: &mut Rows, row: &mut Vec<u32>) -> Result<(), AllocError>
+    requires { nodes ≤ 2 ^ 33 }
+    ensures { OnOk result (IsShortened nodes shared.old shared.new row.old.items row.new.items) }
+{
+    if row.len() <= LONGEST_COPIED {
+        return Ok(());
+    }
+    let Ok(standing) = u32::try_from(nodes + shared.len()) else {
+        return Ok(());
+    };
+    shared.add_row(row.as_slice())?;
+    row.clear();
+    row.push(standing)?;
+    Ok(())
+}
+
 /// Adds a row of what conditions read, each node once.
 fn collect_row(
     reader: &Reader<'_>,
+    nodes: usize,
+    shared: &mut Rows,
     row: &mut Vec<u32>,
     rows: &mut Rows,
     conditions: &[Expr],
 ) -> Result<(), AllocError>
-    ensures { OnOk result ((lists : List (List Node)) → Holds (length reader.now.outline.now.symbols) lists rows.old → Holds (length reader.now.outline.now.symbols) (lists ++ conditions_nodes reader.now.outline.now conditions.now ∷ []) rows.new) }
+    requires nodes { nodes ≡ node_count reader.now.outline.now }
+    requires few { nodes ≤ 2 ^ 33 }
+    ensures collected { OnOk result ((lists : List (List Node)) → AreMeant reader.now.outline.now shared.old lists rows.old
+        → AreMeant reader.now.outline.now shared.new (lists ++ conditions_nodes reader.now.outline.now conditions.now ∷ []) rows.new) }
+    ensures grows { OnOk result (Grows reader.now.outline.now shared.old shared.new) }
 {
     row.clear();
     reader.add_conditions(row, conditions)?;
     each_once(row);
+    shorten(nodes, shared, row)?;
     rows.add_row(row.as_slice())
 }
 
 /// What the own lines of each definition read.
-fn own_rows(alloc: Global, reader: &Reader<'_>) -> Result<Rows, AllocError>
-    ensures { IfOk result (λ rows. Holds (length reader.now.outline.now.symbols) (own_lists reader.now.outline.now) rows) }
+fn own_rows(
+    alloc: Global,
+    reader: &Reader<'_>,
+    nodes: usize,
+    shared: &mut Rows,
+) -> Result<Rows, AllocError>
+    requires nodes { nodes ≡ node_count reader.now.outline.now }
+    requires few { nodes ≤ 2 ^ 33 }
+    ensures rows { IfOk result (λ rows. AreMeant reader.now.outline.now shared.new (own_lists reader.now.outline.now) rows) }
+    ensures grows { IfOk result (λ _. Grows reader.now.outline.now shared.old shared.new) }
 {
     let outline = reader.outline;
     let mut rows = Rows::with_capacity(alloc, outline.definitions().len())?;
     let mut row = Vec::new(alloc);
     for definition in outline.definitions() {
-        collect_row(reader, &mut row, &mut rows, definition.depends())?;
+        collect_row(
+            reader,
+            nodes,
+            shared,
+            &mut row,
+            &mut rows,
+            definition.depends(),
+        )?;
     }
     Ok(rows)
 }
 
 /// What the lines of each block read that all inside depends on.
-fn depends_rows(alloc: Global, reader: &Reader<'_>) -> Result<Rows, AllocError>
-    ensures { IfOk result (λ rows. Holds (length reader.now.outline.now.symbols) (depends_lists reader.now.outline.now) rows) }
+fn depends_rows(
+    alloc: Global,
+    reader: &Reader<'_>,
+    nodes: usize,
+    shared: &mut Rows,
+) -> Result<Rows, AllocError>
+    requires nodes { nodes ≡ node_count reader.now.outline.now }
+    requires few { nodes ≤ 2 ^ 33 }
+    ensures rows { IfOk result (λ rows. AreMeant reader.now.outline.now shared.new (depends_lists reader.now.outline.now) rows) }
+    ensures grows { IfOk result (λ _. Grows reader.now.outline.now shared.old shared.new) }
 {
     let outline = reader.outline;
     let mut rows = Rows::with_capacity(alloc, outline.blocks().len())?;
     let mut row = Vec::new(alloc);
     for block in outline.blocks() {
-        collect_row(reader, &mut row, &mut rows, block.depends())?;
+        collect_row(reader, nodes, shared, &mut row, &mut rows, block.depends())?;
     }
     Ok(rows)
 }
 
 /// What the `visible if` lines of each block read.
-fn visible_rows(alloc: Global, reader: &Reader<'_>) -> Result<Rows, AllocError>
-    ensures { IfOk result (λ rows. Holds (length reader.now.outline.now.symbols) (visible_lists reader.now.outline.now) rows) }
+fn visible_rows(
+    alloc: Global,
+    reader: &Reader<'_>,
+    nodes: usize,
+    shared: &mut Rows,
+) -> Result<Rows, AllocError>
+    requires nodes { nodes ≡ node_count reader.now.outline.now }
+    requires few { nodes ≤ 2 ^ 33 }
+    ensures rows { IfOk result (λ rows. AreMeant reader.now.outline.now shared.new (visible_lists reader.now.outline.now) rows) }
+    ensures grows { IfOk result (λ _. Grows reader.now.outline.now shared.old shared.new) }
 {
     let outline = reader.outline;
     let mut rows = Rows::with_capacity(alloc, outline.blocks().len())?;
     let mut row = Vec::new(alloc);
     for block in outline.blocks() {
-        collect_row(reader, &mut row, &mut rows, block.visible())?;
+        collect_row(reader, nodes, shared, &mut row, &mut rows, block.visible())?;
     }
     Ok(rows)
 }
@@ -113,54 +169,6 @@ fn add_rows(row: &mut Vec<u32>, rows: &Rows, numbers: &[usize]) -> Result<(), Al
     add_each_row(row, rows, numbers)
 }
 
-/// The number that stands for a row of a table, where the row is long. Those of the table begin at `first`.
-fn standing_for(rows: &Rows, first: usize, number: usize) -> Option<u32>
-    requires { first ≤ 2 ^ 33 }
-    ensures { IfSome result (λ standing. (number < length rows.now) × (standing ≡ first + number)) }
-{
-    if number >= rows.len() || rows.row(number).len() <= LONGEST_COPIED {
-        return None;
-    }
-    match u32::try_from(first + number) {
-        Ok(standing) => Some(standing),
-        Err(_) => None,
-    }
-}
-
-/// Adds a row of a table, by number: the number that stands for it where it is long, else the numbers that it holds.
-fn add_block_row(
-    row: &mut Vec<u32>,
-    rows: &Rows,
-    first: usize,
-    number: usize,
-) -> Result<(), AllocError>
-    requires { first ≤ 2 ^ 33 }
-    ensures { OnOk result (IsRowAdded first rows.now number row.old.items row.new.items) }
-{
-    match standing_for(rows, first, number) {
-        Some(standing) => row.push(standing)?,
-        None => row.extend_from_slice(rows.row(number))?,
-    }
-    Ok(())
-}
-
-/// Adds some rows of a table, by number. Often there are none.
-fn add_block_rows(
-    row: &mut Vec<u32>,
-    rows: &Rows,
-    first: usize,
-    numbers: &[usize],
-) -> Result<(), AllocError>
-    requires { first ≤ 2 ^ 33 }
-    ensures { OnOk result ((t : TreeValue) (lists : List (List Node)) → AreShared t first lists rows.now
-        → Takes t row.old.items row.new.items (flat_map (λ b. slice_index_or lists b []) numbers.now)) }
-{
-    for number in numbers {
-        add_block_row(row, rows, first, *number)?;
-    }
-    Ok(())
-}
-
 /// Adds the rows of a table behind others.
 fn append_rows(rows: &mut Rows, added: &Rows) -> Result<(), AllocError>
     ensures { OnOk result (rows.new ≡ rows.old ++ added.now) }
@@ -180,47 +188,46 @@ impl<'a> Collected<'a> {
         ensures { IfOk result (λ collected. collected.reader.outline ≡ outline.entry) }
     {
         let reader = Reader::new(outline);
-        let own = own_rows(alloc, &reader)?;
-        let depends = depends_rows(alloc, &reader)?;
-        let visible = visible_rows(alloc, &reader)?;
+        let nodes = 2 * (outline.symbols().len() + outline.choices().len());
+        let mut shared = Rows::with_capacity(alloc, 0)?;
+        let own = own_rows(alloc, &reader, nodes, &mut shared)?;
+        let depends = depends_rows(alloc, &reader, nodes, &mut shared)?;
+        let visible = visible_rows(alloc, &reader, nodes, &mut shared)?;
         Ok(Collected {
             reader,
             own,
             depends,
             visible,
-            nodes: 2 * (outline.symbols().len() + outline.choices().len()),
+            shared,
         })
     }
 
     /// Adds what the `depends on` lines of some blocks read.
     fn add_depends(&self, row: &mut Vec<u32>, blocks: &[usize]) -> Result<(), AllocError>
-        ensures { OnOk result (Takes self.now.reader.outline.now row.old.items row.new.items
+        ensures { OnOk result (Takes self.now.reader.outline.now self.now.shared row.old.items row.new.items
             (flat_map (λ b. slice_index_or (depends_lists self.now.reader.outline.now) b []) blocks.now)) }
     {
-        add_block_rows(row, &self.depends, self.nodes, blocks)
+        add_rows(row, &self.depends, blocks)
     }
 
     /// Adds what the `visible if` lines of some blocks read.
     fn add_visible(&self, row: &mut Vec<u32>, blocks: &[usize]) -> Result<(), AllocError>
-        ensures { OnOk result (Takes self.now.reader.outline.now row.old.items row.new.items
+        ensures { OnOk result (Takes self.now.reader.outline.now self.now.shared row.old.items row.new.items
             (flat_map (λ b. slice_index_or (visible_lists self.now.reader.outline.now) b []) blocks.now)) }
     {
-        let first = self.nodes + self.depends.len();
-        add_block_rows(row, &self.visible, first, blocks)
+        add_rows(row, &self.visible, blocks)
     }
 
     /// Adds the rows that others share, behind those of all nodes.
     pub fn add_shared_rows(&self, rows: &mut Rows) -> Result<(), AllocError>
-        ensures { OnOk result ((depends visible : List (List ℕ)) × Holds (length self.now.reader.outline.now.symbols) (depends_lists self.now.reader.outline.now) depends
-            × Holds (length self.now.reader.outline.now.symbols) (visible_lists self.now.reader.outline.now) visible × (rows.new ≡ (rows.old ++ depends) ++ visible)) }
+        ensures { OnOk result (rows.new ≡ rows.old ++ self.now.shared) }
     {
-        append_rows(rows, &self.depends)?;
-        append_rows(rows, &self.visible)
+        append_rows(rows, &self.shared)
     }
 
     /// Adds what the definitions depend on, and finds the blocks around them.
     fn add_dependencies(&self, row: &mut Vec<u32>, scratch: &mut Scratch) -> Result<(), AllocError>
-        ensures added { OnOk result (Takes self.now.reader.outline.now row.old.items row.new.items (flat_map (dependency_at self.now.reader.outline.now) scratch.old.definitions.items)) }
+        ensures added { OnOk result (Takes self.now.reader.outline.now self.now.shared row.old.items row.new.items (flat_map (dependency_at self.now.reader.outline.now) scratch.old.definitions.items)) }
         ensures blocks { OnOk result (HaveSame scratch.new.blocks.items (flat_map (block_numbers_at self.now.reader.outline.now) scratch.old.definitions.items)) }
     {
         without_repeats(&mut scratch.definitions);
@@ -278,7 +285,7 @@ impl<'a> Collected<'a> {
         scratch: &mut Scratch,
         definitions: &[usize],
     ) -> Result<(), AllocError>
-        ensures { OnOk result (Takes self.now.reader.outline.now row.old.items row.new.items (flat_map (definition_nodes self.now.reader.outline.now) (filter_map (slice_get self.now.reader.outline.now.definitions) definitions.now))) }
+        ensures { OnOk result (Takes self.now.reader.outline.now self.now.shared row.old.items row.new.items (flat_map (definition_nodes self.now.reader.outline.now) (filter_map (slice_get self.now.reader.outline.now.definitions) definitions.now))) }
     {
         self.add_all_defaults(row, definitions)?;
         self.add_all_ranges(row, definitions)?;
@@ -294,7 +301,7 @@ impl<'a> Collected<'a> {
         scratch: &mut Scratch,
         reverses: &[Reverse],
     ) -> Result<(), AllocError>
-        ensures { OnOk result (Takes self.now.reader.outline.now row.old.items row.new.items (flat_map (reverse_nodes self.now.reader.outline.now) reverses.now)) }
+        ensures { OnOk result (Takes self.now.reader.outline.now self.now.shared row.old.items row.new.items (flat_map (reverse_nodes self.now.reader.outline.now) reverses.now)) }
     {
         self.reader.add_sources(row, reverses)?;
         scratch.set_reverses(reverses)?;
@@ -309,7 +316,7 @@ impl<'a> Collected<'a> {
         scratch: &mut Scratch,
         reverses: &[Reverse],
     ) -> Result<(), AllocError>
-        ensures { OnOk result (Takes self.now.reader.outline.now row.old.items row.new.items (flat_map (reverse_nodes self.now.reader.outline.now) reverses.now)) }
+        ensures { OnOk result (Takes self.now.reader.outline.now self.now.shared row.old.items row.new.items (flat_map (reverse_nodes self.now.reader.outline.now) reverses.now)) }
     {
         if reverses.is_empty() {
             return Ok(());
@@ -362,7 +369,7 @@ impl<'a> Collected<'a> {
         scratch: &mut Scratch,
         definitions: &[usize],
     ) -> Result<(), AllocError>
-        ensures { OnOk result (Takes self.now.reader.outline.now row.old.items row.new.items (flat_map (prompt_nodes self.now.reader.outline.now) (filter_map (slice_get self.now.reader.outline.now.definitions) definitions.now))) }
+        ensures { OnOk result (Takes self.now.reader.outline.now self.now.shared row.old.items row.new.items (flat_map (prompt_nodes self.now.reader.outline.now) (filter_map (slice_get self.now.reader.outline.now.definitions) definitions.now))) }
     {
         scratch.definitions.clear();
         self.add_all_prompts(row, &mut scratch.definitions, definitions)?;
@@ -398,7 +405,7 @@ impl<'a> Collected<'a> {
         scratch: &mut Scratch,
         symbol: &Symbol,
     ) -> Result<(), AllocError>
-        ensures { OnOk result (Means self.now.reader.outline.now (visibility_nodes self.now.reader.outline.now symbol.now) row.new.items) }
+        ensures { OnOk result (Means self.now.reader.outline.now self.now.shared (visibility_nodes self.now.reader.outline.now symbol.now) row.new.items) }
     {
         row.clear();
         self.add_prompts(row, scratch, symbol.definitions())?;
@@ -417,7 +424,7 @@ impl<'a> Collected<'a> {
         symbol: &Symbol,
     ) -> Result<(), AllocError>
         requires { id.0 < length self.now.reader.outline.now.symbols }
-        ensures { OnOk result (Means self.now.reader.outline.now (symbol_value_nodes self.now.reader.outline.now id symbol.now) row.new.items) }
+        ensures { OnOk result (Means self.now.reader.outline.now self.now.shared (symbol_value_nodes self.now.reader.outline.now id symbol.now) row.new.items) }
     {
         match symbol.choice() {
             Some(choice) => self.member_value_row(row, id, choice),
@@ -433,7 +440,7 @@ impl<'a> Collected<'a> {
         choice: ChoiceId,
     ) -> Result<(), AllocError>
         requires { id.0 < length self.now.reader.outline.now.symbols }
-        ensures { OnOk result (Means self.now.reader.outline.now (Vis id ∷ selection_nodes self.now.reader.outline.now choice) row.new.items) }
+        ensures { OnOk result (Means self.now.reader.outline.now self.now.shared (Vis id ∷ selection_nodes self.now.reader.outline.now choice) row.new.items) }
     {
         row.clear();
         self.reader.add_visibility(row, id)?;
@@ -451,7 +458,7 @@ impl<'a> Collected<'a> {
         symbol: &Symbol,
     ) -> Result<(), AllocError>
         requires { id.0 < length self.now.reader.outline.now.symbols }
-        ensures { OnOk result (Means self.now.reader.outline.now (free_value_nodes self.now.reader.outline.now id symbol.now) row.new.items) }
+        ensures { OnOk result (Means self.now.reader.outline.now self.now.shared (free_value_nodes self.now.reader.outline.now id symbol.now) row.new.items) }
     {
         row.clear();
         self.reader.add_visibility(row, id)?;
@@ -467,7 +474,7 @@ impl<'a> Collected<'a> {
         scratch: &mut Scratch,
         symbol: &Symbol,
     ) -> Result<(), AllocError>
-        ensures { OnOk result (Takes self.now.reader.outline.now row.old.items row.new.items
+        ensures { OnOk result (Takes self.now.reader.outline.now self.now.shared row.old.items row.new.items
             (flat_map (definition_nodes self.now.reader.outline.now) (definitions_of self.now.reader.outline.now symbol.now)
             ++ (flat_map (reverse_nodes self.now.reader.outline.now) symbol.now.selected
             ++ (flat_map (reverse_nodes self.now.reader.outline.now) symbol.now.implied
@@ -486,7 +493,7 @@ impl<'a> Collected<'a> {
         scratch: &mut Scratch,
         choice: &Choice,
     ) -> Result<(), AllocError>
-        ensures { OnOk result (Means self.now.reader.outline.now (choice_prompt_nodes self.now.reader.outline.now choice.now) row.new.items) }
+        ensures { OnOk result (Means self.now.reader.outline.now self.now.shared (choice_prompt_nodes self.now.reader.outline.now choice.now) row.new.items) }
     {
         row.clear();
         let Some(own_prompt) = choice.prompt() else {
@@ -508,7 +515,7 @@ impl<'a> Collected<'a> {
         id: ChoiceId,
         choice: &Choice,
     ) -> Result<(), AllocError>
-        ensures { OnOk result (Means self.now.reader.outline.now (choice_value_nodes self.now.reader.outline.now id choice.now) row.new.items) }
+        ensures { OnOk result (Means self.now.reader.outline.now self.now.shared (choice_value_nodes self.now.reader.outline.now id choice.now) row.new.items) }
     {
         row.clear();
         self.reader.add_mode(row, id)?;

@@ -1,7 +1,5 @@
 use Rattle.kc_outline.specs.TreeValue.{TreeValue}
 use Rattle.kc_tree.specs.declared.tree.Tree.TheInside.{Inside}
-use Rattle.kc_tree.specs.Accepted.{IsAccepted}
-use Rattle.kc_tree.specs.Inside.{IsWellMade}
 use Rattle.kc_tree.proofs.LinkLaws.{IsSoundOutline, accepted, well_made}
 use Rattle.kc_tree.proofs.link.link.Goals as goal
 

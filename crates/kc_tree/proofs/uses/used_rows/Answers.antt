@@ -1,6 +1,5 @@
-use Rattle.std.proofs.Common.{◌≡◌, ℕ, ◌+◌, ◌*◌, List, length, sym, ap, subst, arith}
+use Rattle.std.proofs.Common.{◌≡◌, ℕ, List, length, sym, ap, subst, arith}
 use Rattle.kc_outline.specs.TreeValue.{SymbolValue, ChoiceValue}
-use Rattle.kc_tree.specs.Nodes.{node_count}
 use Rattle.kc_tree.specs.NodeGraph.{IsGraphOf}
 use Rattle.kc_tree.proofs.UsedRowLaws.{table_made}
 use Rattle.kc_tree.proofs.uses.used_rows.Goals as goal
@@ -12,7 +11,7 @@ of-requires c =
     let same : u ≡ t = ap (λ r. r.now) c.in_ok-collected.ensures in
     let symbols : length c.symbols.result.now ≡ length u.symbols = omega (arith, ap (λ (xs : List SymbolValue). length xs) c.symbols.ensures, ap (λ x. length x.symbols) same) in
     let choices : length c.choices.result.now ≡ length u.choices = omega (arith, ap (λ (xs : List ChoiceValue). length xs) c.choices.ensures, ap (λ x. length x.choices) same) in
-    (table_made t u _ c.add_choices.new.rows c.add_shared_rows.new.rows same (omega (arith, symbols, choices)) c.in_ok-add_choices.ensures c.in_ok-add_shared_rows.ensures).0
+    (table_made t u _ c.add_choices.new.rows c.in_ok-collected.collected.shared c.add_shared_rows.new.rows same (omega (arith, symbols, choices)) c.in_ok-add_choices.ensures c.in_ok-collected.collected.shared_is c.in_ok-add_shared_rows.ensures).0
 
 pub returns : goal.returns
 returns c =
@@ -23,4 +22,4 @@ returns c =
     let choices : length c.choices.result.now ≡ length u.choices = omega (arith, ap (λ (xs : List ChoiceValue). length xs) c.choices.ensures, ap (λ x. length x.choices) same) in
     let P : List (List ℕ) → Type 0 = λ rows. IsGraphOf t rows in
     subst P (sym c.of.ensures)
-    (table_made t u _ c.add_choices.new.rows c.add_shared_rows.new.rows same (omega (arith, symbols, choices)) c.in_ok-add_choices.ensures c.in_ok-add_shared_rows.ensures).1
+    (table_made t u _ c.add_choices.new.rows c.in_ok-collected.collected.shared c.add_shared_rows.new.rows same (omega (arith, symbols, choices)) c.in_ok-add_choices.ensures c.in_ok-collected.collected.shared_is c.in_ok-add_shared_rows.ensures).1

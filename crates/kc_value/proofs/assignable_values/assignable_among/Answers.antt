@@ -18,7 +18,7 @@ returns-then-is_no-clause-solved c u sized solved =
     let t = c.args.tree.now in
     let s = c.args.symbol in
     let seen : is_no (as_tri (solution t u (Vis s))) ≡ true =
-    sym (ap (λ v. is_no (as_tri v)) (solved (Vis s) c.requires)) ∙ sym (ap is_no c.node_tri.ensures) ∙ sym c.is_no.ensures ∙ c.if-is_no.true
+    sym (ap (λ v. is_no (as_tri v)) (solved (Vis s) c.requires.inside)) ∙ sym (ap is_no c.node_tri.ensures) ∙ sym c.is_no.ensures ∙ c.if-is_no.true
     in
     no_values t u s _ c.new.ensures.items seen
 
@@ -28,7 +28,7 @@ returns-then-is_member-clause-solved c u sized solved =
     let t = c.args.tree.now in
     let s = c.args.symbol in
     let seen : is_no (as_tri (solution t u (Vis s))) ≡ false =
-    sym (ap (λ v. is_no (as_tri v)) (solved (Vis s) c.requires)) ∙ sym (ap is_no c.node_tri.ensures) ∙ sym c.is_no.ensures ∙ c.if-is_no.false
+    sym (ap (λ v. is_no (as_tri v)) (solved (Vis s) c.requires.inside)) ∙ sym (ap is_no c.node_tri.ensures) ∙ sym c.is_no.ensures ∙ c.if-is_no.false
     in
     let member : is_some (choice_of t s) ≡ true = sym c.is_member.ensures.member ∙ c.if-is_member.true in
     IfOk-weaker c.one_value.result (λ v. v.items ≡ Yes ∷ []) (λ v. v.items ≡ assignable_values t u s) (λ v is. member_values t u s v.items is seen member) c.one_value.ensures
@@ -39,13 +39,13 @@ returns-clause-solved c u sized solved =
     let t = c.args.tree.now in
     let s = c.args.symbol in
     let seen : is_no (as_tri (solution t u (Vis s))) ≡ false =
-    sym (ap (λ v. is_no (as_tri v)) (solved (Vis s) c.requires)) ∙ sym (ap is_no c.node_tri.ensures) ∙ sym c.is_no.ensures ∙ c.if-is_no.false
+    sym (ap (λ v. is_no (as_tri v)) (solved (Vis s) c.requires.inside)) ∙ sym (ap is_no c.node_tri.ensures) ∙ sym c.is_no.ensures ∙ c.if-is_no.false
     in
     let alone : is_some (choice_of t s) ≡ false = sym c.is_member.ensures.member ∙ c.if-is_member.false in
     IfOk-weaker c.shown_values.result
     (λ v. v.items ≡ filter (is_shown_with_some t u (assignment_of t c.args.values.now) s) (No ∷ Module ∷ Yes ∷ []))
     (λ v. v.items ≡ assignable_values t u s)
-    (λ v is. solved_values t u s c.args.values.now v.items c.is_member.ensures.accepted c.requires solved is seen alone)
+    (λ v is. solved_values t u s c.args.values.now v.items c.is_member.ensures.accepted c.requires.inside solved is seen alone)
     (c.shown_values.ensures u sized)
 
 pub returns-then-is_no-clause-used : goal.returns-then-is_no-clause-used
@@ -54,7 +54,7 @@ returns-then-is_no-clause-used c u sized right =
     let t = c.args.tree.now in
     let s = c.args.symbol in
     let seen : is_no (as_tri (solution t u (Vis s))) ≡ true =
-    sym (ap (λ v. is_no (as_tri v)) (right (Vis s) (visibility_used t s c.requires))) ∙ sym (ap is_no c.node_tri.ensures) ∙ sym c.is_no.ensures ∙ c.if-is_no.true
+    sym (ap (λ v. is_no (as_tri v)) (right (Vis s) (visibility_used t s c.requires.inside))) ∙ sym (ap is_no c.node_tri.ensures) ∙ sym c.is_no.ensures ∙ c.if-is_no.true
     in
     no_values t u s _ c.new.ensures.items seen
 
@@ -64,7 +64,7 @@ returns-then-is_member-clause-used c u sized right =
     let t = c.args.tree.now in
     let s = c.args.symbol in
     let seen : is_no (as_tri (solution t u (Vis s))) ≡ false =
-    sym (ap (λ v. is_no (as_tri v)) (right (Vis s) (visibility_used t s c.requires))) ∙ sym (ap is_no c.node_tri.ensures) ∙ sym c.is_no.ensures ∙ c.if-is_no.false
+    sym (ap (λ v. is_no (as_tri v)) (right (Vis s) (visibility_used t s c.requires.inside))) ∙ sym (ap is_no c.node_tri.ensures) ∙ sym c.is_no.ensures ∙ c.if-is_no.false
     in
     let member : is_some (choice_of t s) ≡ true = sym c.is_member.ensures.member ∙ c.if-is_member.true in
     IfOk-weaker c.one_value.result (λ v. v.items ≡ Yes ∷ []) (λ v. v.items ≡ assignable_values t u s) (λ v is. member_values t u s v.items is seen member) c.one_value.ensures
@@ -75,7 +75,7 @@ returns-clause-used c u sized right =
     let t = c.args.tree.now in
     let s = c.args.symbol in
     let seen : is_no (as_tri (solution t u (Vis s))) ≡ false =
-    sym (ap (λ v. is_no (as_tri v)) (right (Vis s) (visibility_used t s c.requires))) ∙ sym (ap is_no c.node_tri.ensures) ∙ sym c.is_no.ensures ∙ c.if-is_no.false
+    sym (ap (λ v. is_no (as_tri v)) (right (Vis s) (visibility_used t s c.requires.inside))) ∙ sym (ap is_no c.node_tri.ensures) ∙ sym c.is_no.ensures ∙ c.if-is_no.false
     in
     let alone : is_some (choice_of t s) ≡ false = sym c.is_member.ensures.member ∙ c.if-is_member.false in
     IfOk-weaker c.shown_values.result

@@ -1,4 +1,4 @@
-use Rattle.std.proofs.Common.{None, Some}
+use Rattle.std.proofs.Common.{None}
 use Rattle.kc_value.proofs.SlotLemmas.{filled_set}
 use Rattle.kc_value.proofs.kept_slots.KeptSlots.remove.Goals as goal
 

@@ -1,4 +1,4 @@
-use Rattle.std.proofs.Common.{sym, ap, subst, ◌∙◌}
+use Rattle.std.proofs.Common.{sym, subst}
 use Rattle.kc_value.specs.Assignment.{assignment_of}
 use Rattle.kc_value.specs.KnownConditions.{AreKnown}
 use Rattle.kc_value.specs.Rule.{rule}
@@ -10,6 +10,7 @@ find_for-requires-clause-known c =
     let t = c.args.tree.now in
     let old = c.args.self.now in
     let n = c.args.node in
-    subst (λ vs. AreKnown t vs c.args.found.now.depends.items c.args.found.now.visible.items) (sym (c.values.ensures))
-    (known_with_more t old.values c.evaluate.new.self.values n (rule t c.args.user.now (assignment_of t old.values) n) c.args.found.now.depends.items c.args.found.now.visible.items
-    c.requires.inside c.requires.whole c.requires.missing c.in_ok-evaluate.ensures.value c.requires.known)
+    let found = c.prepare.new.self in
+    subst (λ vs. AreKnown t vs found.depends.items found.visible.items found.own.items) (sym (c.values.ensures))
+    (known_with_more t old.values c.evaluate.new.self.values n (rule t c.args.user.now (assignment_of t old.values) n) found.depends.items found.visible.items found.own.items
+    c.requires.inside c.requires.whole c.requires.missing c.in_ok-evaluate.ensures.value (c.prepare.ensures t old.values c.requires.known))

@@ -1,10 +1,8 @@
-use Rattle.std.proofs.Common.{[], ◌∷◌, refl, sym, ap, subst, ◌∙◌, arith}
+use Rattle.std.proofs.Common.{[], ◌∷◌, refl, sym, subst, ◌∙◌, arith}
 use Rattle.kc_tree.specs.Reached.{here}
 use Rattle.kc_value.specs.Assignment.{assignment_of}
-use Rattle.kc_value.specs.Kept.{KeptValue, AreKept}
-use Rattle.kc_value.specs.KnownConditions.{AreKnown}
+use Rattle.kc_value.specs.Kept.{AreKept}
 use Rattle.kc_value.specs.Rule.{rule}
-use Rattle.kc_value.proofs.KnownLaws.{known_with_more}
 use Rattle.kc_value.proofs.FillSteps.{one_more_right, one_more_filled, nothing_added}
 use Rattle.kc_value.proofs.kept_values.KeptValues.fill_next.Goals as goal
 

@@ -1,4 +1,4 @@
-use Rattle.std.proofs.Common.{◌≡◌, ◌∷◌, [], subst, arith}
+use Rattle.std.proofs.Common.{◌∷◌, [], subst, arith}
 use Rattle.kc_tree.specs.declared.node.Node.{Node}
 use Rattle.kc_tree.specs.Nodes.{node_at}
 use Rattle.kc_value.specs.Kept.{Fills, IsKept}

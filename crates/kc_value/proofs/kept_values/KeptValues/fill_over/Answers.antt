@@ -2,7 +2,7 @@ use Rattle.std.proofs.Common.{◌≡◌, ◌<◌, ℕ, [], ◌∷◌, ◌++◌, 
 use Rattle.std.proofs.lemmas.List.{map-append}
 use Rattle.kc_graph.specs.Graph.{row}
 use Rattle.kc_tree.specs.declared.node.Node.{Node}
-use Rattle.kc_tree.specs.Nodes.{IsNodeOf, node_at, node_count, number_of}
+use Rattle.kc_tree.specs.Nodes.{IsNodeOf, node_count, number_of}
 use Rattle.kc_tree.specs.Uses.{Uses}
 use Rattle.kc_value.specs.declared.filling.Step.{Step}
 use Rattle.kc_value.specs.FillWalk.{HasValue, AreMarked, IsPassed, IsSettled}

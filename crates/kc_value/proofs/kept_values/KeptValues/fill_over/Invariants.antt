@@ -15,7 +15,7 @@ invariant-loop-step l = record {
   path : IsPath l.tree l.fn.node l.self.values (map (λ s. s.node) l.path.items);
   steps : AreSteps l.tree l.table l.self.values l.path.items;
   marked : AreMarked (node_count l.tree) l.table l.self.values l.marks.items;
-  known : AreKnown l.tree l.self.values l.found.depends.items l.found.visible.items;
+  known : AreKnown l.tree l.self.values l.found.depends.items l.found.visible.items l.found.own.items;
   accepted : IsAccepted l.tree;
 }
 

@@ -10,6 +10,6 @@ use Rattle.kc_value.proofs.known_conditions.FoundConditions.find_depends.Given a
 -- what was found is right, and what the blocks that are left read is kept
 abbrev pub invariant-loop : goal.invariant-loop
 invariant-loop l = record {
-  known : AreKnown l.tree l.env l.self.depends.items l.self.visible.items;
+  known : AreKnown l.tree l.env l.self.depends.items l.self.visible.items l.self.own.items;
   kept : (m : Node) → Contains (depends_nodes l.tree (blocks_from l.tree.blocks (64 - l.counter) l.next)) m → IsKept l.tree l.env m;
 }

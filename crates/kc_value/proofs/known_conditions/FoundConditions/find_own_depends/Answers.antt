@@ -10,7 +10,7 @@ returns-clause-known c =
     let found = c.args.self.now in
     let x = c.in_ok-block.block.now in
     let at : slice_get t.blocks c.args.id.0 ≡ Some x = sym c.block_at.ensures ∙ ap option_copied c.in_ok-block.was in
-    one_depends t c.args.env.now found.depends.items found.visible.items c.args.id.0 x c.conditions_tri-value.result at c.requires.known (omega arith)
+    one_depends t c.args.env.now found.depends.items found.visible.items found.own.items c.args.id.0 x c.conditions_tri-value.result at c.requires.known (omega arith)
     (search rules) (λ m h. c.requires.kept x m at h)
 
 pub returns-clause-around : goal.returns-clause-around

@@ -11,6 +11,7 @@ use Rattle.kc_tree.proofs.uses.collected.Collected.add_prompts.Goals as goal
 pub returns : goal.returns
 returns c =
     let t = c.args.self.now.reader.outline.now in
+    let sh = c.args.self.now.shared in
     let s = length t.symbols in
     let js = c.args.definitions.now in
     let ps = c.add_all_prompts.new.prompted.items in
@@ -19,10 +20,10 @@ returns c =
     let prompted = c.in_ok-add_all_prompts.ensures.prompted ∙ ap (λ (xs : List ℕ). xs ++ flat_map (prompted_at t) js) c.clear.ensures.items in
     let found = subst (λ (xs : List ℕ). HaveSame xs (flat_map (block_numbers_at t) ps)) (sym c.as_slice.ensures.value) c.in_ok-add_dependencies.ensures.blocks in
     on_ok_weaker c.add_visible.result
-    (λ (h : Takes t c.add_dependencies.new.row.items c.add_visible.new.row.items seen).
-    takes_alike t _ _ _ _
-    (takes_then t _ _ _ (flat_map (prompt_own_at t) js) (flat_map (dependency_at t) ps ++ flat_map (visible_at t) ps) (takes_nodes t _ _ (flat_map (prompt_own_at t) js) (prompts_within t js) c.in_ok-add_all_prompts.ensures.added)
-    (takes_then t _ _ _ (flat_map (dependency_at t) ps) (flat_map (visible_at t) ps) c.in_ok-add_dependencies.ensures.added
-    (takes_alike t _ _ seen (flat_map (visible_at t) ps) h (visible_same s t ps bs found))))
+    (λ (h : Takes t sh c.add_dependencies.new.row.items c.add_visible.new.row.items seen).
+    takes_alike t sh _ _ _ _
+    (takes_then t sh _ _ _ (flat_map (prompt_own_at t) js) (flat_map (dependency_at t) ps ++ flat_map (visible_at t) ps) (takes_nodes t sh _ _ (flat_map (prompt_own_at t) js) (prompts_within t js) c.in_ok-add_all_prompts.ensures.added)
+    (takes_then t sh _ _ _ (flat_map (dependency_at t) ps) (flat_map (visible_at t) ps) c.in_ok-add_dependencies.ensures.added
+    (takes_alike t sh _ _ seen (flat_map (visible_at t) ps) h (visible_same s t ps bs found))))
     (prompts_alike s t js ps prompted))
     c.add_visible.ensures

@@ -15,6 +15,7 @@ use Rattle.kc_tree.proofs.uses.collected.Collected.mode_row.Goals as goal
 pub returns : goal.returns
 returns c =
     let t = c.args.self.now.reader.outline.now in
+    let sh = c.args.self.now.shared in
     let s = length t.symbols in
     let x = c.args.choice.now in
     let p = c.in-Some.own_prompt.now in
@@ -25,10 +26,10 @@ returns c =
     let depended = depends_nodes t (blocks_around t (Some x.block)) in
     let seen = visible_nodes t (blocks_around t (Some x.block)) in
     let all =
-    takes_then t _ _ _ own (depended ++ seen) (takes_nodes t _ _ own (own_condition_within t p.condition) c.in_ok-add_own_condition.ensures)
-    (takes_then t _ _ _ depended seen
-    (takes_alike t _ _ (flat_map (λ (b : ℕ). slice_index_or (depends_lists t) b []) bs) depended c.in_ok-add_depends.ensures (blocks_alike s t (λ b. conditions_nodes t b.depends) (Some x.block) bs found))
-    (takes_alike t _ _ (flat_map (λ (b : ℕ). slice_index_or (visible_lists t) b []) bs) seen c.in_ok-add_visible.ensures (blocks_alike s t (λ b. conditions_nodes t b.visible) (Some x.block) bs found))) in
+    takes_then t sh _ _ _ own (depended ++ seen) (takes_nodes t sh _ _ own (own_condition_within t p.condition) c.in_ok-add_own_condition.ensures)
+    (takes_then t sh _ _ _ depended seen
+    (takes_alike t sh _ _ (flat_map (λ (b : ℕ). slice_index_or (depends_lists t) b []) bs) depended c.in_ok-add_depends.ensures (blocks_alike s t (λ b. conditions_nodes t b.depends) (Some x.block) bs found))
+    (takes_alike t sh _ _ (flat_map (λ (b : ℕ). slice_index_or (visible_lists t) b []) bs) seen c.in_ok-add_visible.ensures (blocks_alike s t (λ b. conditions_nodes t b.visible) (Some x.block) bs found))) in
     let ns = own ++ (depended ++ seen) in
-    let row = means_made t _ _ c.each_once.new.row.items ns c.clear.ensures.items all c.each_once.ensures in
-    subst (λ (o : Option Prompt). Means t (option_map_or (λ (q : Prompt). own_condition_nodes t q.condition ++ (depends_nodes t (blocks_around t (Some x.block)) ++ visible_nodes t (blocks_around t (Some x.block)))) o []) c.each_once.new.row.items) (sym is) row
+    let row = means_made t sh _ _ c.each_once.new.row.items ns c.clear.ensures.items all c.each_once.ensures in
+    subst (λ (o : Option Prompt). Means t sh (option_map_or (λ (q : Prompt). own_condition_nodes t q.condition ++ (depends_nodes t (blocks_around t (Some x.block)) ++ visible_nodes t (blocks_around t (Some x.block)))) o []) c.each_once.new.row.items) (sym is) row

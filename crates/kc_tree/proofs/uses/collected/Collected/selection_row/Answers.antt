@@ -10,6 +10,7 @@ use Rattle.kc_tree.proofs.uses.collected.Collected.selection_row.Goals as goal
 pub returns : goal.returns
 returns c =
     let t = c.args.self.now.reader.outline.now in
+    let sh = c.args.self.now.shared in
     let s = length t.symbols in
     let id = c.args.id in
     let x = c.args.choice.now in
@@ -22,5 +23,5 @@ returns c =
     let added =
     adds_then s _ _ _ (mode_nodes t id) (flat_map (visibility_node t) members ++ flat_map (choice_default_nodes t) defaults) c.in_ok-add_mode.ensures
     (adds_then s _ _ _ (flat_map (visibility_node t) members) (flat_map (choice_default_nodes t) defaults) c.in_ok-add_visibilities.ensures c.in_ok-add_choice_defaults.ensures) in
-    means_made t _ _ c.each_once.new.row.items (choice_value_nodes t id x) c.clear.ensures.items
-    (takes_nodes t _ _ (choice_value_nodes t id x) (choice_value_within t id x) (adds_equal s _ _ read (choice_value_nodes t id x) same added)) c.each_once.ensures
+    means_made t sh _ _ c.each_once.new.row.items (choice_value_nodes t id x) c.clear.ensures.items
+    (takes_nodes t sh _ _ (choice_value_nodes t id x) (choice_value_within t id x) (adds_equal s _ _ read (choice_value_nodes t id x) same added)) c.each_once.ensures

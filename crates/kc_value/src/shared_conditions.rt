@@ -1,0 +1,118 @@
+//! The own conditions that many nodes read, of all blocks and of the definitions that select or imply, over the values
+//! of nodes.
+
+ghost use Rattle.std.specs.Prelude.{◌≡◌, List, Option, IfOk};
+ghost use Rattle.kc_outline.specs.TreeValue.{TreeValue};
+ghost use Rattle.kc_value.specs.declared.value.Value.{Value};
+ghost use Rattle.kc_value.specs.Assignment.{assignment_of};
+ghost use Rattle.kc_value.specs.KnownConditions.{AreSharedBy, IsRightOfOwn, all_depends, all_visible};
+
+use crate::expr_value::conditions_tri;
+use crate::known_conditions::{KnownConditions, find_own};
+use crate::slots::empty_slots;
+use crate::value::Value;
+use kc_tree::{Reverse, Tree, Tri};
+use std::alloc::{AllocError, Global};
+use std::marker::Model;
+
+/// By the number of a block, what its own lines say that all inside depends on, and what its `visible if` lines say; by
+/// the number of a definition, what its own `depends on` lines say, as far as they are known. Who asks for many menus,
+/// comments or symbols has it evaluated once, and these conditions are then looked up.
+#[derive(Drop)]
+pub struct SharedConditions {
+    depends: Vec<Option<Tri>>,
+    visible: Vec<Option<Tri>>,
+    own: Vec<Option<Tri>>,
+}
+
+impl Model for SharedConditions {
+    ghost use Rattle.kc_value.specs.KnownConditions.{SharedConditionsValue};
+
+    ghost Value = { SharedConditionsValue };
+
+    ghost view = { λ c. record { depends = c.depends.items; visible = c.visible.items; own = c.own.items } };
+}
+
+impl SharedConditions {
+    /// Nothing is known: for who asks for one symbol. It takes no memory.
+    pub fn none(alloc: Global) -> SharedConditions
+        ensures { (t : TreeValue) (values : List (Option Value)) → AreSharedBy t values result }
+    {
+        SharedConditions {
+            depends: Vec::new(alloc),
+            visible: Vec::new(alloc),
+            own: Vec::new(alloc),
+        }
+    }
+
+    /// What the values of nodes, by number, give all blocks of the tree, and the definitions with a `select` or `imply`
+    /// line. A node without a value counts as n. The error comes where memory is refused.
+    pub fn of(
+        alloc: Global,
+        tree: &Tree,
+        values: &[Option<Value>],
+    ) -> Result<SharedConditions, AllocError>
+        ensures depends { IfOk result (λ c. c.depends ≡ all_depends tree.now (assignment_of tree.now values.now)) }
+        ensures visible { IfOk result (λ c. c.visible ≡ all_visible tree.now (assignment_of tree.now values.now)) }
+        ensures right { IfOk result (λ c. AreSharedBy tree.now values.now c) }
+    {
+        let count = tree.blocks().len();
+        let own = own_conditions(alloc, tree, values)?;
+        let mut depends = Vec::with_capacity(alloc, count)?;
+        let mut visible = Vec::with_capacity(alloc, count)?;
+        for block in tree.blocks() {
+            depends.push(Some(conditions_tri(tree, block.depends(), values)))?;
+            visible.push(Some(conditions_tri(tree, block.visible(), values)))?;
+        }
+        Ok(SharedConditions {
+            depends,
+            visible,
+            own,
+        })
+    }
+
+    /// What is known.
+    pub(crate) fn known(&self) -> KnownConditions<'_>
+        ensures depends { result.depends.now ≡ self.now.depends }
+        ensures visible { result.visible.now ≡ self.now.visible }
+        ensures own { result.own.now ≡ self.now.own }
+    {
+        KnownConditions {
+            depends: self.depends.as_slice(),
+            visible: self.visible.as_slice(),
+            own: self.own.as_slice(),
+        }
+    }
+}
+
+/// What the own `depends on` lines of the definitions say in which some `select` or `imply` lines stand.
+fn find_all_own(
+    tree: &Tree,
+    own: &mut Vec<Option<Tri>>,
+    reverses: &[Reverse],
+    values: &[Option<Value>],
+)
+    requires { IsRightOfOwn tree.now values.now own.old.items }
+    ensures { IsRightOfOwn tree.now values.now own.new.items }
+{
+    for reverse in reverses {
+        find_own(tree, own, reverse.definition, values);
+    }
+}
+
+/// What the own `depends on` lines of each definition say in which a `select` or `imply` line stands. The error comes
+/// where memory is refused.
+fn own_conditions(
+    alloc: Global,
+    tree: &Tree,
+    values: &[Option<Value>],
+) -> Result<Vec<Option<Tri>>, AllocError>
+    ensures { IfOk result (λ own. IsRightOfOwn tree.now values.now own.items) }
+{
+    let mut own = empty_slots(alloc, tree.definitions().len())?;
+    for symbol in tree.symbols() {
+        find_all_own(tree, &mut own, symbol.selected(), values);
+        find_all_own(tree, &mut own, symbol.implied(), values);
+    }
+    Ok(own)
+}
