@@ -17,8 +17,8 @@ if [ -n "$warnings" ]; then
 fi
 
 text=$(groff -man -Tascii -P-c "$page" | col -b)
-words=$(sed -n 's/^ *name: "\(.*\)",$/\1/p' "$root/crates/kconf/src/targets.rt"
-    sed -n 's/^ *\.long("\(.*\)")$/--\1/p' "$root/crates/kconf/src/arguments.rt")
+words=$(sed -n 's/^ *name: "\(.*\)",$/\1/p' "$root/crates/kc_program/src/targets.rt"
+    sed -n 's/^ *\.long("\(.*\)")$/--\1/p' "$root/crates/kc_program/src/arguments.rt")
 for word in $words; do
     case $text in
         *"$word"*) ;;

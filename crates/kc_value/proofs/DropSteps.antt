@@ -1,5 +1,5 @@
 -- The walk that drops what is computed from some nodes.
-use Rattle.std.proofs.Common.{◌≡◌, ◌⊎◌, inl, inr, ℕ, zero, suc, ◌+◌, ◌<◌, Bool, true, false, true≢false, List, [], ◌∷◌, ◌++◌, Option, Some, None, length, map, take, get_or, set, slice_set, slice_index_or, refl, sym, ap, ◌∙◌, subst, ⊎_elim, get_or-set_other, length-append, arith}
+use Rattle.std.proofs.Common.{◌≡◌, ◌⊎◌, inl, inr, ℕ, zero, suc, ◌+◌, ◌-◌, ◌<◌, ◌≤◌, Bool, true, false, true≢false, List, [], ◌∷◌, ◌++◌, Option, Some, None, length, map, take, get_or, set, slice_set, slice_index_or, refl, sym, ap, ◌∙◌, subst, ⊎_elim, get_or-set_other, length-append, arith}
 use Rattle.std.specs.Prelude.{is_some}
 use Rattle.std.specs.List.{Contains}
 use Rattle.std.proofs.lemmas.Bool.{cases_eq}
@@ -8,7 +8,7 @@ use Rattle.std.proofs.lemmas.List.Elements.{Contains-push, Contains-push_cases, 
 use Rattle.std.proofs.lemmas.Option.{none-some}
 use Rattle.kc_graph.specs.Graph.{row}
 use Rattle.kc_graph.specs.Shared.{IsShared, stands_for, whole_row, whole_rows}
-use Rattle.kc_graph.proofs.SharedLaws.{holds_from_use, row-whole_rows, use_from_holds, whole-within}
+use Rattle.kc_graph.proofs.SharedLaws.{one-node, holds_from_use, row-whole_rows, use_from_holds, whole-within}
 use Rattle.kc_outline.specs.TreeValue.{TreeValue}
 use Rattle.kc_tree.specs.declared.node.Node.{Node}
 use Rattle.kc_tree.specs.Accepted.{IsAccepted, IsSharedTable}
@@ -19,7 +19,7 @@ use Rattle.kc_tree.proofs.NodeNumbers.{at_below, Contains-at, Contains-from_at, 
 use Rattle.kc_value.specs.declared.value.Value.{Value}
 use Rattle.kc_value.specs.Assignment.{value_at}
 use Rattle.kc_value.specs.Dirty.{Drops}
-use Rattle.kc_value.specs.DropWalk.{AreWalked, DropsAll, IsDropping, IsFrom}
+use Rattle.kc_value.specs.DropWalk.{AreWalked, DropsAll, IsDropping, IsFrom, NothingToDrop}
 use Rattle.kc_value.specs.Kept.{IsKept, IsClosed, kept_count}
 use Rattle.kc_value.proofs.SlotLemmas.{none_set}
 use Rattle.kc_value.proofs.UsesLaws.{user_node}
@@ -157,6 +157,35 @@ module _ (t : TreeValue) (numbers : List ℕ) (i : ℕ) (old mid new : List (Opt
         let whole : whole_row (node_count t) g (take (i + 1) numbers) ≡ front ++ stood_for x = ap (whole_row (node_count t) g) (take_more numbers i d within) ∙ sym (flat_map_more stood_for [] (take i numbers) x) in
         let more : map (node_at t) (whole_row (node_count t) g (take (i + 1) numbers)) ≡ map (node_at t) front ++ map (node_at t) (stood_for x) = ap (map (node_at t)) whole ∙ map-append (node_at t) front (stood_for x) in
         subst (λ ns. DropsAll t ns old new first third) (sym more) (drops_then t (map (node_at t) front) (map (node_at t) (stood_for x)) old mid new first second third a b)
+
+-- ---- numbers of a row that have nothing to drop
+none_of : (o : Option Value) → is_some o ≡ false → o ≡ None
+none_of None e = refl
+none_of (Some v) e = absurd (true≢false e)
+
+module _ (t : TreeValue) (g : List (List ℕ)) (numbers : List ℕ) (old new : List (Option Value)) (before after : List Node) (i : ℕ) where
+  abbrev DropsFor : ℕ → Type 0
+  DropsFor k = DropsAll t (map (node_at t) (whole_row (node_count t) g (take k numbers))) old new before after
+
+  nothing_for : (x : ℕ) → x < node_count t → is_some (slice_index_or new x None) ≡ false → DropsAll t (map (node_at t) (stands_for (node_count t) g x)) new new after after
+  nothing_for x below none =
+      subst (λ ks. DropsAll t (map (node_at t) ks) new new after after) (sym (one-node (node_count t) g x below))
+      (drops_valueless t (node_at t x ∷ []) new after
+      (λ n at c. ap (λ m. value_at t new m) (sym (of_one (node_at t x) n c)) ∙ ap (λ k. slice_index_or new k None) (number_of-node_at t x) ∙ none_of (slice_index_or new x None) none))
+
+  pub row_passed : (d : ℕ) → i + d ≤ length numbers → NothingToDrop t new numbers i (i + d) → DropsFor i → DropsFor (i + d)
+  row_passed zero within none drops = let same : i ≡ i + 0 = omega arith in subst DropsFor same drops
+  row_passed (suc d) within none drops =
+      let k = i + d in
+      let one = none k (omega arith) (omega arith) in
+      let front = row_passed d (omega arith) (λ j h l. none j h (omega (arith, l))) drops in
+      let same : k + 1 ≡ i + suc d = omega arith in
+      subst DropsFor same (row_next t numbers k old new new before after after 0 (omega arith) g front (nothing_for (get_or numbers k 0) one.0 one.1))
+
+  pub row_passed_to : (to : ℕ) → i ≤ to → to ≤ length numbers → NothingToDrop t new numbers i to → DropsFor i → DropsFor to
+  row_passed_to to h within none drops =
+      let same : i + (to - i) ≡ to = omega (arith, h) in
+      subst DropsFor same (row_passed (to - i) (omega (arith, h, within)) (λ j a b. none j a (omega (arith, b, h))) drops)
 
 -- ---- the marks of shared lists
 module _ (t : TreeValue) (g : List (List ℕ)) (marks : List Bool) where

@@ -1,5 +1,5 @@
 -- The walk that drops what is computed from some nodes: this project's own.
-use Rattle.std.specs.Prelude.{◌≡◌, ◌⊎◌, ℕ, ◌+◌, ◌≤◌, Bool, true, false, List, Option, None, Contains, length, slice_index_or}
+use Rattle.std.specs.Prelude.{◌≡◌, ◌⊎◌, ℕ, ◌+◌, ◌<◌, ◌≤◌, Bool, true, false, List, Option, None, Contains, is_some, length, slice_index_or}
 use Rattle.kc_graph.specs.Graph.{Uses as HasNumber}
 use Rattle.kc_outline.specs.TreeValue.{TreeValue}
 use Rattle.kc_tree.specs.declared.node.Node.{Node}
@@ -37,3 +37,8 @@ pub record IsDropping (t : TreeValue) (starts : List Node) (old new : List (Opti
 -- of the shared lists of a table that are marked no node has a value
 abbrev pub AreWalked : TreeValue → List (List ℕ) → List Bool → List (Option Value) → Type 0
 AreWalked t g walked values = (k q : ℕ) → slice_index_or walked k false ≡ true → HasNumber g (node_count t + k) q → slice_index_or values q None ≡ None
+
+-- between two places of a row each number is that of a node without a value
+abbrev pub NothingToDrop : TreeValue → List (Option Value) → List ℕ → ℕ → ℕ → Type 0
+NothingToDrop t values numbers from to =
+    (i : ℕ) → from ≤ i → i < to → (slice_index_or numbers i 0 < node_count t) × (is_some (slice_index_or values (slice_index_or numbers i 0) None) ≡ false)

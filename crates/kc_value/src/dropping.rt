@@ -6,7 +6,7 @@ ghost use Rattle.kc_tree.specs.declared.node.Node.{Node};
 ghost use Rattle.kc_tree.specs.Nodes.{IsNodeOf, node_at, node_count};
 ghost use Rattle.kc_value.specs.declared.value.Value.{Value};
 ghost use Rattle.kc_value.specs.Dirty.{Drops};
-ghost use Rattle.kc_value.specs.DropWalk.{AreWalked, DropsAll, IsDropping};
+ghost use Rattle.kc_value.specs.DropWalk.{AreWalked, DropsAll, IsDropping, NothingToDrop};
 ghost use Rattle.kc_value.specs.Kept.{IsClosed, kept_count};
 
 use crate::kept_slots::KeptSlots;
@@ -71,6 +71,25 @@ fn drop_for_number(
     }
 }
 
+/// The place of the first number of a row, from a place on, that has something to drop: that of a node with a value, or of a
+/// shared list. Most numbers have nothing, since an edit comes to nodes that were dropped before.
+fn next_to_drop(tree: &Tree, values: &KeptSlots, numbers: &[u32], from: usize) -> usize
+    ensures from { from ≤ result }
+    ensures inside { from ≤ length numbers.now → result ≤ length numbers.now }
+    ensures nothing { NothingToDrop tree.now values.now numbers.now from result }
+{
+    let count = tree.node_count();
+    let mut place = from;
+    while place < numbers.len() {
+        let number = numbers[place] as usize;
+        if number >= count || values.has(number) {
+            return place;
+        }
+        place += 1;
+    }
+    place
+}
+
 /// Drops what the numbers of a row stand for, each shared list once, and lists the nodes that had a value.
 fn drop_row(
     tree: &Tree,
@@ -89,8 +108,10 @@ fn drop_row(
     ensures walked { AreWalked tree.now table.now walked.new.items values.new }
     ensures capacity { vec_capacity list.old ≤ vec_capacity list.new }
 {
-    for number in numbers {
-        drop_for_number(tree, table, walked, values, list, *number as usize);
+    let mut place = next_to_drop(tree, values, numbers, 0);
+    while place < numbers.len() {
+        drop_for_number(tree, table, walked, values, list, numbers[place] as usize);
+        place = next_to_drop(tree, values, numbers, place + 1);
     }
 }
 

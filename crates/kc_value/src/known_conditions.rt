@@ -13,7 +13,7 @@ ghost use Rattle.kc_value.specs.KnownConditions.{AreKnown, IsRightOfOwn, IsKeptO
 
 use crate::conditions::block_at;
 use crate::expr_value::{conditions_tri, symbol_tri};
-use crate::slots::empty_slots;
+use crate::slots::no_tris;
 use crate::value::Value;
 use kc_outline::MOST_OPEN_BLOCKS;
 use kc_tree::{BlockId, Choice, ChoiceId, Definition, Node, Reverse, SymId, Symbol, Tree, Tri};
@@ -166,9 +166,9 @@ impl FoundConditions {
     {
         let count = tree.blocks().len();
         Ok(FoundConditions {
-            depends: empty_slots(alloc, count)?,
-            visible: empty_slots(alloc, count)?,
-            own: empty_slots(alloc, tree.definitions().len())?,
+            depends: no_tris(alloc, count)?,
+            visible: no_tris(alloc, count)?,
+            own: no_tris(alloc, tree.definitions().len())?,
             waits: 0,
         })
     }

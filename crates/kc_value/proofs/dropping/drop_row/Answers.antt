@@ -1,30 +1,34 @@
-use Rattle.std.proofs.Common.{map, subst, arith}
+use Rattle.std.proofs.Common.{◌+◌, map, subst, arith}
 use Rattle.std.proofs.lemmas.List.{take_all}
 use Rattle.kc_graph.specs.Shared.{whole_row}
 use Rattle.kc_tree.specs.Nodes.{node_at, node_count}
 use Rattle.kc_value.specs.DropWalk.{DropsAll}
-use Rattle.kc_value.proofs.DropSteps.{drops_nothing, row_next}
+use Rattle.kc_value.proofs.DropSteps.{drops_nothing, row_next, row_passed_to}
 use Rattle.kc_value.proofs.dropping.drop_row.Goals as goal
 
-pub loop-number-init : goal.loop-number-init
-loop-number-init c = record {
-  drops = drops_nothing c.args.tree.now c.args.values.now c.args.list.now.items;
-  walked = c.requires.walked;
-  capacity = omega arith;
-}
-
-pub drop_for_number-requires-clause-room : goal.drop_for_number-requires-clause-room
-drop_for_number-requires-clause-room c = omega (arith, c.requires.room, c.loop-number.invariant.drops.room, c.loop-number.invariant.capacity)
-
-pub drop_for_number-requires-clause-walked : goal.drop_for_number-requires-clause-walked
-drop_for_number-requires-clause-walked c = c.loop-number.invariant.walked
-
-pub loop-number-preserved : goal.loop-number-preserved
-loop-number-preserved c =
-    let now = c.loop-number in
+pub loop-place-init : goal.loop-place-init
+loop-place-init c =
+    let t = c.args.tree.now in
+    let inside = c.next_to_drop-place.ensures.inside (omega arith) in
     record {
-      drops = row_next c.args.tree.now c.args.numbers.now now.number-index c.args.values.now now.values c.drop_for_number.new.values
-          c.args.list.now.items now.list.items c.drop_for_number.new.list.items 0 c.loop-number-test.true c.args.table.now now.invariant.drops c.drop_for_number.ensures.drops;
+      inside = inside;
+      drops = row_passed_to t c.args.table.now c.args.numbers.now c.args.values.now c.args.values.now c.args.list.now.items c.args.list.now.items 0 c.next_to_drop-place.result
+          (omega arith) inside c.next_to_drop-place.ensures.nothing (drops_nothing t c.args.values.now c.args.list.now.items);
+      walked = c.requires.walked;
+      capacity = omega arith;
+    }
+
+pub loop-place-preserved : goal.loop-place-preserved
+loop-place-preserved c =
+    let now = c.loop-place in
+    let next = c.next_to_drop-place-in-loop-place in
+    let inside = next.ensures.inside (omega (arith, c.loop-place-test.true)) in
+    let dropped = row_next c.args.tree.now c.args.numbers.now now.place c.args.values.now now.values c.drop_for_number.new.values
+        c.args.list.now.items now.list.items c.drop_for_number.new.list.items 0 c.loop-place-test.true c.args.table.now now.invariant.drops c.drop_for_number.ensures.drops in
+    record {
+      inside = inside;
+      drops = row_passed_to c.args.tree.now c.args.table.now c.args.numbers.now c.args.values.now c.drop_for_number.new.values c.args.list.now.items c.drop_for_number.new.list.items
+          (now.place + 1) next.result next.ensures.from inside next.ensures.nothing dropped;
       walked = c.drop_for_number.ensures.walked;
       capacity = omega (arith, now.invariant.capacity, c.drop_for_number.ensures.capacity);
     }
@@ -32,12 +36,9 @@ loop-number-preserved c =
 pub returns-clause-drops : goal.returns-clause-drops
 returns-clause-drops c =
     let t = c.args.tree.now in
-    let now = c.loop-number in
+    let now = c.loop-place in
     subst (λ ks. DropsAll t (map (node_at t) (whole_row (node_count t) c.args.table.now ks)) c.args.values.now now.values c.args.list.now.items now.list.items)
-    (take_all now.number-index c.args.numbers.now (omega (arith, c.loop-number-test.false))) now.invariant.drops
+    (take_all now.place c.args.numbers.now (omega (arith, c.loop-place-test.false))) now.invariant.drops
 
-pub returns-clause-walked : goal.returns-clause-walked
-returns-clause-walked c = c.loop-number.invariant.walked
-
-pub returns-clause-capacity : goal.returns-clause-capacity
-returns-clause-capacity c = c.loop-number.invariant.capacity
+pub drop_for_number-requires-clause-room : goal.drop_for_number-requires-clause-room
+drop_for_number-requires-clause-room c = omega (arith, c.requires.room, c.loop-place.invariant.drops.room, c.loop-place.invariant.capacity)

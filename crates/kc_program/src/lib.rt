@@ -1,0 +1,20 @@
+//! The program `kconf TARGET KCONFIG CONFIG [NAME=VALUE]...` over a folder of files and three streams: its words, its files,
+//! and what it reports.
+#![tactic(auto)]
+
+mod arguments;
+mod explanations;
+mod folder;
+mod known;
+mod messages;
+mod opening;
+mod read_ahead;
+mod running;
+mod targets;
+mod unread_words;
+mod variables;
+
+pub use folder::{Folder, FolderFault, SystemFolder};
+pub use messages::Status;
+pub use running::program;
+pub use unread_words::answer_unread;

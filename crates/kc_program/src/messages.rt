@@ -1,0 +1,158 @@
+//! How the program ended, and what it says of warnings and faults on standard error.
+ghost use Rattle.std.specs.Prelude.{◌≡◌};
+ghost use Rattle.kc_program.specs.Endings.{code_of};
+
+use crate::explanations::Wording;
+use kc_files::Warning;
+use kc_session::IoFault;
+use kc_text::{Text, TextFault};
+use kc_tree::TreeFault;
+use std::alloc::{AllocError, AllocFailed};
+use std::io::{self, Write};
+
+/// How the program ended.
+#[derive(Clone, Copy, Debug, PartialEq, Eq)]
+pub enum Status {
+    /// What was asked for was done, with warnings or without.
+    Done = 0,
+    /// A fault stopped the program.
+    Fault = 1,
+    /// The words of the command line were no command line.
+    Usage = 2,
+}
+
+impl Status {
+    /// The exit status of the process.
+    pub fn code(self) -> u8
+        ensures { result ≡ code_of self }
+    {
+        self as u8
+    }
+}
+
+/// Why what the command line asked for was not done.
+#[derive(Debug, Drop)]
+pub enum Fault {
+    /// The file of a path cannot be read.
+    CannotRead(Text),
+    /// The file of a path is not UTF-8.
+    NotUtf8(Text),
+    /// The `.config` of a path is too long, or a line of it.
+    Limit(Text),
+    /// The limits on all files together have no room for a file beside those that were read ahead.
+    Full(TextFault),
+    /// A fault of the variables or of the texts.
+    Text(TextFault),
+    /// A fault of the lines or of the tree.
+    Tree(TreeFault),
+    /// The input was not read to its end, or the output not written.
+    Stream(IoFault),
+    /// Memory was refused.
+    NoMemory,
+}
+
+impl From<AllocError> for Fault {
+    fn from(_refused: AllocError) -> Self {
+        Fault::NoMemory
+    }
+}
+
+impl<T: Drop> From<AllocFailed<T>> for Fault {
+    fn from(_refused: AllocFailed<T>) -> Self {
+        Fault::NoMemory
+    }
+}
+
+impl From<TextFault> for Fault {
+    fn from(fault: TextFault) -> Self {
+        match fault {
+            TextFault::NoMemory => Fault::NoMemory,
+            fault => Fault::Text(fault),
+        }
+    }
+}
+
+impl From<IoFault> for Fault {
+    fn from(fault: IoFault) -> Self {
+        Fault::Stream(fault)
+    }
+}
+
+/// Writes a line for each warning of the `.config` of a path, in their order.
+pub fn write_warnings<E: Write>(
+    errors: &mut E,
+    path: &str,
+    warnings: &[Warning],
+    wording: Wording,
+) -> io::Result<()> {
+    for warning in warnings {
+        let number = warning.kind.number();
+        write!(errors, "kconf: {path}:{}: warning {number}", warning.line)?;
+        end_line(errors, wording.behind_warning(number))?;
+    }
+    Ok(())
+}
+
+/// Writes a fault as lines that each begin with `kconf: `. A line of a file is named as `PATH:LINE`.
+pub fn write_fault<E: Write>(errors: &mut E, fault: &Fault, wording: Wording) -> io::Result<()> {
+    match fault {
+        Fault::CannotRead(path) => writeln!(errors, "kconf: {path}: cannot read"),
+        Fault::NotUtf8(path) => writeln!(errors, "kconf: {path}: not UTF-8"),
+        Fault::Limit(path) => writeln!(errors, "kconf: {path}: limit"),
+        Fault::Full(fault) | Fault::Text(fault) => write_text_fault(errors, fault, wording),
+        Fault::Tree(fault) => write_tree_fault(errors, fault, wording),
+        Fault::Stream(IoFault::Read) => writeln!(errors, "kconf: cannot read"),
+        Fault::Stream(IoFault::Write) => writeln!(errors, "kconf: cannot write"),
+        Fault::Stream(IoFault::Memory) | Fault::NoMemory => writeln!(errors, "kconf: memory"),
+    }
+}
+
+fn write_text_fault<E: Write>(
+    errors: &mut E,
+    fault: &TextFault,
+    wording: Wording,
+) -> io::Result<()> {
+    match fault {
+        TextFault::At(problem, path, line) => {
+            let number = problem.number();
+            write!(errors, "kconf: {path}:{line}: K{number:02}")?;
+            end_line(errors, wording.behind_fault(number))
+        }
+        TextFault::NoMemory => writeln!(errors, "kconf: memory"),
+    }
+}
+
+fn write_tree_fault<E: Write>(
+    errors: &mut E,
+    fault: &TreeFault,
+    wording: Wording,
+) -> io::Result<()> {
+    write!(errors, "kconf: {fault}")?;
+    let words = number_of(fault).and_then(|number| wording.behind_fault(number));
+    end_line(errors, words)?;
+    if let TreeFault::Loop(nodes) = fault {
+        for node in nodes {
+            writeln!(errors, "kconf: on {}", node.name)?;
+        }
+    }
+    Ok(())
+}
+
+/// The number of a fault of the lines or of the tree.
+fn number_of(fault: &TreeFault) -> Option<u8> {
+    match fault {
+        TreeFault::Line { problem, .. } => Some(problem.number()),
+        TreeFault::Symbol { problem, .. } => Some(problem.number()),
+        TreeFault::Choice { problem, .. } => Some(problem.number()),
+        TreeFault::Loop(_) => Some(19),
+        TreeFault::NoMemory => None,
+    }
+}
+
+/// Ends a line, with the words that explain it, if there are some.
+fn end_line<E: Write>(errors: &mut E, words: Option<&'static str>) -> io::Result<()> {
+    match words {
+        Some(words) => writeln!(errors, ": {words}"),
+        None => writeln!(errors),
+    }
+}

@@ -1,0 +1,139 @@
+//! Which files are read before they are wanted, and that no answer depends on it.
+use crate::running::{Outcome, run_in};
+use kc_program::{Folder, FolderFault};
+use std::alloc::{AllocError, Global};
+use std::cell::Cell;
+use std::test::Fail;
+
+/// A top file, and a text at each other path. Counts the reads of wanted files.
+#[derive(Drop)]
+struct ManyFiles<'a> {
+    kconfig: &'a str,
+    /// The text of each file but the top one.
+    others: &'a str,
+    wanted: Cell<usize>,
+}
+
+impl ManyFiles<'_> {
+    fn bytes_of(&self, alloc: Global, path: &str) -> Result<Vec<u8>, FolderFault> {
+        let text = if path == "Kconfig" {
+            self.kconfig
+        } else {
+            self.others
+        };
+        text.as_bytes()
+            .to_vec(alloc)
+            .map_err(|_| FolderFault::NoMemory)
+    }
+}
+
+impl Folder for ManyFiles<'_> {
+    fn read_bytes(&self, alloc: Global, path: &str) -> Result<Vec<u8>, FolderFault> {
+        self.wanted.set(self.wanted.get().wrapping_add(1));
+        self.bytes_of(alloc, path)
+    }
+
+    fn read_plain(&self, alloc: Global, path: &str) -> Result<Vec<u8>, FolderFault> {
+        self.bytes_of(alloc, path)
+    }
+}
+
+/// Lines that source so many files, each as `BEFORE` and its number in quotes of a kind.
+fn sourcing_in(
+    alloc: Global,
+    quote: char,
+    before: &str,
+    count: usize,
+) -> Result<String, AllocError> {
+    let mut text = String::new(alloc);
+    for number in 0..count {
+        let line = format!(in alloc; "source {quote}{before}{number}{quote}\n")?;
+        text.push_str(line.as_str())?;
+    }
+    Ok(text)
+}
+
+/// The same in double quotes.
+fn sourcing(alloc: Global, before: &str, count: usize) -> Result<String, AllocError> {
+    sourcing_in(alloc, '"', before, count)
+}
+
+/// A run over a top file, with how many files were read since they were wanted.
+fn run_many(alloc: Global, kconfig: &str, others: &str) -> (Outcome, usize) {
+    let folder = ManyFiles {
+        kconfig,
+        others,
+        wanted: Cell::new(0),
+    };
+    let words = ["kconf", "olddefconfig", "Kconfig", "-", "D=x", "E=d/e"];
+    let outcome = run_in(alloc, words.as_slice(), &folder, b"");
+    (outcome, folder.wanted.get())
+}
+
+#[test]
+fn references_in_paths_are_followed(rt: HostRuntime) -> Result<(), Fail> {
+    let rows = [
+        ("", '"', "f"),
+        ("", '\'', "f"),
+        ("", '"', "$(D)/f"),
+        ("", '\'', "$(D)/f"),
+        ("", '"', "a/$(E)$(D)/f"),
+        ("", '"', "$(NONE)f"),
+        ("F := d\n", '"', "$(F)/f"),
+        ("F = $(D)\nG:=a/$(F)\n", '"', "$(G)/f"),
+        ("D := other\n", '"', "$(D)/f"),
+    ];
+    for (lines, quote, before) in rows {
+        let mut kconfig = String::from_str(rt.alloc(), lines)?;
+        let sources = sourcing_in(rt.alloc(), quote, before, 20)?;
+        kconfig.push_str(sources.as_str())?;
+        let (outcome, wanted) = run_many(rt.alloc(), kconfig.as_str(), "");
+        assert_eq!(rt;
+            outcome.errors.as_slice(),
+            b"".as_slice(),
+            "at {quote}{before}"
+        );
+        assert_eq!(rt; outcome.status, 0, "at {quote}{before}");
+        assert_eq!(rt; wanted, 1, "at {quote}{before}");
+    }
+    Ok(())
+}
+
+#[test]
+fn too_many_files_are_a_limit_however_they_are_named(rt: HostRuntime) -> Result<(), Fail> {
+    let rows = [
+        ("$(D)/f", 4_095, ""),
+        ("$(D)/f", 4_096, "kconf: x/f4095:0: K01\n"),
+        ("$(D)/f", 4_097, "kconf: x/f4095:0: K01\n"),
+    ];
+    for (before, count, want) in rows {
+        let kconfig = sourcing(rt.alloc(), before, count)?;
+        let (outcome, _) = run_many(rt.alloc(), kconfig.as_str(), "");
+        assert_eq!(rt; outcome.errors.as_slice(), want.as_bytes(), "at {count}");
+        assert_eq!(rt; outcome.status == 0, want.is_empty(), "at {count}");
+    }
+    Ok(())
+}
+
+#[test]
+fn files_that_are_only_named_take_no_room(rt: HostRuntime) -> Result<(), Fail> {
+    // A help text names as many files as there may be, and they are there.
+    let mut kconfig = String::from_str(rt.alloc(), "config A\nbool \"a\"\nhelp\n")?;
+    let named = sourcing(rt.alloc(), "named", 4_096)?;
+    for line in named.lines() {
+        kconfig.push_str("  ")?;
+        kconfig.push_str(line)?;
+        kconfig.push('\n')?;
+    }
+    let sources = sourcing(rt.alloc(), "f", 1_000)?;
+    kconfig.push_str(sources.as_str())?;
+    let (outcome, wanted) = run_many(rt.alloc(), kconfig.as_str(), "");
+    assert_eq!(rt; outcome.errors.as_slice(), b"".as_slice());
+    assert_eq!(rt;
+        outcome.output.as_slice(),
+        b"# CONFIG_A is not set\n".as_slice()
+    );
+    // The top file, and the first for which there was no room.
+    assert_eq!(rt; wanted, 2);
+    Ok(())
+}

@@ -1,0 +1,25 @@
+//! The tests of the program over folders and streams in memory, and of the files of the system.
+//!
+//! A crate with tests is proved twice, with them and without. As they stand here, kc_program is proved once.
+#![tactic(auto)]
+
+#[cfg(test)]
+mod ahead;
+#[cfg(test)]
+mod commands;
+#[cfg(test)]
+mod faults;
+#[cfg(test)]
+mod files;
+#[cfg(test)]
+mod flushes;
+#[cfg(test)]
+mod running;
+#[cfg(test)]
+mod system_files;
+#[cfg(test)]
+mod targets;
+#[cfg(test)]
+mod variables;
+#[cfg(test)]
+mod words;

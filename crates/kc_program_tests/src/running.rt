@@ -1,0 +1,93 @@
+//! Runs of the program over files and streams in memory.
+
+use kc_program::{Folder, FolderFault, program};
+use std::alloc::Global;
+use std::io::{self, Error, ErrorKind, Read, Write};
+
+// Files in memory, each as its path and its bytes.
+#[derive(Drop)]
+pub(crate) struct MemoryFolder<'a> {
+    pub(crate) files: &'a [(&'a str, &'a [u8])],
+}
+
+impl Folder for MemoryFolder<'_> {
+    fn read_bytes(&self, alloc: Global, path: &str) -> Result<Vec<u8>, FolderFault> {
+        for (name, bytes) in self.files {
+            if *name == path {
+                return bytes.to_vec(alloc).map_err(|_| FolderFault::NoMemory);
+            }
+        }
+        Err(FolderFault::CannotRead)
+    }
+
+    fn read_plain(&self, alloc: Global, path: &str) -> Result<Vec<u8>, FolderFault> {
+        self.read_bytes(alloc, path)
+    }
+}
+
+// Fails at each read.
+#[derive(Drop)]
+pub(crate) struct FailingReader {}
+
+impl Read for FailingReader {
+    fn read(&mut self, _buf: &mut [u8]) -> io::Result<usize> {
+        Err(Error::from(ErrorKind::Other))
+    }
+}
+
+// Fails at each write.
+#[derive(Drop)]
+pub(crate) struct FailingWriter {}
+
+impl Write for FailingWriter {
+    fn write(&mut self, _buf: &[u8]) -> io::Result<usize> {
+        Err(Error::from(ErrorKind::Other))
+    }
+
+    fn flush(&mut self) -> io::Result<()> {
+        Ok(())
+    }
+}
+
+// How a run of the program ended, and what it wrote.
+#[derive(Drop)]
+pub(crate) struct Outcome {
+    pub(crate) status: u8,
+    pub(crate) output: Vec<u8>,
+    pub(crate) errors: Vec<u8>,
+}
+
+// Runs the program on words, files and a stream of commands.
+pub(crate) fn run_program(
+    alloc: Global,
+    words: &[&str],
+    files: &[(&str, &[u8])],
+    commands: &[u8],
+) -> Outcome {
+    run_in(alloc, words, &MemoryFolder { files }, commands)
+}
+
+// Runs the program on words, a folder and a stream of commands.
+pub(crate) fn run_in<F: Folder>(
+    alloc: Global,
+    words: &[&str],
+    folder: &F,
+    commands: &[u8],
+) -> Outcome {
+    let mut input = commands;
+    let mut output = Vec::new(alloc);
+    let mut errors = Vec::new(alloc);
+    let status = program(alloc, words, folder, &mut input, &mut output, &mut errors);
+    Outcome {
+        status,
+        output,
+        errors,
+    }
+}
+
+// Runs `session Kconfig -` on the text of the Kconfig.
+pub(crate) fn run_session(alloc: Global, kconfig: &[u8], commands: &[u8]) -> Outcome {
+    let words = ["kconf", "session", "Kconfig", "-"];
+    let files = [("Kconfig", kconfig)];
+    run_program(alloc, words.as_slice(), files.as_slice(), commands)
+}
