@@ -15,6 +15,7 @@ import kconfiglib
 ROUNDS = 11
 EDITS = 400
 SHOWS = 10_000
+STREAM_TURNS = 40
 program, work, *words = sys.argv[1:]
 
 
@@ -82,6 +83,31 @@ class Library:
         return time.perf_counter() - begin
 
 
+def edits_of(names, turn):
+    """The values that the symbols get in a round, y and n by turns, and the commands that set and show them."""
+    values = ["ny"[(turn + at) % 2] for at in range(EDITS)]
+    lines = (line for name, value in zip(names, values) for line in (f"set {name} {value}", f"show {name}"))
+    return values, list(lines)
+
+
+def time_of_stream(folder, commands):
+    """How long a session takes for the commands of a file, with its replies in another."""
+    stream, replies = os.path.join(work, "stream"), os.path.join(work, "replies")
+    with open(stream, "w") as file:
+        file.writelines(f"{command}\n" for command in commands)
+    begin = time.perf_counter()
+    with open(stream) as source, open(replies, "w") as target:
+        subprocess.run([program, "session", "Kconfig", "-", *words], cwd=folder, stdin=source, stdout=target, check=True)
+    return time.perf_counter() - begin
+
+
+def edits_of_stream(folder, names):
+    """The time that so many edits, each with `show`, add to a session, without pipes and who reads them."""
+    edits = [line for turn in range(STREAM_TURNS) for line in edits_of(names, turn)[1]]
+    times = [time_of_stream(folder, ["config", *edits]) - time_of_stream(folder, ["config"]) for _ in range(ROUNDS)]
+    return [each / STREAM_TURNS for each in times]
+
+
 def report(name, over, under, most):
     """Prints a ratio of medians in milliseconds, and says whether it is kept."""
     left, right = statistics.median(over), statistics.median(under)
@@ -97,8 +123,7 @@ def against_kconfiglib():
     library_firsts.append(library.write())
     names = library.names()
     for turn in range(ROUNDS):
-        values = ["ny"[(turn + at) % 2] for at in range(EDITS)]
-        commands = [line for name, value in zip(names, values) for line in (f"set {name} {value}", f"show {name}")]
+        values, commands = edits_of(names, turn)
         shows.append(session.ask(commands))
         library_shows.append(library.edit_and_show(names, values))
         name, value = names[turn], "ny"[turn % 2]
@@ -107,7 +132,9 @@ def against_kconfiglib():
     shown = session.ask([f"show {names[at % EDITS]}" for at in range(SHOWS)])
     session.end()
     print(f"{SHOWS} show commands: {shown / SHOWS * 1e6:.1f} microseconds each")
-    kept = report(f"{EDITS} edits, each with show", shows, library_shows, 0.2)
+    streamed = edits_of_stream(folder, names)
+    kept = report(f"{EDITS} edits, each with show, of a stream in a file", streamed, library_shows, 0.2)
+    kept &= report(f"{EDITS} edits, each with show, through pipes", shows, library_shows, 0.2)
     kept &= report("an edit with config", configs, library_configs, 0.2)
     return kept & report("the first config", firsts, library_firsts, 0.2)
 
