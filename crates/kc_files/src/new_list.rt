@@ -209,9 +209,7 @@ fn push_entries(
         ≡ string_bytes out.old ++ new_text_of tree.now user.now prefix.now) }
 {
     for entry in tree.entries() {
-        push_entry(
-            alloc, out, tree, user, prefix, conditions, values, *entry,
-        )?;
+        push_entry(alloc, out, tree, user, prefix, conditions, values, *entry)?;
     }
     Ok(())
 }

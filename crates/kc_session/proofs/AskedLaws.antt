@@ -1,20 +1,19 @@
 -- What is kept once the nodes of symbols or of choices were asked, one after the other.
-use Rattle.std.proofs.Common.{◌≡◌, ℕ, zero, suc, ◌+◌, ◌-◌, ◌*◌, ◌<◌, ◌≤◌, List, [], ◌∷◌, Option, Result, Ok, Err, OnOk, map, length, get_or, refl, sym, ◌∙◌, subst, ⊎_elim, arith}
+use Rattle.std.proofs.Common.{◌≡◌, ℕ, zero, suc, ◌+◌, ◌-◌, ◌*◌, ◌<◌, ◌≤◌, List, [], ◌∷◌, Option, Result, Ok, Err, OnOk, map, length, get_or, refl, sym, ◌∙◌, subst, arith}
 use Rattle.std.specs.List.{Contains, range_with_len}
-use Rattle.std.proofs.lemmas.Bool.{cases_eq, cases_lt}
 use Rattle.std.proofs.lemmas.List.FromFn.{get_or-range_with_len, length-range_with_len}
 use Rattle.kc_statement.specs.declared.id.SymId.{SymId}
 use Rattle.kc_outline.specs.declared.id.ChoiceId.{ChoiceId}
 use Rattle.kc_outline.specs.TreeValue.{TreeValue}
 use Rattle.kc_tree.specs.declared.node.Node.{Node}
-use Rattle.kc_tree.specs.declared.node.Node.TheVariants.{Vis, Val, Mode, Sel}
+use Rattle.kc_tree.specs.declared.node.Node.TheVariants.{Vis, Val, Sel}
 use Rattle.kc_tree.specs.Nodes.{IsNodeOf, all_nodes, node_at, node_count, number_of}
-use Rattle.kc_tree.proofs.NodeNumbers.{Contains-at, Contains-from_at, at_below, node_in-number_in, number_below, same_node}
+use Rattle.kc_tree.proofs.NodeNumbers.{Contains-at, Contains-from_at, at_below, node_in-number_in, number_below}
 use Rattle.kc_value.specs.declared.value.Value.{Value}
 use Rattle.kc_value.specs.Assignment.{assignment_of}
-use Rattle.kc_value.specs.Kept.{Fills, IsClosed, IsKept}
+use Rattle.kc_value.specs.Kept.{IsKept}
 use Rattle.kc_value.specs.Solution.{AreSolved, solution}
-use Rattle.kc_value.proofs.KeptLaws.{fills_again, fills_nothing, fills_wider, kept_after, mode_kept, visibility_kept}
+use Rattle.kc_value.proofs.KeptLaws.{fills_again, fills_nothing, fills_wider, kept_after, visibility_kept}
 use Rattle.kc_value.proofs.KeptReading.{kept_right}
 use Rattle.kc_session.specs.Keeping.{choice_nodes, symbol_nodes}
 use Rattle.kc_session.specs.KeptResolver.{AreAllKept, Asked, IsResolving, ResolverState}

@@ -3,6 +3,7 @@ ghost use Rattle.std.specs.Prelude.{◌≡◌, ℕ, List, ◌++◌, OnOk, OnErr,
 ghost use Rattle.std.specs.Io.KnownBytes.{Appends};
 ghost use Rattle.std.specs.Option.{option_copied};
 ghost use Rattle.kc_session.specs.Output.{WritesPart};
+ghost use Rattle.kc_session.specs.declared.command.Reply.TheVariants.{Done};
 ghost use Rattle.kc_session.specs.Effect.{IsOutcome};
 ghost use Rattle.kc_session.specs.EvaluationBound.{IsBounded};
 ghost use Rattle.kc_session.specs.HeldBody.{GivesBody, body_held, joined};
@@ -20,6 +21,7 @@ use crate::line::LineBuffer;
 use crate::session::Session;
 use crate::writing::{append_all, write_all_of};
 use kc_files::Load;
+use kc_text::Text;
 use std::io::Write;
 
 /// Does a command of the stream, from the text of its line, which is `None` where the line is too long, and from its body.
@@ -59,18 +61,39 @@ fn reply_to_load(load: Load, body: &BodyBuffer, session: &mut Session) -> Reply
 /// `IoFault::Write` where a write or the flush failed, or a write took no byte. A beginning of the reply is
 /// written then.
 #[tactic(auto, unfolding(crate::specs::Replies::reply_bytes))]
-fn write_reply<W: Write>(writer: &mut W, reply: &Reply) -> Result<(), IoFault>
-    ensures ok { OnOk result (Appends (W.contents writer.old) (W.contents writer.new) (reply_bytes reply.now)) }
-    ensures err { OnErr result (WritesPart (W.contents writer.old) (W.contents writer.new) (reply_bytes reply.now)) }
+fn write_reply<W: Write>(writer: &mut W, reply: Reply) -> Result<(), IoFault>
+    ensures ok { OnOk result (Appends (W.contents writer.old) (W.contents writer.new) (reply_bytes reply)) }
+    ensures err { OnErr result (WritesPart (W.contents writer.old) (W.contents writer.new) (reply_bytes reply)) }
     ensures fault { IfErr result (λ fault. fault ≡ IoFault.Write) }
 {
     match reply {
-        Reply::Done(text) => write_two(writer, text.as_str().as_bytes(), b"ok\n"),
+        Reply::Done(text) => write_done(writer, text),
         Reply::Refused(refusal) => write_two(
             writer,
             b"refused ",
             &[b'0' + refusal.number(), b'\n'],
         ),
+    }
+}
+
+/// The most bytes of a text that is put into one piece with the line behind it.
+const MOST_IN_ONE_PIECE: usize = 512;
+
+/// Writes a text with the line `ok` behind it, and flushes the writer. A short text takes one write, since who reads
+/// replies from a pipe wakes for each; where memory for that is refused it takes two, as a longer one does.
+#[tactic(auto, unfolding(crate::specs::Replies::reply_bytes))]
+fn write_done<W: Write>(writer: &mut W, text: Text) -> Result<(), IoFault>
+    ensures ok { OnOk result (Appends (W.contents writer.old) (W.contents writer.new) (reply_bytes (Done text))) }
+    ensures err { OnErr result (WritesPart (W.contents writer.old) (W.contents writer.new) (reply_bytes (Done text))) }
+    ensures fault { IfErr result (λ fault. fault ≡ IoFault.Write) }
+{
+    let mut whole = text.into_string();
+    if whole.len() > MOST_IN_ONE_PIECE {
+        return write_two(writer, whole.as_str().as_bytes(), b"ok\n");
+    }
+    match whole.push_str("ok\n") {
+        Ok(()) => write_all_of(writer, whole.as_str().as_bytes()),
+        Err(_) => write_two(writer, whole.as_str().as_bytes(), b"ok\n"),
     }
 }
 
@@ -98,5 +121,5 @@ pub(crate) fn answer_command<W: Write>(
     ensures fault { IfErr result (λ fault. fault ≡ IoFault.Write) }
 {
     let reply = reply_to_command(line.text(), body, session);
-    write_reply(writer, &reply)
+    write_reply(writer, reply)
 }

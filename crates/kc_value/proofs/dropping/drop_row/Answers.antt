@@ -24,7 +24,7 @@ loop-place-preserved c =
     let next = c.next_to_drop-place-in-loop-place in
     let inside = next.ensures.inside (omega (arith, c.loop-place-test.true)) in
     let dropped = row_next c.args.tree.now c.args.numbers.now now.place c.args.values.now now.values c.drop_for_number.new.values
-        c.args.list.now.items now.list.items c.drop_for_number.new.list.items 0 c.loop-place-test.true c.args.table.now now.invariant.drops c.drop_for_number.ensures.drops in
+    c.args.list.now.items now.list.items c.drop_for_number.new.list.items 0 c.loop-place-test.true c.args.table.now now.invariant.drops c.drop_for_number.ensures.drops in
     record {
       inside = inside;
       drops = row_passed_to c.args.tree.now c.args.table.now c.args.numbers.now c.args.values.now c.drop_for_number.new.values c.args.list.now.items c.drop_for_number.new.list.items

@@ -1,4 +1,4 @@
-use Rattle.std.proofs.Common.{◌≡◌, ◌*◌, ◌∙◌, ℕ, List, length, map, sym, ap}
+use Rattle.std.proofs.Common.{◌≡◌, ◌*◌, ◌∙◌, ℕ, length, map, sym, ap}
 use Rattle.std.specs.List.{range_with_len}
 use Rattle.kc_outline.specs.TreeValue.{TreeValue}
 use Rattle.kc_tree.specs.Nodes.{node_at}

@@ -1,4 +1,4 @@
-use Rattle.std.proofs.Common.{◌≡◌, [], ap, ◌∙◌}
+use Rattle.std.proofs.Common.{◌≡◌, ◌∙◌}
 use Rattle.kc_files.specs.HeaderText.{header_text_of}
 use Rattle.kc_value.specs.Solution.{solution}
 use Rattle.kc_session.proofs.AskedLaws.{all_solved}
