@@ -13,7 +13,7 @@ import sys
 from pathlib import Path
 
 ROOT = Path(__file__).resolve().parent.parent
-CODE = ROOT / "crates" / "kconf" / "src" / "explanations.rt"
+CODE = ROOT / "crates" / "kc_program" / "src" / "explanations.rt"
 DOCUMENT = ROOT / "docs" / "FAULTS.md"
 
 # The tables: the name in the code, the heading above that of the document, the form of a number there, how many.
