@@ -8,8 +8,8 @@
 # median of eleven rounds:
 #
 # - an edit with the `show` of its symbol, 400 of them in one stream, with the same in Kconfiglib: set the value, then
-#   read value, visibility and assignable values: of a stream in a file, which is what the program takes (wanted: at
-#   most 0.2), and through pipes, with what the system and the reader of each reply take besides;
+#   read value, visibility and assignable values (wanted: at most 0.2): of a stream in a file, which is what the program
+#   takes, and through pipes, with what the system and the reader of each reply take besides;
 # - an edit with the whole `config` (at most 0.2);
 # - the first `config` of a session with the first evaluation of all in Kconfiglib (at most 0.2).
 #
