@@ -1,6 +1,6 @@
 -- The values that a symbol shows for some user value of its type.
 use Rattle.std.proofs.Common.{◌≡◌, ◌<◌, Bool, true, false, true≢false, cond, ◌||◌, ◌&&◌, List, [], ◌∷◌, ◌++◌, Option, Some, None, length, if◌then◌else◌, get_or-set_same, refl, sym, ap, ◌∙◌, subst, arith}
-use Rattle.std.specs.Prelude.{is_some, option_and_then}
+use Rattle.std.specs.Prelude.{is_some, option_and_then, unwrap_or}
 use Rattle.std.specs.List.{slice_get, filter, list_any}
 use Rattle.std.specs.Option.{option_map_or}
 use Rattle.kc_statement.specs.declared.id.SymId.{SymId}
@@ -19,13 +19,14 @@ use Rattle.kc_tree.specs.Accepted.{IsAccepted}
 use Rattle.kc_tree.specs.Nodes.{IsNodeOf}
 use Rattle.kc_tree.specs.Uses.{Uses}
 use Rattle.kc_value.specs.declared.value.Value.TheVariants.{Tri as Level}
-use Rattle.kc_statement.specs.Tristate.{is_no}
+use Rattle.kc_statement.specs.Tristate.{greatest, is_no, least}
+use Rattle.kc_value.specs.declared.symbol_value.LineValues.{LineValues}
 use Rattle.kc_value.specs.declared.value.Value.{Value}
 use Rattle.kc_value.specs.Assignment.{Assignment, as_tri, assignment_of}
 use Rattle.kc_value.specs.UserValues.{UserValues, IsUserFor, user_value, with_value}
 use Rattle.kc_value.specs.ChoiceRule.{member_rule}
 use Rattle.kc_value.specs.TextRule.{text_rule}
-use Rattle.kc_value.specs.Rule.{rule, tri_rule, free_rule, symbol_rule}
+use Rattle.kc_value.specs.Rule.{rule, tri_rule, free_rule, symbol_rule, base_value, default_value, direct, has_modules, in_type, reverse_values, user_part}
 use Rattle.kc_value.specs.Assignable.{same_tri, shown_with, values_of_type, values_of, is_shown_with_some, assignable_in}
 use Rattle.kc_value.specs.Solution.{solution, AreSolved}
 use Rattle.kc_value.proofs.Agreement.{rule_agrees}
@@ -118,6 +119,20 @@ module _ (t : TreeValue) (u : UserValues) (a : Assignment) (s : SymId) (sized : 
       ∙ ap (λ b. pushed (is_shown_with_some t u a s Yes) Yes (pushed b Module (pushed b₀ No []))) (e₁ ∙ with_all Module)
       ∙ ap (λ b. pushed (is_shown_with_some t u a s Yes) Yes (pushed (is_shown_with_some t u a s Module) Module (pushed b No []))) (e₀ ∙ with_all No)
       ∙ pushed_all (is_shown_with_some t u a s No) (is_shown_with_some t u a s Module) (is_shown_with_some t u a s Yes)
+
+-- what is shown by the values of the lines is what the rule shows
+pub shown_by_lines : (t : TreeValue) (a : Assignment) (x : SymbolValue) (lines : LineValues) (vis value shown : Tri)
+    → lines.default ≡ default_value t a x → lines.implied ≡ reverse_values t a x.implied → lines.selected ≡ reverse_values t a x.selected
+    → lines.direct ≡ direct t a x → lines.has_modules ≡ has_modules t a x
+    → shown ≡ in_type lines.has_modules (greatest (unwrap_or (user_part vis (Some (TriVal value))) (least (greatest lines.default lines.implied) lines.direct)) lines.selected)
+    → shown ≡ as_tri (tri_rule t a x vis (Some (TriVal value)))
+shown_by_lines t a x lines vis value shown ed ei es er em is =
+    is
+    ∙ ap (λ m. in_type m (greatest (unwrap_or (user_part vis (Some (TriVal value))) (least (greatest lines.default lines.implied) lines.direct)) lines.selected)) em
+    ∙ ap (λ v. in_type (has_modules t a x) (greatest (unwrap_or (user_part vis (Some (TriVal value))) (least (greatest v lines.implied) lines.direct)) lines.selected)) ed
+    ∙ ap (λ v. in_type (has_modules t a x) (greatest (unwrap_or (user_part vis (Some (TriVal value))) (least (greatest (default_value t a x) v) lines.direct)) lines.selected)) ei
+    ∙ ap (λ v. in_type (has_modules t a x) (greatest (unwrap_or (user_part vis (Some (TriVal value))) (least (greatest (default_value t a x) (reverse_values t a x.implied)) v)) lines.selected)) er
+    ∙ ap (λ v. in_type (has_modules t a x) (greatest (base_value t a x vis (Some (TriVal value))) v)) es
 
 -- assignments that agree on what the value of the symbol is computed from show the same
 pub shown_agrees : (t : TreeValue) (u : UserValues) (a b : Assignment) (s : SymId) → ((m : Node) → Uses t (Val s) m → a m ≡ b m)

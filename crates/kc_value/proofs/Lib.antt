@@ -4,6 +4,7 @@ pub mod BlockLemmas
 pub mod BoundsLemmas
 pub mod ChangedLaws
 pub mod ConditionLemmas
+pub mod DefaultLemmas
 pub mod DirtyLaws
 pub mod DropSteps
 pub mod EditLemmas

@@ -1,5 +1,5 @@
 -- The steps of a fill: how far a walk has gone over what a node uses.
-use Rattle.std.proofs.Common.{◌≡◌, ℕ, ◌+◌, ◌-◌, ◌<◌, ◌≤◌, Bool, true, false, List, [], ◌∷◌, ◌++◌, Option, Some, None, IfSome, is_some, length, get_or, slice_set, refl, sym, ◌∙◌, subst, ⊎_elim, true≢false, get_or-set_other, arith}
+use Rattle.std.proofs.Common.{◌≡◌, ℕ, ◌+◌, ◌-◌, ◌<◌, ◌≤◌, Bool, true, false, List, [], ◌∷◌, ◌++◌, Option, Some, None, IfSome, is_some, length, map, get_or, slice_set, refl, sym, ◌∙◌, subst, ⊎_elim, true≢false, get_or-set_other, arith}
 use Rattle.std.specs.List.{Contains}
 use Rattle.std.proofs.lemmas.Bool.{cases_eq, cases_lt}
 use Rattle.std.proofs.lemmas.List.{get_or_default}
@@ -17,8 +17,9 @@ use Rattle.kc_tree.proofs.NodeNumbers.{at_below, number_of-node_at}
 use Rattle.kc_value.specs.declared.filling.Missing.{Missing}
 use Rattle.kc_value.specs.declared.filling.Step.{Step}
 use Rattle.kc_value.specs.declared.value.Value.{Value}
-use Rattle.kc_value.specs.FillWalk.{HasValue, HaveValues, AllHaveValues, IsSettled, AreMarked, IsPassed}
+use Rattle.kc_value.specs.FillWalk.{AreFilled, HasValue, HaveValues, AllHaveValues, IsSettled, AreMarked, IsPassed}
 use Rattle.kc_value.specs.Kept.{IsKept, is_kept}
+use Rattle.kc_value.proofs.SlotLemmas.{marked_is_some}
 
 -- ---- lists of numbers
 -- one more node has a value
@@ -69,6 +70,27 @@ module _ (n : ℕ) (g : List (List ℕ)) (kept : List (Option Value)) where
         (λ (same : i ≡ place). subst (λ k. IsSettled n g kept (get_or numbers k 0)) (sym same) here)
         (λ other. is.before i (omega (arith, below, other)) inside)
         (cases_eq i place);
+    inside = λ above j below inside. absurd (omega (arith, below));
+  }
+
+  -- a number whose mark says that its node has a value is settled
+  marked_node_settled : (filled : List Bool) (k : ℕ) → filled ≡ map is_some kept → length kept ≡ n → get_or filled k false ≡ true → IsSettled n g kept k
+  marked_node_settled filled k is whole h =
+      let one = marked_is_some kept k (subst (λ (xs : List Bool). get_or xs k false ≡ true) is h) in
+      record {
+        node = λ below. one.1;
+        list = λ above. absurd (omega (arith, above, one.0, whole));
+      }
+
+  -- a number that is settled, and those behind it whose marks say that they have values
+  pub passed_to_unfilled : (filled : List Bool) (numbers : List ℕ) (place within to : ℕ) → filled ≡ map is_some kept → length kept ≡ n
+      → IsPassed n g kept numbers place within → IsSettled n g kept (get_or numbers place 0) → AreFilled filled numbers (place + 1) to → IsPassed n g kept numbers to 0
+  passed_to_unfilled filled numbers place within to marks whole is here marked = record {
+    before = λ i below inside.
+        ⊎_elim
+        (λ (h : i < place + 1). (one_more_passed numbers place within is here).before i h inside)
+        (λ h. marked_node_settled filled (get_or numbers i 0) marks whole (marked i h below inside))
+        (cases_lt i (place + 1));
     inside = λ above j below inside. absurd (omega (arith, below));
   }
 

@@ -42,3 +42,7 @@ AreWalked t g walked values = (k q : ℕ) → slice_index_or walked k false ≡ 
 abbrev pub NothingToDrop : TreeValue → List (Option Value) → List ℕ → ℕ → ℕ → Type 0
 NothingToDrop t values numbers from to =
     (i : ℕ) → from ≤ i → i < to → (slice_index_or numbers i 0 < node_count t) × (is_some (slice_index_or values (slice_index_or numbers i 0) None) ≡ false)
+
+-- between two places of a row each number is that of a node that is not marked
+abbrev pub AreUnmarked : List Bool → List ℕ → ℕ → ℕ → Type 0
+AreUnmarked filled numbers from to = (i : ℕ) → from ≤ i → i < to → slice_index_or filled (slice_index_or numbers i 0) true ≡ false

@@ -29,3 +29,7 @@ AreMarked n g kept marks = (k : ℕ) → slice_index_or marks k false ≡ true �
 pub record IsPassed (n : ℕ) (g : List (List ℕ)) (kept : List (Option Value)) (numbers : List ℕ) (place within : ℕ) : Type 0 where
   pub before : (i : ℕ) → i < place → i < length numbers → IsSettled n g kept (slice_index_or numbers i 0)
   pub inside : n ≤ slice_index_or numbers place 0 → HaveValues kept (row g (slice_index_or numbers place 0)) within
+
+-- between two places of a row each number is that of a place that is marked
+abbrev pub AreFilled : List Bool → List ℕ → ℕ → ℕ → Type 0
+AreFilled filled numbers from to = (i : ℕ) → from ≤ i → i < to → i < length numbers → slice_index_or filled (slice_index_or numbers i 0) false ≡ true

@@ -1,11 +1,12 @@
 //! The values that a user can give a symbol with an effect.
 
-ghost use Rattle.std.specs.Prelude.{◌≡◌, [], ◌∷◌, ◌++◌, ◌||◌, ◌&&◌, false, Some, IfOk, OnOk, if◌then◌else◌, filter, is_some};
+ghost use Rattle.std.specs.Prelude.{◌≡◌, [], ◌∷◌, ◌++◌, ◌||◌, ◌&&◌, false, Some, IfOk, OnOk, if◌then◌else◌, filter, is_some, unwrap_or};
 ghost use Rattle.kc_tree.specs.declared.node.Node.{Node};
 ghost use Rattle.kc_tree.specs.declared.node.Node.TheVariants.{Vis, Val};
 ghost use Rattle.kc_statement.specs.declared.symbol_type.SymbolType.TheVariants.{Tristate};
 ghost use Rattle.kc_tree.specs.declared.user_value.UserVal.TheVariants.{Tri as TriVal};
 ghost use Rattle.kc_statement.specs.declared.tri.Tri.TheVariants.{No, Module, Yes};
+ghost use Rattle.kc_statement.specs.Tristate.{greatest, least};
 ghost use Rattle.kc_tree.specs.Accepted.{IsAccepted};
 ghost use Rattle.kc_tree.specs.Nodes.{IsNodeOf};
 ghost use Rattle.kc_tree.specs.SymbolFaults.{is_tri_type};
@@ -13,9 +14,9 @@ ghost use Rattle.kc_tree.specs.Uses.{Uses};
 ghost use Rattle.kc_outline.specs.TreeOf.{same_type};
 ghost use Rattle.kc_outline.specs.TreeValue.{choice_of};
 ghost use Rattle.kc_value.specs.Assignable.{same_tri, is_shown_with_some, assignable_values};
-ghost use Rattle.kc_value.specs.Assignment.{as_tri, assignment_of};
+ghost use Rattle.kc_value.specs.Assignment.{assignment_of};
 ghost use Rattle.kc_value.specs.KnownConditions.{AreRight, AreSharedBy};
-ghost use Rattle.kc_value.specs.Rule.{tri_rule};
+ghost use Rattle.kc_value.specs.Rule.{in_type, user_part};
 ghost use Rattle.kc_value.specs.Solution.{solution, AreSolved};
 ghost use Rattle.kc_value.specs.UserValues.{UserValues, IsUserFor};
 
@@ -24,7 +25,7 @@ use crate::gathering::used_values;
 use crate::known_conditions::KnownConditions;
 use crate::resolver::Resolver;
 use crate::shared_conditions::SharedConditions;
-use crate::symbol_value::tri_value;
+use crate::symbol_value::{LineValues, line_values, shown_tri};
 use crate::value::Value;
 use kc_tree::{Node, SymId, Symbol, SymbolType, Tree, Tri, UserVal};
 use std::alloc::{AllocError, Global};
@@ -39,29 +40,12 @@ pub(crate) fn is_same(left: Tri, right: Tri) -> bool
     }
 }
 
-/// What a symbol of this number shows with a user value, over the values of the nodes that it is computed from.
-fn shown_with(
-    tree: &Tree,
-    id: SymId,
-    symbol: &Symbol,
-    value: Tri,
-    known: KnownConditions<'_>,
-    env: &[Option<Value>],
-) -> Tri
-    requires known { AreRight tree.now env.now known.depends.now known.visible.now known.own.now }
-    ensures { result ≡ as_tri (tri_rule tree.now (assignment_of tree.now env.now) symbol.now
-        (as_tri (assignment_of tree.now env.now (Vis id))) (Some (TriVal value))) }
+/// What a symbol of this visibility shows with a user value; `lines` is what its lines give.
+fn shown_with(lines: LineValues, visibility: Tri, value: Tri) -> Tri
+    ensures { result ≡ in_type lines.has_modules (greatest (unwrap_or (user_part visibility (Some (TriVal value)))
+        (least (greatest lines.default lines.implied) lines.direct)) lines.selected) }
 {
-    let visibility = node_tri(tree, env, Node::Vis(id));
-    tri_value(
-        tree,
-        symbol,
-        visibility,
-        Some(&UserVal::Tri(value)),
-        known,
-        env,
-    )
-    .as_tri()
+    shown_tri(lines, visibility, Some(&UserVal::Tri(value)))
 }
 
 /// Whether a value is among those that are shown with n, with m and with y; m counts for a tristate alone, and a type
@@ -107,9 +91,11 @@ fn shown_values(
     let Some(symbol) = tree.symbols().get(id.0 as usize) else {
         return Ok(values);
     };
-    let with_no = shown_with(tree, id, symbol, Tri::No, known, env);
-    let with_module = shown_with(tree, id, symbol, Tri::Module, known, env);
-    let with_yes = shown_with(tree, id, symbol, Tri::Yes, known, env);
+    let lines = line_values(tree, symbol, known, env);
+    let visibility = node_tri(tree, env, Node::Vis(id));
+    let with_no = shown_with(lines, visibility, Tri::No);
+    let with_module = shown_with(lines, visibility, Tri::Module);
+    let with_yes = shown_with(lines, visibility, Tri::Yes);
     let kind = symbol.kind();
     push_if(
         &mut values,

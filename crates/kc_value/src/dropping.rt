@@ -1,12 +1,12 @@
 //! Dropping what is computed from some nodes.
 
-ghost use Rattle.std.specs.Prelude.{◌≡◌, ◌+◌, ◌<◌, ◌≤◌, ℕ, false, [], ◌∷◌, Contains, List, Option, length, map, slice_index_or, vec_capacity};
+ghost use Rattle.std.specs.Prelude.{◌≡◌, ◌+◌, ◌<◌, ◌≤◌, ℕ, false, true, [], ◌∷◌, Contains, List, Option, length, map, slice_index_or, vec_capacity};
 ghost use Rattle.kc_graph.specs.Shared.{IsShared, stands_for, whole_row};
 ghost use Rattle.kc_tree.specs.declared.node.Node.{Node};
 ghost use Rattle.kc_tree.specs.Nodes.{IsNodeOf, node_at, node_count};
 ghost use Rattle.kc_value.specs.declared.value.Value.{Value};
 ghost use Rattle.kc_value.specs.Dirty.{Drops};
-ghost use Rattle.kc_value.specs.DropWalk.{AreWalked, DropsAll, IsDropping, NothingToDrop};
+ghost use Rattle.kc_value.specs.DropWalk.{AreUnmarked, AreWalked, DropsAll, IsDropping};
 ghost use Rattle.kc_value.specs.Kept.{IsClosed, kept_count};
 
 use crate::kept_slots::KeptSlots;
@@ -71,18 +71,28 @@ fn drop_for_number(
     }
 }
 
+/// Whether the node of a number has a value, by the marks of the nodes. A number past them is that of a shared list, which
+/// has something to drop until it was gone over.
+fn may_drop(filled: &[bool], number: usize) -> bool
+    ensures { result ≡ slice_index_or filled.now number true }
+{
+    match filled.get(number) {
+        Some(is_filled) => *is_filled,
+        None => true,
+    }
+}
+
 /// The place of the first number of a row, from a place on, that has something to drop: that of a node with a value, or of a
-/// shared list. Most numbers have nothing, since an edit comes to nodes that were dropped before.
-fn next_to_drop(tree: &Tree, values: &KeptSlots, numbers: &[u32], from: usize) -> usize
+/// shared list. Most numbers have nothing, since an edit comes to nodes that were dropped before, so that this reads the
+/// marks of the nodes alone.
+fn next_to_drop(filled: &[bool], numbers: &[u32], from: usize) -> usize
     ensures from { from ≤ result }
     ensures inside { from ≤ length numbers.now → result ≤ length numbers.now }
-    ensures nothing { NothingToDrop tree.now values.now numbers.now from result }
+    ensures nothing { AreUnmarked filled.now numbers.now from result }
 {
-    let count = tree.node_count();
     let mut place = from;
     while place < numbers.len() {
-        let number = numbers[place] as usize;
-        if number >= count || values.has(number) {
+        if may_drop(filled, numbers[place] as usize) {
             return place;
         }
         place += 1;
@@ -108,10 +118,10 @@ fn drop_row(
     ensures walked { AreWalked tree.now table.now walked.new.items values.new }
     ensures capacity { vec_capacity list.old ≤ vec_capacity list.new }
 {
-    let mut place = next_to_drop(tree, values, numbers, 0);
+    let mut place = next_to_drop(values.filled(), numbers, 0);
     while place < numbers.len() {
         drop_for_number(tree, table, walked, values, list, numbers[place] as usize);
-        place = next_to_drop(tree, values, numbers, place + 1);
+        place = next_to_drop(values.filled(), numbers, place + 1);
     }
 }
 

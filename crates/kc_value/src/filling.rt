@@ -8,14 +8,14 @@ ghost use Rattle.kc_tree.specs.declared.node.Node.{Node};
 ghost use Rattle.kc_tree.specs.Accepted.{IsAccepted, IsSharedTable};
 ghost use Rattle.kc_tree.specs.Nodes.{IsNodeOf, node_at, node_count, number_of};
 ghost use Rattle.kc_tree.specs.Uses.{Uses};
-ghost use Rattle.kc_value.specs.FillWalk.{HaveValues, AllHaveValues, IsSettled, AreMarked, IsPassed};
+ghost use Rattle.kc_value.specs.FillWalk.{AreFilled, HaveValues, AllHaveValues, IsSettled, AreMarked, IsPassed};
 ghost use Rattle.kc_value.specs.Kept.{IsKept, AreKept, Fills};
 ghost use Rattle.kc_value.specs.KnownConditions.{AreKnown};
 
 use crate::kept_slots::KeptSlots;
 use crate::kept_values::KeptValues;
 use crate::known_conditions::FoundConditions;
-use crate::marks::{is_marked, mark, no_marks};
+use crate::marks::{has_mark, is_marked, mark, no_marks};
 use crate::user::User;
 use kc_graph::Rows;
 use kc_tree::{Node, Tree};
@@ -92,6 +92,22 @@ fn missing_for(
     missing
 }
 
+/// The place of the first number of a row, from a place on, that is not that of a node with a value. Most numbers are, so
+/// that this reads the marks of the nodes alone.
+fn next_to_fill(filled: &[bool], numbers: &[u32], from: usize) -> usize
+    ensures from { from ≤ result }
+    ensures passed { AreFilled filled.now numbers.now from result }
+{
+    let mut place = from;
+    while place < numbers.len() {
+        if !has_mark(filled, numbers[place] as usize) {
+            return place;
+        }
+        place += 1;
+    }
+    place
+}
+
 /// The first node without a value of those that a step's node uses, from where the step is. The step goes on to there.
 fn missing_from(
     values: &KeptSlots,
@@ -102,6 +118,7 @@ fn missing_from(
     step: &mut Step,
 ) -> Option<u32>
     requires shared { IsShared count table.now }
+    requires whole { length values.now ≡ count }
     requires marked { AreMarked count table.now values.now marks.old.items }
     requires passed { IsPassed count table.now values.now numbers.now step.old.place step.old.within }
     ensures node { step.new.node ≡ step.old.node }
@@ -111,13 +128,14 @@ fn missing_from(
     ensures used { IfSome result (λ m. (k : ℕ) × Contains numbers.now k × Contains (stands_for count table.now k) m) }
     ensures settled { IfNone result ((i : ℕ) → i < length numbers.now → IsSettled count table.now values.now (slice_index_or numbers.now i 0)) }
 {
+    let filled = values.filled();
     while step.place < numbers.len() {
         let number = numbers[step.place];
         if let Some(missing) = missing_for(values, marks, count, table, number, step.within) {
             step.within = missing.place;
             return Some(missing.number);
         }
-        step.place += 1;
+        step.place = next_to_fill(filled, numbers, step.place + 1);
         step.within = 0;
     }
     None

@@ -1,6 +1,6 @@
 //! A value or none for each node, by number.
 
-ghost use Rattle.std.specs.Prelude.{◌≡◌, ◌<◌, IfOk, None, Some, is_some, length, replicate, slice_index_or, slice_set};
+ghost use Rattle.std.specs.Prelude.{◌≡◌, ◌<◌, IfOk, None, Some, is_some, length, map, replicate, slice_index_or, slice_set};
 
 use crate::marks::unmarked;
 use crate::slots::empty_slots;
@@ -51,6 +51,13 @@ impl KeptSlots {
         ensures { result.items ≡ self }
     {
         self.values
+    }
+
+    /// By number, whether there is a value.
+    pub(crate) fn filled(&self) -> &[bool]
+        ensures { result.now ≡ map is_some self.now }
+    {
+        self.filled.as_slice()
     }
 
     /// Whether there is a value for a number.

@@ -24,13 +24,20 @@ pub(crate) fn unmarked(alloc: Global, count: usize) -> Result<Vec<bool>, AllocEr
 }
 
 /// Whether a place is marked; one that is not there is not.
-pub(crate) fn is_marked(marks: &Vec<bool>, place: usize) -> bool
-    ensures { result ≡ slice_index_or marks.now.items place false }
+pub(crate) fn has_mark(marks: &[bool], place: usize) -> bool
+    ensures { result ≡ slice_index_or marks.now place false }
 {
     match marks.get(place) {
         Some(mark) => *mark,
         None => false,
     }
+}
+
+/// The same, of a vector of marks.
+pub(crate) fn is_marked(marks: &Vec<bool>, place: usize) -> bool
+    ensures { result ≡ slice_index_or marks.now.items place false }
+{
+    has_mark(marks.as_slice(), place)
 }
 
 /// Marks a place, if it is there.

@@ -1,6 +1,6 @@
 //! The visibility and the value of a symbol.
 
-ghost use Rattle.std.specs.Prelude.{◌≡◌, IfOk, not, slice_get, option_and_then, find, filter_map};
+ghost use Rattle.std.specs.Prelude.{◌≡◌, IfOk, not, slice_get, option_and_then, find, filter_map, unwrap_or};
 ghost use Rattle.std.specs.Option.{option_copied, option_map_or, option_or};
 ghost use Rattle.kc_statement.specs.declared.tri.Tri.TheVariants.{No};
 ghost use Rattle.kc_statement.specs.Tristate.{least, greatest, is_no};
@@ -10,7 +10,7 @@ ghost use Rattle.kc_value.specs.Conditions.{dependency, prompt_value};
 ghost use Rattle.kc_value.specs.ExprValue.{own_condition};
 ghost use Rattle.kc_value.specs.KnownConditions.{AreRight};
 ghost use Rattle.kc_value.specs.Defaults.{is_active};
-ghost use Rattle.kc_value.specs.Rule.{in_bool, has_modules, in_type, visibility, definition_default, reverse_value, reverse_values, direct, user_part, tri_rule, symbol_rule};
+ghost use Rattle.kc_value.specs.Rule.{in_bool, has_modules, in_type, visibility, definition_default, default_value, reverse_value, reverse_values, direct, user_part, tri_rule, symbol_rule};
 
 use crate::choice_value::member_value;
 use crate::conditions::{dependency_tri, mode_tri, prompt_tri, shared_dependency_tri};
@@ -137,6 +137,9 @@ fn definition_default_tri(
     requires { depends ≡ dependency tree.now (assignment_of tree.now env.now) definition.now }
     ensures { result ≡ definition_default tree.now (assignment_of tree.now env.now) definition.now }
 {
+    if depends.is_no() {
+        return None;
+    }
     let default = first_active_default(tree, definition, depends, env)?;
     let condition = default_condition_tri(tree, default, depends, env);
     Some(tri(tree, &default.value, env).and(condition))
@@ -253,9 +256,59 @@ fn user_tri(visibility: Tri, user: Option<&UserVal>) -> Option<Tri>
     }
 }
 
+/// What the lines of a bool or tristate symbol give it, whatever its visibility is and the user chose.
+#[derive(Clone, Copy)]
+pub(crate) struct LineValues {
+    /// The value of the first active default, n without.
+    pub default: Tri,
+    /// What `imply` lines give.
+    pub implied: Tri,
+    /// What `select` lines give.
+    pub selected: Tri,
+    /// The greatest of the dependencies of its definitions.
+    pub direct: Tri,
+    /// Whether the symbol takes m.
+    pub has_modules: bool,
+}
+
+/// What the lines of a symbol give it.
+pub(crate) fn line_values(
+    tree: &Tree,
+    symbol: &Symbol,
+    known: KnownConditions<'_>,
+    env: &[Option<Value>],
+) -> LineValues
+    requires known { AreRight tree.now env.now known.depends.now known.visible.now known.own.now }
+    ensures default { result.default ≡ default_value tree.now (assignment_of tree.now env.now) symbol.now }
+    ensures implied { result.implied ≡ reverse_values tree.now (assignment_of tree.now env.now) symbol.now.implied }
+    ensures selected { result.selected ≡ reverse_values tree.now (assignment_of tree.now env.now) symbol.now.selected }
+    ensures direct { result.direct ≡ direct tree.now (assignment_of tree.now env.now) symbol.now }
+    ensures modules { result.has_modules ≡ has_modules tree.now (assignment_of tree.now env.now) symbol.now }
+{
+    let defined = definitions_of(tree, symbol, known, env);
+    LineValues {
+        default: defined.default.unwrap_or(Tri::No),
+        implied: reverses_tri(tree, symbol.implied(), known, env),
+        selected: reverses_tri(tree, symbol.selected(), known, env),
+        direct: defined.direct,
+        has_modules: has_modules(tree, symbol, env),
+    }
+}
+
+/// What a bool or tristate symbol shows: what the user chose where it is visible, else its default or what is implied,
+/// within its dependencies, and at least what is selected.
+pub(crate) fn shown_tri(lines: LineValues, visibility: Tri, user: Option<&UserVal>) -> Tri
+    ensures { result ≡ in_type lines.has_modules (greatest (unwrap_or (user_part visibility (option_copied user.entry))
+        (least (greatest lines.default lines.implied) lines.direct)) lines.selected) }
+{
+    let otherwise = lines.default.or(lines.implied).and(lines.direct);
+    let base = user_tri(visibility, user).unwrap_or(otherwise);
+    in_type(lines.has_modules, base.or(lines.selected))
+}
+
 /// The value of a bool or tristate symbol (kconfig-language.rst, "Menu attributes", and Kconfiglib, "tri_value"), and
 /// whether the `.config` has its line.
-pub(crate) fn tri_value(
+fn tri_value(
     tree: &Tree,
     symbol: &Symbol,
     visibility: Tri,
@@ -266,17 +319,12 @@ pub(crate) fn tri_value(
     requires known { AreRight tree.now env.now known.depends.now known.visible.now known.own.now }
     ensures { result ≡ tri_rule tree.now (assignment_of tree.now env.now) symbol.now visibility (option_copied user.entry) }
 {
-    let defined = definitions_of(tree, symbol, known, env);
-    let default = defined.default.unwrap_or(Tri::No);
-    let implied = reverses_tri(tree, symbol.implied(), known, env);
-    let selected = reverses_tri(tree, symbol.selected(), known, env);
-    let otherwise = default.or(implied).and(defined.direct);
-    let base = user_tri(visibility, user).unwrap_or(otherwise);
-    let shown = in_type(has_modules(tree, symbol, env), base.or(selected));
+    let lines = line_values(tree, symbol, known, env);
+    let shown = shown_tri(lines, visibility, user);
     let written = !visibility.is_no()
-        || !default.is_no()
-        || (!implied.is_no() && !defined.direct.is_no())
-        || !selected.is_no();
+        || !lines.default.is_no()
+        || (!lines.implied.is_no() && !lines.direct.is_no())
+        || !lines.selected.is_no();
     Value::Shown(UserVal::Tri(shown), written)
 }
 
