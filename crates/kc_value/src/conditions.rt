@@ -7,6 +7,7 @@ ghost use Rattle.kc_tree.specs.Nodes.{IsNodeOf};
 ghost use Rattle.kc_tree.specs.declared.node.Node.{Node};
 ghost use Rattle.kc_value.specs.Assignment.{Assignment, assignment_of};
 ghost use Rattle.kc_outline.specs.TreeValue.{blocks_from, blocks_around};
+ghost use Rattle.kc_statement.specs.Tristate.{least};
 ghost use Rattle.kc_value.specs.ExprValue.{conditions_value};
 ghost use Rattle.kc_value.specs.KnownConditions.{AreRight, AreSharedBy};
 ghost use Rattle.kc_value.specs.Conditions.{blocks_depend, blocks_visible, dependency, prompt_value, mode_around, choice_prompt_value, menu_value, comment_value, menu_condition, comment_condition};
@@ -88,8 +89,8 @@ fn own_visible_tri(
     }
 }
 
-/// What the prompts inside some blocks depend on besides: those from one outwards, so many at most.
-fn visible_within(
+/// What the prompts inside some blocks depend on by their lines of both kinds: those from one outwards, so many at most.
+fn prompt_within(
     tree: &Tree,
     limit: usize,
     innermost: Option<BlockId>,
@@ -97,7 +98,8 @@ fn visible_within(
     env: &[Option<Value>],
 ) -> Tri
     requires known { AreRight tree.now env.now known.depends.now known.visible.now known.own.now }
-    ensures { result ≡ blocks_visible tree.now (assignment_of tree.now env.now) (blocks_from tree.now.blocks limit innermost) }
+    ensures { result ≡ least (blocks_depend tree.now (assignment_of tree.now env.now) (blocks_from tree.now.blocks limit innermost))
+        (blocks_visible tree.now (assignment_of tree.now env.now) (blocks_from tree.now.blocks limit innermost)) }
 {
     let mut least = Tri::Yes;
     let mut next = innermost;
@@ -108,7 +110,8 @@ fn visible_within(
         if least.is_no() {
             return Tri::No;
         }
-        least = least.and(own_visible_tri(tree, next, block, known, env));
+        let depends = own_depends_tri(tree, next, block, known, env);
+        least = least.and(depends.and(own_visible_tri(tree, next, block, known, env)));
         next = block.parent();
     }
     least
@@ -127,17 +130,18 @@ pub(crate) fn blocks_depend_tri(
     depend_within(tree, MOST_OPEN_BLOCKS, innermost, known, env)
 }
 
-/// What the prompts inside the blocks around a place depend on besides.
-pub(crate) fn blocks_visible_tri(
+/// What the prompts inside the blocks around a place depend on: what all inside does, and the `visible if` lines.
+fn blocks_prompt_tri(
     tree: &Tree,
     innermost: Option<BlockId>,
     known: KnownConditions<'_>,
     env: &[Option<Value>],
 ) -> Tri
     requires known { AreRight tree.now env.now known.depends.now known.visible.now known.own.now }
-    ensures { result ≡ blocks_visible tree.now (assignment_of tree.now env.now) (blocks_around tree.now innermost) }
+    ensures { result ≡ least (blocks_depend tree.now (assignment_of tree.now env.now) (blocks_around tree.now innermost))
+        (blocks_visible tree.now (assignment_of tree.now env.now) (blocks_around tree.now innermost)) }
 {
-    visible_within(tree, MOST_OPEN_BLOCKS, innermost, known, env)
+    prompt_within(tree, MOST_OPEN_BLOCKS, innermost, known, env)
 }
 
 /// What the own `depends on` lines of a definition of this number say.
@@ -201,6 +205,7 @@ pub(crate) fn dependency_tri(
 }
 
 /// The condition of a definition's prompt, n without one.
+#[tactic(auto, using(crate::proofs::BlockLemmas::least_least))]
 pub(crate) fn prompt_tri(
     tree: &Tree,
     definition: &Definition,
@@ -217,11 +222,11 @@ pub(crate) fn prompt_tri(
     if own.is_no() {
         return Tri::No;
     }
-    let depends = dependency_tri(tree, definition, known, env);
-    if depends.is_no() {
+    let lines = conditions_tri(tree, definition.depends(), env);
+    if lines.is_no() {
         return Tri::No;
     }
-    own.and(depends.and(blocks_visible_tri(tree, definition.block(), known, env)))
+    own.and(lines.and(blocks_prompt_tri(tree, definition.block(), known, env)))
 }
 
 /// The condition of a menu over the values of the nodes in `env`.
@@ -276,8 +281,7 @@ pub(crate) fn choice_prompt_tri(
         return Tri::No;
     };
     let own = own_condition_tri(tree, prompt.condition.as_ref(), env);
-    let depends = blocks_depend_tri(tree, Some(choice.block()), known, env);
-    own.and(depends.and(blocks_visible_tri(tree, Some(choice.block()), known, env)))
+    own.and(blocks_prompt_tri(tree, Some(choice.block()), known, env))
 }
 
 /// The condition of a menu: its own `depends on` and `visible if` lines, and what the blocks around it depend on, but
