@@ -15,6 +15,7 @@ import kconfiglib
 ROUNDS = 11
 EDITS = 400
 SHOWS = 10_000
+STREAM_ROUNDS = 3
 STREAM_TURNS = 40
 program, work, *words = sys.argv[1:]
 
@@ -108,6 +109,13 @@ def edits_of_stream(folder, names):
     return [each / STREAM_TURNS for each in times]
 
 
+def edits_of_library(library, names):
+    """The time of the same edits in Kconfiglib, which also begins with the value of each symbol."""
+    library.write()
+    times = [library.edit_and_show(names, edits_of(names, turn)[0]) for turn in range(STREAM_TURNS)]
+    return sum(times) / STREAM_TURNS
+
+
 def report(name, over, under, most):
     """Prints a ratio of medians in milliseconds, and says whether it is kept."""
     left, right = statistics.median(over), statistics.median(under)
@@ -133,7 +141,8 @@ def against_kconfiglib():
     session.end()
     print(f"{SHOWS} show commands: {shown / SHOWS * 1e6:.1f} microseconds each")
     streamed = edits_of_stream(folder, names)
-    kept = report(f"{EDITS} edits, each with show, of a stream in a file", streamed, library_shows, 0.2)
+    library_streamed = [edits_of_library(library, names) for _ in range(STREAM_ROUNDS)]
+    kept = report(f"{EDITS} edits, each with show, of a stream in a file", streamed, library_streamed, 0.2)
     kept &= report(f"{EDITS} edits, each with show, through pipes", shows, library_shows, 0.2)
     kept &= report("an edit with config", configs, library_configs, 0.2)
     return kept & report("the first config", firsts, library_firsts, 0.2)

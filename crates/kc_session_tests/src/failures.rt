@@ -1,6 +1,6 @@
 //! Whole streams, where each call fails in turn.
 use crate::failing::{FailingReader, FailingWriter, NEVER};
-use crate::serving::serve;
+use crate::serving::{serve, want};
 use kc_session::IoFault;
 use kc_tables::{rows, two_fields};
 use std::alloc::Global;
@@ -59,9 +59,9 @@ fn a_failed_read_leaves_the_replies_to_whole_lines(rt: HostRuntime) -> Result<()
         let reader = FailingReader::new(stream.as_bytes(), 1, call as u64);
         let writer = FailingWriter::new(rt.alloc(), 7, NEVER, NEVER);
         let served = serve(rt.alloc(), TWO_BOOLS, reader, writer, "")?;
-        let want = first_replies(rt.alloc(), lines_in(stream.as_str(), call))?;
-        assert_eq!(rt; served.result, Err(IoFault::Read), "at call {call}");
-        assert_eq!(rt; served.taken.as_slice(), want.as_bytes(), "at call {call}");
+        let replies = first_replies(rt.alloc(), lines_in(stream.as_str(), call))?;
+        let read = Err(IoFault::Read);
+        want(rt.alloc(), &served, read, replies.as_str(), "", call)?;
     }
     Ok(())
 }
@@ -74,13 +74,8 @@ fn a_read_that_fails_within_a_body_loads_nothing(rt: HostRuntime) -> Result<(), 
         let reader = FailingReader::new(stream.as_bytes(), 1, call as u64);
         let writer = FailingWriter::new(rt.alloc(), 7, NEVER, NEVER);
         let served = serve(rt.alloc(), TWO_BOOLS, reader, writer, "show A\n")?;
-        assert_eq!(rt; served.result, Err(IoFault::Read), "at call {call}");
-        assert_eq!(rt; served.taken.as_slice(), b"".as_slice(), "at call {call}");
-        assert_eq!(rt;
-            served.replies_after.as_str(),
-            "A type=bool value=y vis=y can=n,y user=-\nok\n",
-            "at call {call}"
-        );
+        let shown = "A type=bool value=y vis=y can=n,y user=-\nok\n";
+        want(rt.alloc(), &served, Err(IoFault::Read), "", shown, call)?;
     }
     Ok(())
 }
@@ -93,12 +88,15 @@ fn a_failed_write_leaves_a_beginning(rt: HostRuntime) -> Result<(), Fail> {
         let reader = FailingReader::new(stream.as_bytes(), 100, NEVER);
         let writer = FailingWriter::new(rt.alloc(), 1, call as u64, NEVER);
         let served = serve(rt.alloc(), TWO_BOOLS, reader, writer, "")?;
-        assert_eq!(rt; served.result, Err(IoFault::Write), "at call {call}");
-        assert_eq!(rt;
-            served.taken.as_slice(),
-            &whole.as_bytes()[..call],
-            "at call {call}"
-        );
+        let beginning = std::str::from_utf8(&whole.as_bytes()[..call])?;
+        want(
+            rt.alloc(),
+            &served,
+            Err(IoFault::Write),
+            beginning,
+            "",
+            call,
+        )?;
     }
     Ok(())
 }
@@ -107,7 +105,7 @@ fn a_failed_write_leaves_a_beginning(rt: HostRuntime) -> Result<(), Fail> {
 fn a_failed_write_leaves_the_effect_of_its_command(rt: HostRuntime) -> Result<(), Fail> {
     let stream = all_commands(rt.alloc())?;
     // The byte that can't be written, and the user value of A that `show A` then has.
-    for (call, want) in [
+    for (call, end) in [
         (0, "user=n\nok\n"),
         (24, "user=n\nok\n"),
         (28, "user=-\nok\n"),
@@ -117,7 +115,7 @@ fn a_failed_write_leaves_the_effect_of_its_command(rt: HostRuntime) -> Result<()
         let writer = FailingWriter::new(rt.alloc(), 1, call, NEVER);
         let served = serve(rt.alloc(), TWO_BOOLS, reader, writer, "show A\n")?;
         let shown = served.replies_after.as_str();
-        assert!(rt; shown.ends_with(want), "at call {call}: {shown}");
+        assert!(rt; shown.ends_with(end), "at call {call}: {shown}");
     }
     Ok(())
 }
@@ -129,9 +127,9 @@ fn a_failed_flush_leaves_whole_replies(rt: HostRuntime) -> Result<(), Fail> {
         let reader = FailingReader::new(stream.as_bytes(), 100, NEVER);
         let writer = FailingWriter::new(rt.alloc(), 100, NEVER, call as u64);
         let served = serve(rt.alloc(), TWO_BOOLS, reader, writer, "")?;
-        let want = first_replies(rt.alloc(), call + 1)?;
-        assert_eq!(rt; served.result, Err(IoFault::Write), "at call {call}");
-        assert_eq!(rt; served.taken.as_slice(), want.as_bytes(), "at call {call}");
+        let replies = first_replies(rt.alloc(), call + 1)?;
+        let write = Err(IoFault::Write);
+        want(rt.alloc(), &served, write, replies.as_str(), "", call)?;
     }
     Ok(())
 }

@@ -1,5 +1,5 @@
 //! What a session keeps: the count of evaluations, and replies that don't depend on it.
-use crate::serving::{replies_in, session_of};
+use crate::serving::{in_session, replies_in};
 use kc_session::Session;
 use kc_tables::{rows, two_fields};
 use kc_tree::{Node, SymId};
@@ -143,10 +143,9 @@ fn compare_counts(alloc: Global, session: &mut Session, counts: &str) -> Result<
 
 /// The counts of a new session of a Kconfig.
 fn counts_of(alloc: Global, kconfig: &str, counts: &str) -> Result<(), Fail> {
-    match session_of(alloc, kconfig) {
-        Ok(mut session) => compare_counts(alloc, &mut session, counts),
-        Err(fail) => Err(fail),
-    }
+    in_session(alloc, kconfig, |alloc, session| {
+        compare_counts(alloc, session, counts)
+    })
 }
 
 #[test]
@@ -163,20 +162,17 @@ fn each_node_is_evaluated_once_until_an_edit_changes_it(rt: HostRuntime) -> Resu
     Ok(())
 }
 
-/// The count after the call of the value of a symbol.
-fn count_of_a_call(session: &mut Session, name: &str) -> Result<u64, Fail> {
-    let symbol = session.tree().find(name).ok_or("no such symbol")?;
+/// The count after the call of the value of B.
+fn count_of_a_call(_alloc: Global, session: &mut Session) -> Result<u64, Fail> {
+    let symbol = session.tree().find("B").ok_or("no symbol B")?;
     let _ = session.node(Node::Val(symbol))?;
     Ok(session.evals())
 }
 
 #[test]
 fn a_call_counts_as_the_command_does(rt: HostRuntime) -> Result<(), Fail> {
-    let count = match session_of(rt.alloc(), TWO) {
-        Ok(mut session) => count_of_a_call(&mut session, "B"),
-        Err(fail) => Err(fail),
-    };
-    assert_eq!(rt; count?, 4);
+    let count = in_session(rt.alloc(), TWO, count_of_a_call)?;
+    assert_eq!(rt; count, 4);
     Ok(())
 }
 
@@ -245,10 +241,9 @@ fn compare_kept(alloc: Global, session: &mut Session, kept: &str) -> Result<(), 
 
 #[test]
 fn an_edit_drops_what_it_can_change_and_nothing_else(rt: HostRuntime) -> Result<(), Fail> {
-    match session_of(rt.alloc(), TWO) {
-        Ok(mut session) => compare_kept(rt.alloc(), &mut session, KEPT_OF_TWO),
-        Err(fail) => Err(fail),
-    }
+    in_session(rt.alloc(), TWO, |alloc, session| {
+        compare_kept(alloc, session, KEPT_OF_TWO)
+    })
 }
 
 /// Edits of all kinds, and those that are refused in some trees or in all.
@@ -301,13 +296,10 @@ fn replies_of_new(
     accepted: &str,
     edit: &str,
 ) -> Result<(String, String), Fail> {
-    match session_of(alloc, kconfig) {
-        Ok(mut session) => {
-            let _ = replies_in(alloc, &mut session, accepted)?;
-            replies_to(alloc, &mut session, edit)
-        }
-        Err(fail) => Err(fail),
-    }
+    in_session(alloc, kconfig, |alloc, session| {
+        let _ = replies_in(alloc, session, accepted)?;
+        replies_to(alloc, session, edit)
+    })
 }
 
 /// To each edit and the queries behind it the session must reply as a new one does to which the edits that were accepted
@@ -332,10 +324,9 @@ fn compare_with_new(alloc: Global, kconfig: &str, session: &mut Session) -> Resu
 
 /// How many edits are accepted in a session of a Kconfig, which is compared with new ones.
 fn accepted_in(alloc: Global, kconfig: &str) -> Result<usize, Fail> {
-    match session_of(alloc, kconfig) {
-        Ok(mut session) => compare_with_new(alloc, kconfig, &mut session),
-        Err(fail) => Err(fail),
-    }
+    in_session(alloc, kconfig, |alloc, session| {
+        compare_with_new(alloc, kconfig, session)
+    })
 }
 
 #[test]

@@ -1,6 +1,6 @@
 //! How a stream is cut into lines, and how far it is read.
 use crate::failing::{FailingReader, FailingWriter, NEVER};
-use crate::serving::serve;
+use crate::serving::{serve, want};
 use kc_session::IoFault;
 use kc_tables::repeated;
 use std::alloc::{AllocError, Global};
@@ -16,17 +16,8 @@ fn lines_are_cut_at_line_feeds_in_pieces_of_any_size(rt: HostRuntime) -> Result<
         let reader = FailingReader::new(b"set S a\r\nset T b\r\r\n\n", piece, NEVER);
         let writer = FailingWriter::new(alloc, 5, NEVER, NEVER);
         let served = serve(alloc, TWO_STRINGS, reader, writer, "config\n")?;
-        assert_eq!(rt; served.result, Ok(()), "at {piece}");
-        assert_eq!(rt;
-            served.taken.as_slice(),
-            b"ok\nok\nrefused 1\n".as_slice(),
-            "at {piece}"
-        );
-        assert_eq!(rt;
-            served.replies_after.as_str(),
-            "CONFIG_S=\"a\"\nCONFIG_T=\"b\r\"\nok\n",
-            "at {piece}"
-        );
+        let config = "CONFIG_S=\"a\"\nCONFIG_T=\"b\r\"\nok\n";
+        want(alloc, &served, Ok(()), "ok\nok\nrefused 1\n", config, piece)?;
     }
     Ok(())
 }
@@ -38,14 +29,9 @@ fn many_small_reads_serve_the_whole_stream(rt: HostRuntime) -> Result<(), Fail> 
     let reader = FailingReader::new(stream.as_bytes(), 1, NEVER);
     let writer = FailingWriter::new(alloc, 4096, NEVER, NEVER);
     let served = serve(alloc, TWO_STRINGS, reader, writer, "set S a\n")?;
-    assert_eq!(rt; served.result, Ok(()));
     assert_eq!(rt; served.reads, 72_001);
-    assert_eq!(rt;
-        served.taken.as_slice(),
-        repeated(alloc, "ok\n", 12_000)?.as_bytes()
-    );
-    assert_eq!(rt; served.replies_after.as_str(), "ok\n");
-    Ok(())
+    let replies = repeated(alloc, "ok\n", 12_000)?;
+    want(alloc, &served, Ok(()), replies.as_str(), "ok\n", 0)
 }
 
 /// A line `set S ..` of so many bytes, with this line end, the line `config` behind it, and their replies where the first
@@ -73,13 +59,8 @@ fn a_line_is_too_long_past_its_limit(rt: HostRuntime) -> Result<(), Fail> {
         let reader = FailingReader::new(stream.as_bytes(), 1000, NEVER);
         let writer = FailingWriter::new(alloc, 5, NEVER, NEVER);
         let served = serve(alloc, TWO_STRINGS, reader, writer, "")?;
-        let want = if is_taken { taken.as_str() } else { refused };
-        assert_eq!(rt; served.result, Ok(()), "at {bytes} and {end:?}");
-        // Not the texts themselves, which are long.
-        assert!(rt;
-            served.taken.as_slice() == want.as_bytes(),
-            "at {bytes} and {end:?}"
-        );
+        let replies = if is_taken { taken.as_str() } else { refused };
+        want(alloc, &served, Ok(()), replies, "", bytes)?;
     }
     Ok(())
 }
@@ -90,7 +71,7 @@ fn a_body_has_at_most_16_mebibytes(rt: HostRuntime) -> Result<(), Fail> {
     let comment = repeated(alloc, "#", 65_535)?;
     let comment = format!(in alloc; "{comment}\n")?;
     let comments = repeated(alloc, comment.as_str(), 256)?;
-    for (lines, end, want) in [
+    for (lines, end, replies) in [
         (256, "config\n", "ok\nCONFIG_S=\"\"\nCONFIG_T=\"\"\nok\n"),
         (257, "", "refused 5\n"),
         (
@@ -103,12 +84,7 @@ fn a_body_has_at_most_16_mebibytes(rt: HostRuntime) -> Result<(), Fail> {
         let reader = FailingReader::new(stream.as_bytes(), 4_096, NEVER);
         let writer = FailingWriter::new(alloc, 5, NEVER, NEVER);
         let served = serve(alloc, TWO_STRINGS, reader, writer, "")?;
-        assert_eq!(rt; served.result, Ok(()), "at {lines} and {end:?}");
-        assert_eq!(rt;
-            served.taken.as_slice(),
-            want.as_bytes(),
-            "at {lines} and {end:?}"
-        );
+        want(alloc, &served, Ok(()), replies, "", lines)?;
     }
     Ok(())
 }
@@ -119,19 +95,14 @@ fn a_failed_read_ends_the_stream(rt: HostRuntime) -> Result<(), Fail> {
     let reader = FailingReader::new(b"set S a\nset S bc\n", 1, 15);
     let writer = FailingWriter::new(rt.alloc(), 100, NEVER, NEVER);
     let served = serve(rt.alloc(), TWO_STRINGS, reader, writer, "config\n")?;
-    assert_eq!(rt; served.result, Err(IoFault::Read));
-    assert_eq!(rt; served.taken.as_slice(), b"ok\n".as_slice());
-    assert_eq!(rt;
-        served.replies_after.as_str(),
-        "CONFIG_S=\"a\"\nCONFIG_T=\"\"\nok\n"
-    );
-    Ok(())
+    let config = "CONFIG_S=\"a\"\nCONFIG_T=\"\"\nok\n";
+    want(rt.alloc(), &served, Err(IoFault::Read), "ok\n", config, 0)
 }
 
 #[test]
 fn nothing_is_read_after_the_end(rt: HostRuntime) -> Result<(), Fail> {
     // One byte a call, and the read that gives none.
-    for (stream, reads, want) in [
+    for (stream, reads, replies) in [
         ("", 1, ""),
         ("set S ab", 9, "ok\n"),
         ("set S ab\n", 10, "ok\n"),
@@ -139,9 +110,8 @@ fn nothing_is_read_after_the_end(rt: HostRuntime) -> Result<(), Fail> {
         let reader = FailingReader::new(stream.as_bytes(), 1, NEVER);
         let writer = FailingWriter::new(rt.alloc(), 100, NEVER, NEVER);
         let served = serve(rt.alloc(), TWO_STRINGS, reader, writer, "")?;
-        assert_eq!(rt; served.result, Ok(()), "at {stream:?}");
         assert_eq!(rt; served.reads, reads, "at {stream:?}");
-        assert_eq!(rt; served.taken.as_slice(), want.as_bytes(), "at {stream:?}");
+        want(rt.alloc(), &served, Ok(()), replies, "", stream.len())?;
     }
     Ok(())
 }

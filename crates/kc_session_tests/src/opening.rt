@@ -1,27 +1,40 @@
 //! How long the `.config` may be with which a session is opened, and that its seed changes no answer.
-use crate::serving::replies_in;
+use crate::serving::{in_seeded_session, replies_in};
 use kc_files::Prefix;
-use kc_session::{OpenFault, open, open_seeded};
+use kc_session::{OpenFault, Session, open};
 use kc_tables::repeated;
 use kc_text::{Sources, Vars};
 use kc_tree::Seed;
 use std::alloc::{AllocError, Global};
 use std::test::Fail;
 
+/// Whether a session opens with a `.config` of these bytes.
+fn open_with(
+    alloc: Global,
+    sources: &Sources,
+    prefix: &Prefix,
+    config: &[u8],
+) -> Result<(), OpenFault> {
+    match open(
+        alloc,
+        sources,
+        &Vars::none(alloc),
+        "Kconfig",
+        prefix,
+        config,
+    ) {
+        Ok(_) => Ok(()),
+        Err(fault) => Err(fault),
+    }
+}
+
 /// What becomes of a session with a `.config` of these bytes.
 fn outcome_with(alloc: Global, config: &[u8]) -> Result<&'static str, Fail> {
     let mut sources = Sources::new(alloc);
     sources.add("Kconfig", "")?;
     let prefix = Prefix::new(alloc, "CONFIG_")?;
-    match open(
-        alloc,
-        &sources,
-        &Vars::none(alloc),
-        "Kconfig",
-        &prefix,
-        config,
-    ) {
-        Ok(_) => Ok("open"),
+    match open_with(alloc, &sources, &prefix, config) {
+        Ok(()) => Ok("open"),
         Err(OpenFault::Limit) => Ok("limit"),
         Err(fault) => Err(Fail::from(fault)),
     }
@@ -45,17 +58,12 @@ fn a_session_opens_with_at_most_16_mebibytes(rt: HostRuntime) -> Result<(), Fail
     Ok(())
 }
 
-/// What the session of two symbols lists, whose names are kept under the hash of a seed.
-fn listed_with(alloc: Global, seed: Seed) -> Result<String, Fail> {
-    let mut sources = Sources::new(alloc);
-    sources.add(
-        "Kconfig",
-        "config B\n\tbool\n\tdefault A\nconfig A\n\tdef_bool y\n",
-    )?;
-    let vars = Vars::none(alloc);
-    let prefix = Prefix::new(alloc, "CONFIG_")?;
-    let (mut session, _) = open_seeded(alloc, seed, &sources, &vars, "Kconfig", &prefix, b"")?;
-    replies_in(alloc, &mut session, "list\n")
+/// Two symbols, of which the first depends on the second.
+const TWO: &str = "config B\n\tbool\n\tdefault A\nconfig A\n\tdef_bool y\n";
+
+/// What a session lists.
+fn listed_in(alloc: Global, session: &mut Session) -> Result<String, Fail> {
+    replies_in(alloc, session, "list\n")
 }
 
 #[test]
@@ -63,7 +71,7 @@ fn a_seed_changes_no_answer(rt: HostRuntime) -> Result<(), Fail> {
     let want =
         "B type=bool value=y vis=n can=- user=-\nA type=bool value=y vis=n can=- user=-\nok\n";
     for seed in [Seed::fixed(), Seed::drawn(&rt)?] {
-        let found = listed_with(rt.alloc(), seed)?;
+        let found = in_seeded_session(rt.alloc(), seed, TWO, listed_in)?;
         assert_eq!(rt; found.as_str(), want);
     }
     Ok(())

@@ -1,13 +1,13 @@
 //! How a reply is written.
 use crate::failing::{FailingReader, FailingWriter, NEVER};
-use crate::serving::serve;
+use crate::serving::{serve, want};
 use kc_session::IoFault;
 use std::test::Fail;
 
 #[test]
 fn replies_are_written_whole_or_in_part(rt: HostRuntime) -> Result<(), Fail> {
     let whole = "CONFIG_B=y\nok\n";
-    for (piece, write, flush, want, taken) in [
+    for (piece, write, flush, result, replies) in [
         (100, NEVER, NEVER, Ok(()), whole),
         (1, NEVER, NEVER, Ok(()), whole),
         (2, 1, NEVER, Err(IoFault::Write), "CO"),
@@ -24,12 +24,7 @@ fn replies_are_written_whole_or_in_part(rt: HostRuntime) -> Result<(), Fail> {
             writer,
             "",
         )?;
-        assert_eq!(rt; served.result, want, "at pieces of {piece}");
-        assert_eq!(rt;
-            served.taken.as_slice(),
-            taken.as_bytes(),
-            "at pieces of {piece}"
-        );
+        want(rt.alloc(), &served, result, replies, "", piece)?;
     }
     Ok(())
 }

@@ -1,8 +1,9 @@
 //! Sessions that serve streams of commands, over readers and writers that fail at a given call.
 use crate::failing::{FailingReader, FailingWriter, NEVER};
 use kc_files::Prefix;
-use kc_session::{IoFault, Session, open, run};
+use kc_session::{IoFault, Session, open_seeded, run};
 use kc_text::{Sources, Vars};
+use kc_tree::Seed;
 use std::alloc::Global;
 use std::test::Fail;
 
@@ -19,13 +20,41 @@ pub(crate) struct Served {
     pub(crate) replies_after: String,
 }
 
-/// The session of a Kconfig, without user values.
-pub(crate) fn session_of(alloc: Global, kconfig: &str) -> Result<Session, Fail> {
+/// The session of a Kconfig, without user values, whose names are kept under the hash of a seed.
+fn seeded_session(alloc: Global, seed: Seed, kconfig: &str) -> Result<Session, Fail> {
     let mut sources = Sources::new(alloc);
     sources.add("Kconfig", kconfig)?;
+    let vars = Vars::none(alloc);
     let prefix = Prefix::new(alloc, "CONFIG_")?;
-    let (session, _) = open(alloc, &sources, &Vars::none(alloc), "Kconfig", &prefix, b"")?;
+    let (session, _) = open_seeded(alloc, seed, &sources, &vars, "Kconfig", &prefix, b"")?;
     Ok(session)
+}
+
+/// What a function does in the session of a Kconfig, under a seed. No other function here owns a session: each way out of
+/// an owner drops it, which costs its proof most.
+pub(crate) fn in_seeded_session<T: Drop, F: FnOnce(Global, &mut Session) -> Result<T, Fail> + Drop>(
+    alloc: Global,
+    seed: Seed,
+    kconfig: &str,
+    visit: F,
+) -> Result<T, Fail>
+    requires { F.IsAlwaysCallable visit }
+{
+    match seeded_session(alloc, seed, kconfig) {
+        Ok(mut session) => visit(alloc, &mut session),
+        Err(fail) => Err(fail),
+    }
+}
+
+/// What a function does in the session of a Kconfig, without user values.
+pub(crate) fn in_session<T: Drop, F: FnOnce(Global, &mut Session) -> Result<T, Fail> + Drop>(
+    alloc: Global,
+    kconfig: &str,
+    visit: F,
+) -> Result<T, Fail>
+    requires { F.IsAlwaysCallable visit }
+{
+    in_seeded_session(alloc, Seed::fixed(), kconfig, visit)
 }
 
 /// The replies of a session to a stream that is read and written without a failure.
@@ -39,6 +68,27 @@ pub(crate) fn replies_in(
     run(alloc, &mut reader, &mut writer, session)?;
     let FailingWriter { taken, .. } = writer;
     Ok(String::from_utf8(taken)?)
+}
+
+/// Wants this end of a stream, these replies to it, and these to the second stream. `at` says which of the streams of a
+/// test it is, if it has several.
+pub(crate) fn want(
+    alloc: Global,
+    served: &Served,
+    end: Result<(), IoFault>,
+    replies: &str,
+    replies_after: &str,
+    at: usize,
+) -> Result<(), Fail> {
+    let found = std::str::from_utf8(served.taken.as_slice())?;
+    let found_after = served.replies_after.as_str();
+    if served.result == end && found == replies && found_after == replies_after {
+        return Ok(());
+    }
+    let found_end = &served.result;
+    Err(Fail::new(format!(in alloc;
+        "at {at}: {found_end:?} after {found:?}, then {found_after:?}"
+    )?))
 }
 
 /// Serves a stream in a session, and then another one without a failure.
@@ -68,8 +118,7 @@ pub(crate) fn serve(
     writer: FailingWriter,
     after: &str,
 ) -> Result<Served, Fail> {
-    match session_of(alloc, kconfig) {
-        Ok(mut session) => serve_in(alloc, &mut session, reader, writer, after),
-        Err(fail) => Err(fail),
-    }
+    in_session(alloc, kconfig, |alloc, session| {
+        serve_in(alloc, session, reader, writer, after)
+    })
 }

@@ -21,6 +21,22 @@ fn shown_of_lines<F: FnOnce(Global, &Tree) -> Result<String, Fail>>(
     }
 }
 
+/// What a function shows of the tree of texts.
+fn shown_of_sources<F: FnOnce(Global, &Tree) -> Result<String, Fail>>(
+    alloc: Global,
+    sources: &Sources,
+    show: F,
+) -> Result<String, Fail>
+    requires { F.IsAlwaysCallable show }
+{
+    let vars = Vars::none(alloc);
+    let arena = Bump::new(alloc);
+    match logical_lines(alloc, &arena, sources, &vars, "Kconfig") {
+        Ok(lines) => shown_of_lines(alloc, lines.as_slice(), show),
+        Err(fault) => Err(Fail::from(fault)),
+    }
+}
+
 /// What a function shows of the tree of a Kconfig.
 fn shown<F: FnOnce(Global, &Tree) -> Result<String, Fail>>(
     alloc: Global,
@@ -31,10 +47,7 @@ fn shown<F: FnOnce(Global, &Tree) -> Result<String, Fail>>(
 {
     let mut sources = Sources::new(alloc);
     sources.add("Kconfig", kconfig)?;
-    let vars = Vars::none(alloc);
-    let arena = Bump::new(alloc);
-    let lines = logical_lines(alloc, &arena, &sources, &vars, "Kconfig")?;
-    shown_of_lines(alloc, lines.as_slice(), show)
+    shown_of_sources(alloc, &sources, show)
 }
 
 /// The value of R, as a resolver has it without user values.
