@@ -1,5 +1,5 @@
 //! What the commands of a stream are answered.
-use crate::running::run_session;
+use crate::running::{run_session, want};
 use std::alloc::{AllocError, Global};
 use std::test::Fail;
 
@@ -8,7 +8,7 @@ const ONE: &str = "config A\nbool \"a\"\n";
 const TWO: &str = "config A\nbool \"a\"\ndefault y\nconfig B\nbool \"b\"\ndepends on A\n";
 
 #[test]
-fn commands_are_answered(rt: HostRuntime) -> Result<(), Fail> {
+fn commands_are_answered(rt: HostRuntime) {
     let rows = [
         ("", "", ""),
         (ONE, "", ""),
@@ -29,21 +29,10 @@ fn commands_are_answered(rt: HostRuntime) -> Result<(), Fail> {
         (ONE, "frob\r\nset A y\r\n", "refused 1\nok\n"),
         (ONE, "set A y\nset A n", "ok\nok\n"),
     ];
-    for (kconfig, commands, want) in rows {
+    for (kconfig, commands, output) in rows {
         let outcome = run_session(rt.alloc(), kconfig.as_bytes(), commands.as_bytes());
-        assert_eq!(rt; outcome.status, 0, "at {commands:?}");
-        assert_eq!(rt;
-            outcome.output.as_slice(),
-            want.as_bytes(),
-            "at {commands:?}"
-        );
-        assert_eq!(rt;
-            outcome.errors.as_slice(),
-            b"".as_slice(),
-            "at {commands:?}"
-        );
+        want(&rt, &outcome, 0, output, "", commands);
     }
-    Ok(())
 }
 
 // A line of so many bytes, and a command after it.
@@ -56,11 +45,10 @@ fn long_line(alloc: Global, length: usize) -> Result<Vec<u8>, AllocError> {
 #[test]
 fn a_long_line_is_one_command(rt: HostRuntime) -> Result<(), Fail> {
     let rows = [(65_536, "refused 1\nok\n"), (65_537, "refused 6\nok\n")];
-    for (length, want) in rows {
+    for (length, output) in rows {
         let stream = long_line(rt.alloc(), length)?;
         let outcome = run_session(rt.alloc(), ONE.as_bytes(), stream.as_slice());
-        assert_eq!(rt; outcome.status, 0, "at {length}");
-        assert_eq!(rt; outcome.output.as_slice(), want.as_bytes(), "at {length}");
+        want(&rt, &outcome, 0, output, "", output);
     }
     Ok(())
 }

@@ -1,6 +1,6 @@
 //! What is written to standard error, and the status after it.
 use crate::running::{
-    FailingReader, FailingWriter, MemoryFolder, run_in, run_program, run_session,
+    FailingReader, FailingWriter, MemoryFolder, run_in, run_program, run_session, want,
 };
 use kc_program::{Folder, FolderFault, program};
 use std::alloc::Global;
@@ -11,7 +11,7 @@ const SESSION: [&str; 4] = ["kconf", "session", "Kconfig", "-"];
 const FILES: [(&str, &[u8]); 1] = [("Kconfig", b"config A\nbool \"a\"\n")];
 
 #[test]
-fn faults_of_a_kconfig_are_reported(rt: HostRuntime) -> Result<(), Fail> {
+fn faults_of_a_kconfig_are_reported(rt: HostRuntime) {
     // Of a text, a line, a symbol and a choice.
     let rows = [
         ("config A\nbool \"a\n", "kconf: Kconfig:2: K03\n"),
@@ -23,17 +23,10 @@ fn faults_of_a_kconfig_are_reported(rt: HostRuntime) -> Result<(), Fail> {
             "kconf: Kconfig:1: K17\n",
         ),
     ];
-    for (kconfig, want) in rows {
+    for (kconfig, errors) in rows {
         let outcome = run_session(rt.alloc(), kconfig.as_bytes(), b"config\n");
-        assert_eq!(rt; outcome.status, 1, "at {kconfig:?}");
-        assert_eq!(rt; outcome.output.as_slice(), b"".as_slice(), "at {kconfig:?}");
-        assert_eq!(rt;
-            outcome.errors.as_slice(),
-            want.as_bytes(),
-            "at {kconfig:?}"
-        );
+        want(&rt, &outcome, 1, "", errors, kconfig);
     }
-    Ok(())
 }
 
 #[test]
@@ -66,12 +59,10 @@ fn faults_of_files_are_reported(rt: HostRuntime) -> Result<(), Fail> {
         ("big", "kconf: big:0: K01\n"),
         ("big and bad", "kconf: big and bad: not UTF-8\n"),
     ];
-    for (path, want) in rows {
+    for (path, errors) in rows {
         let words = ["kconf", "session", path, "-"];
         let outcome = run_program(rt.alloc(), words.as_slice(), files.as_slice(), b"config\n");
-        assert_eq!(rt; outcome.status, 1, "at {path}");
-        assert_eq!(rt; outcome.output.as_slice(), b"".as_slice(), "at {path}");
-        assert_eq!(rt; outcome.errors.as_slice(), want.as_bytes(), "at {path}");
+        want(&rt, &outcome, 1, "", errors, path);
     }
     Ok(())
 }
@@ -98,9 +89,7 @@ fn refused_memory_is_reported(rt: HostRuntime) {
         &NoMemoryFolder {},
         b"config\n",
     );
-    assert_eq!(rt; outcome.status, 1);
-    assert_eq!(rt; outcome.output.as_slice(), b"".as_slice());
-    assert_eq!(rt; outcome.errors.as_slice(), b"kconf: memory\n".as_slice());
+    want(&rt, &outcome, 1, "", "kconf: memory\n", "memory");
 }
 
 #[test]

@@ -1,5 +1,5 @@
 //! The files that a Kconfig sources, and those that it only names.
-use crate::running::{MemoryFolder, Outcome, run_in, run_program};
+use crate::running::{MemoryFolder, Outcome, run_in, run_program, want};
 use kc_program::{Folder, FolderFault};
 use std::alloc::{AllocError, Global};
 use std::cell::Cell;
@@ -27,7 +27,7 @@ fn run_files(alloc: Global, kconfig: &str) -> Outcome {
 }
 
 #[test]
-fn sourced_files_are_read(rt: HostRuntime) -> Result<(), Fail> {
+fn sourced_files_are_read(rt: HostRuntime) {
     let (b, c) = ("# CONFIG_B is not set\nok\n", "CONFIG_C=y\nok\n");
     let rows = [
         ("source \"b\"\n", b),
@@ -42,29 +42,16 @@ fn sourced_files_are_read(rt: HostRuntime) -> Result<(), Fail> {
             "CONFIG_C=y\n# CONFIG_B is not set\nok\n",
         ),
     ];
-    for (kconfig, want) in rows {
+    for (kconfig, output) in rows {
         let outcome = run_files(rt.alloc(), kconfig);
-        assert_eq!(rt; outcome.errors.as_slice(), b"".as_slice(), "at {kconfig:?}");
-        assert_eq!(rt; outcome.status, 0, "at {kconfig:?}");
-        assert_eq!(rt;
-            outcome.output.as_slice(),
-            want.as_bytes(),
-            "at {kconfig:?}"
-        );
+        want(&rt, &outcome, 0, output, "", kconfig);
     }
-    Ok(())
 }
 
 // Wants a fault of a top file among the other files.
-fn tells_fault(rt: &impl Abort, alloc: Global, kconfig: &str, want: &str) {
+fn tells_fault(rt: &impl Abort, alloc: Global, kconfig: &str, errors: &str) {
     let outcome = run_files(alloc, kconfig);
-    assert_eq!(rt;
-        outcome.errors.as_slice(),
-        want.as_bytes(),
-        "at {kconfig:?}"
-    );
-    assert_eq!(rt; outcome.status, 1, "at {kconfig:?}");
-    assert_eq!(rt; outcome.output.as_slice(), b"".as_slice(), "at {kconfig:?}");
+    want(rt, &outcome, 1, "", errors, kconfig);
 }
 
 #[test]
@@ -160,7 +147,7 @@ fn a_block_belongs_to_its_file(rt: HostRuntime) {
 }
 
 #[test]
-fn files_that_are_only_named_need_not_be_there(rt: HostRuntime) -> Result<(), Fail> {
+fn files_that_are_only_named_need_not_be_there(rt: HostRuntime) {
     let rows = [
         "config A\nbool \"a\"\nhelp\n  source \"missing\"\n  source \"bad\"\n",
         "config A\nbool \"a\"\nhelp\n  source \"names missing\"\n  source \"itself\"\n",
@@ -168,15 +155,8 @@ fn files_that_are_only_named_need_not_be_there(rt: HostRuntime) -> Result<(), Fa
     ];
     for kconfig in rows {
         let outcome = run_files(rt.alloc(), kconfig);
-        assert_eq!(rt; outcome.errors.as_slice(), b"".as_slice(), "at {kconfig:?}");
-        assert_eq!(rt; outcome.status, 0, "at {kconfig:?}");
-        assert_eq!(rt;
-            outcome.output.as_slice(),
-            b"# CONFIG_A is not set\nok\n".as_slice(),
-            "at {kconfig:?}"
-        );
+        want(&rt, &outcome, 0, "# CONFIG_A is not set\nok\n", "", kconfig);
     }
-    Ok(())
 }
 
 // Counts the reads of files in memory. Those that are read ahead may be refused.

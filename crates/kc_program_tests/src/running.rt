@@ -3,6 +3,7 @@
 use kc_program::{Folder, FolderFault, program};
 use std::alloc::Global;
 use std::io::{self, Error, ErrorKind, Read, Write};
+use std::process::Abort;
 
 // Files in memory, each as its path and its bytes.
 #[derive(Drop)]
@@ -55,6 +56,20 @@ pub(crate) struct Outcome {
     pub(crate) status: u8,
     pub(crate) output: Vec<u8>,
     pub(crate) errors: Vec<u8>,
+}
+
+// Wants of a run its status and what it wrote; `at` says which run of a test it is.
+pub(crate) fn want(
+    rt: &impl Abort,
+    outcome: &Outcome,
+    status: u8,
+    output: &str,
+    errors: &str,
+    at: &str,
+) {
+    assert_eq!(rt; outcome.errors.as_slice(), errors.as_bytes(), "at {at:?}");
+    assert_eq!(rt; outcome.output.as_slice(), output.as_bytes(), "at {at:?}");
+    assert_eq!(rt; outcome.status, status, "at {at:?}");
 }
 
 // Runs the program on words, files and a stream of commands.

@@ -1,12 +1,12 @@
 //! The variables of a command line, as the Kconfig sees them.
-use crate::running::run_program;
+use crate::running::{run_program, want};
 use std::alloc::{AllocError, Global};
 use std::test::Fail;
 
 const KCONFIG: &[u8] = b"config A\nbool \"a\"\ndefault $(D)\n";
 
 #[test]
-fn the_kconfig_sees_the_variables(rt: HostRuntime) -> Result<(), Fail> {
+fn the_kconfig_sees_the_variables(rt: HostRuntime) {
     let files = [("Kconfig", KCONFIG)];
     let rows = [
         (["D=y", "E=n"], "CONFIG_A=y\nok\n"),
@@ -14,23 +14,12 @@ fn the_kconfig_sees_the_variables(rt: HostRuntime) -> Result<(), Fail> {
         (["D=n", "D=y"], "CONFIG_A=y\nok\n"),
         (["E=x", "D=y"], "CONFIG_A=y\nok\n"),
     ];
-    for (variables, want) in rows {
+    for (variables, output) in rows {
         let [first, second] = variables;
         let words = ["kconf", "session", "Kconfig", "-", first, second];
         let outcome = run_program(rt.alloc(), words.as_slice(), files.as_slice(), b"config\n");
-        assert_eq!(rt; outcome.status, 0, "at {first} {second}");
-        assert_eq!(rt;
-            outcome.output.as_slice(),
-            want.as_bytes(),
-            "at {first} {second}"
-        );
-        assert_eq!(rt;
-            outcome.errors.as_slice(),
-            b"".as_slice(),
-            "at {first} {second}"
-        );
+        want(&rt, &outcome, 0, output, "", first);
     }
-    Ok(())
 }
 
 // A variable V of so many bytes.
@@ -50,12 +39,10 @@ fn faults_of_variables_are_reported(rt: HostRuntime) -> Result<(), Fail> {
         ("V=a\r", "kconf: V:0: K02\n"),
         (long.as_str(), "kconf: V:0: K01\n"),
     ];
-    for (word, want) in rows {
+    for (word, errors) in rows {
         let words = ["kconf", "session", "nowhere", "-", "A=x", word, "B=\n"];
         let outcome = run_program(rt.alloc(), words.as_slice(), [].as_slice(), b"config\n");
-        assert_eq!(rt; outcome.status, 1, "at {want:?}");
-        assert_eq!(rt; outcome.output.as_slice(), b"".as_slice(), "at {want:?}");
-        assert_eq!(rt; outcome.errors.as_slice(), want.as_bytes());
+        want(&rt, &outcome, 1, "", errors, errors);
     }
     Ok(())
 }
@@ -66,8 +53,7 @@ fn the_longest_variable_is_taken(rt: HostRuntime) -> Result<(), Fail> {
     let long = long_variable(rt.alloc(), 65_536)?;
     let words = ["kconf", "session", "Kconfig", "-", long.as_str(), "D=y"];
     let outcome = run_program(rt.alloc(), words.as_slice(), files.as_slice(), b"config\n");
-    assert_eq!(rt; outcome.status, 0);
-    assert_eq!(rt; outcome.output.as_slice(), b"CONFIG_A=y\nok\n".as_slice());
+    want(&rt, &outcome, 0, "CONFIG_A=y\nok\n", "", "the longest");
     Ok(())
 }
 

@@ -1,5 +1,5 @@
 //! The words of a command line.
-use crate::running::{Outcome, run_program};
+use crate::running::{Outcome, run_program, want};
 use kc_program::answer_unread;
 use std::alloc::{AllocError, Global};
 use std::io::{self, ErrorKind};
@@ -42,11 +42,9 @@ fn a_session_has_its_prefix_and_path(rt: HostRuntime) -> Result<(), Fail> {
             "# FW_A is not set\nok\n",
         ),
     ];
-    for (line, want) in rows {
+    for (line, output) in rows {
         let outcome = run_line(rt.alloc(), line)?;
-        assert_eq!(rt; outcome.status, 0, "at {line:?}");
-        assert_eq!(rt; outcome.output.as_slice(), want.as_bytes(), "at {line:?}");
-        assert_eq!(rt; outcome.errors.as_slice(), b"".as_slice(), "at {line:?}");
+        want(&rt, &outcome, 0, output, "", line);
     }
     Ok(())
 }

@@ -1,5 +1,5 @@
 //! What no block can hold: a `.config` that is too long, and one that is not text.
-use crate::running::{FailingWriter, MemoryFolder, run_program};
+use crate::running::{FailingWriter, MemoryFolder, run_program, want};
 use kc_program::program;
 use std::alloc::{AllocError, Global};
 use std::test::Fail;
@@ -45,33 +45,32 @@ fn other_faults_come_before_a_long_config(rt: HostRuntime) -> Result<(), Fail> {
         (b"config A\n", "kconf: K12 A\n"),
         (b"source \"b\"\n", "kconf: b: cannot read\n"),
     ];
-    for (kconfig, want) in rows {
+    for (kconfig, errors) in rows {
         let files = [("Kconfig", kconfig), (".config", config.as_slice())];
         let words = ["kconf", "olddefconfig", "Kconfig", ".config"];
         let outcome = run_program(rt.alloc(), words.as_slice(), files.as_slice(), b"");
-        assert_eq!(rt; outcome.errors.as_slice(), want.as_bytes());
-        assert_eq!(rt; outcome.status, 1);
+        want(&rt, &outcome, 1, "", errors, errors);
     }
     Ok(())
 }
 
 #[test]
-fn lines_that_are_no_text_are_warned_of(rt: HostRuntime) -> Result<(), Fail> {
+fn lines_that_are_no_text_are_warned_of(rt: HostRuntime) {
     let config =
         b"CONFIG_A=m\r\nCONFIG_U=y\r\nCONFIG_A=y\r\n\xff\n# CONFIG_A is not set\r\n".as_slice();
     let files = [("Kconfig", KCONFIG), (".config", config)];
     let words = ["kconf", "olddefconfig", "Kconfig", ".config"];
     let outcome = run_program(rt.alloc(), words.as_slice(), files.as_slice(), b"");
-    assert_eq!(rt;
-        outcome.output.as_slice(),
-        b"# CONFIG_A is not set\n".as_slice()
+    let warnings =
+        "kconf: .config:1: warning 2\nkconf: .config:2: warning 1\nkconf: .config:4: warning 4\nkconf: .config:5: warning 5\n";
+    want(
+        &rt,
+        &outcome,
+        0,
+        "# CONFIG_A is not set\n",
+        warnings,
+        "bytes",
     );
-    assert_eq!(rt;
-        outcome.errors.as_slice(),
-        b"kconf: .config:1: warning 2\nkconf: .config:2: warning 1\nkconf: .config:4: warning 4\nkconf: .config:5: warning 5\n".as_slice()
-    );
-    assert_eq!(rt; outcome.status, 0);
-    Ok(())
 }
 
 #[test]
