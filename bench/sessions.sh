@@ -5,12 +5,12 @@
 #
 # Without PROGRAM it builds kconf by rt. Without TREE it takes the one file of bench/make_tree.py; else the Kconfig of the
 # folder TREE, which tools/expand_kconfig.py wrote, with the words NAME=VALUE that it printed. It compares, each the
-# median of eleven rounds:
+# median of five runs and behind a `config`, so that each value is kept:
 #
-# - an edit with the `show` of its symbol, 400 of them in one stream, with the same in Kconfiglib: set the value, then
+# - an edit with the `show` of its symbol, in twenty turns of 400, with the same in Kconfiglib: set the value, then
 #   read value, visibility and assignable values (wanted: at most 0.2): of a stream in a file, which is what the program
 #   takes, and through pipes, with what the system and the reader of each reply take besides;
-# - an edit with the whole `config` (at most 0.2);
+# - an edit with the whole `config`, 100 of them, in the same two ways (at most 0.2);
 # - the first `config` of a session with the first evaluation of all in Kconfiglib (at most 0.2).
 #
 # It then times 10,000 `show` commands of one session, and `config` after an edit on trees of 1,000 and of 60,000 symbols

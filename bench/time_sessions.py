@@ -13,10 +13,11 @@ import time
 import kconfiglib
 
 ROUNDS = 11
+REPEATS = 5
 EDITS = 400
+TURNS = 20
+CONFIGS = 100
 SHOWS = 10_000
-STREAM_ROUNDS = 3
-STREAM_TURNS = 40
 program, work, *words = sys.argv[1:]
 
 
@@ -102,18 +103,46 @@ def time_of_stream(folder, commands):
     return time.perf_counter() - begin
 
 
-def edits_of_stream(folder, names):
-    """The time that so many edits, each with `show`, add to a session, without pipes and who reads them."""
-    edits = [line for turn in range(STREAM_TURNS) for line in edits_of(names, turn)[1]]
-    times = [time_of_stream(folder, ["config", *edits]) - time_of_stream(folder, ["config"]) for _ in range(ROUNDS)]
-    return [each / STREAM_TURNS for each in times]
+def shows_of(names):
+    """The commands of some turns of edits, each with `show`, by turns."""
+    return [edits_of(names, turn)[1] for turn in range(TURNS)]
 
 
-def edits_of_library(library, names):
-    """The time of the same edits in Kconfiglib, which also begins with the value of each symbol."""
+def configs_of(names):
+    """The commands of edits, each with `config`, by edits."""
+    return [[f"set {name} {'ny'[at % 2]}", "config"] for at, name in enumerate(names[:CONFIGS])]
+
+
+def time_in_stream(folder, steps):
+    """The time that each of some steps adds to a session that reads a file and writes one."""
+    commands = [command for step in steps for command in step]
+    return (time_of_stream(folder, ["config", *commands]) - time_of_stream(folder, ["config"])) / len(steps)
+
+
+def time_in_session(session, steps):
+    """The time of each of some steps in a session that is driven through pipes."""
+    session.ask(["config"])
+    return sum(session.ask(step) for step in steps) / len(steps)
+
+
+def shows_of_library(library, names):
+    """The time of a turn of edits in Kconfiglib, each with what `show` says."""
     library.write()
-    times = [library.edit_and_show(names, edits_of(names, turn)[0]) for turn in range(STREAM_TURNS)]
-    return sum(times) / STREAM_TURNS
+    return sum(library.edit_and_show(names, edits_of(names, turn)[0]) for turn in range(TURNS)) / TURNS
+
+
+def configs_of_library(library, names):
+    """The time of an edit in Kconfiglib with the text of all."""
+    library.write()
+    return sum(library.edit_and_write(name, "ny"[at % 2]) for at, name in enumerate(names[:CONFIGS])) / CONFIGS
+
+
+def first_of_session(folder):
+    """The time of the first `config` of a session."""
+    session = Session(folder, words)
+    took = session.ask(["config"])
+    session.end()
+    return took
 
 
 def report(name, over, under, most):
@@ -123,29 +152,31 @@ def report(name, over, under, most):
     return left / right <= most
 
 
+def repeated(measure, *arguments):
+    """What some runs of a measurement give."""
+    return [measure(*arguments) for _ in range(REPEATS)]
+
+
+def compare(what, folder, session, steps, library_times):
+    """Compares steps of a session, of a stream in a file and through pipes, with the same in Kconfiglib."""
+    kept = report(f"{what}, of a stream in a file", repeated(time_in_stream, folder, steps), library_times, 0.2)
+    return kept & report(f"{what}, through pipes", repeated(time_in_session, session, steps), library_times, 0.2)
+
+
 def against_kconfiglib():
+    """Each tool makes all its edits by itself, so that neither removes what the other has in the processor's caches."""
     folder = os.path.join(work, "tree")
-    shows, library_shows, configs, library_configs, firsts, library_firsts = [], [], [], [], [], []
+    firsts = repeated(first_of_session, folder)
+    library_firsts = [Library(folder).write() for _ in range(REPEATS)]
     session, library = Session(folder, words), Library(folder)
-    firsts.append(session.ask(["config"]))
-    library_firsts.append(library.write())
+    library.write()
     names = library.names()
-    for turn in range(ROUNDS):
-        values, commands = edits_of(names, turn)
-        shows.append(session.ask(commands))
-        library_shows.append(library.edit_and_show(names, values))
-        name, value = names[turn], "ny"[turn % 2]
-        configs.append(session.ask([f"set {name} {value}", "config"]))
-        library_configs.append(library.edit_and_write(name, value))
+    shows = compare(f"{EDITS} edits, each with show", folder, session, shows_of(names), repeated(shows_of_library, library, names))
+    configs = compare("an edit with config", folder, session, configs_of(names), repeated(configs_of_library, library, names))
     shown = session.ask([f"show {names[at % EDITS]}" for at in range(SHOWS)])
     session.end()
     print(f"{SHOWS} show commands: {shown / SHOWS * 1e6:.1f} microseconds each")
-    streamed = edits_of_stream(folder, names)
-    library_streamed = [edits_of_library(library, names) for _ in range(STREAM_ROUNDS)]
-    kept = report(f"{EDITS} edits, each with show, of a stream in a file", streamed, library_streamed, 0.2)
-    kept &= report(f"{EDITS} edits, each with show, through pipes", shows, library_shows, 0.2)
-    kept &= report("an edit with config", configs, library_configs, 0.2)
-    return kept & report("the first config", firsts, library_firsts, 0.2)
+    return shows & configs & report("the first config", firsts, library_firsts, 0.2)
 
 
 def write_tree(folder, shape, count):
