@@ -152,31 +152,45 @@ def report(name, over, under, most):
     return left / right <= most
 
 
-def repeated(measure, *arguments):
-    """What some runs of a measurement give."""
-    return [measure(*arguments) for _ in range(REPEATS)]
+def by_turns(*measures):
+    """The times of some measurements, some of each: one after the other, since a machine is slower at times."""
+    return zip(*([measure() for measure in measures] for _ in range(REPEATS)))
 
 
-def compare(what, folder, session, steps, library_times):
-    """Compares steps of a session, of a stream in a file and through pipes, with the same in Kconfiglib."""
-    kept = report(f"{what}, of a stream in a file", repeated(time_in_stream, folder, steps), library_times, 0.2)
-    return kept & report(f"{what}, through pipes", repeated(time_in_session, session, steps), library_times, 0.2)
+def compare(what, in_stream, through_pipes, in_library):
+    """Compares what a session does, of a stream in a file and through pipes, with the same in Kconfiglib.
+
+    Each of the three makes all its edits by itself, so that none removes what the others have in the caches.
+    """
+    streamed, piped, called = by_turns(in_stream, through_pipes, in_library)
+    kept = report(f"{what}, of a stream in a file", streamed, called, 0.2)
+    return kept & report(f"{what}, through pipes", piped, called, 0.2)
 
 
 def against_kconfiglib():
-    """Each tool makes all its edits by itself, so that neither removes what the other has in the processor's caches."""
     folder = os.path.join(work, "tree")
-    firsts = repeated(first_of_session, folder)
-    library_firsts = [Library(folder).write() for _ in range(REPEATS)]
+    firsts, library_firsts = by_turns(lambda: first_of_session(folder), lambda: Library(folder).write())
+    kept = report("the first config", firsts, library_firsts, 0.2)
     session, library = Session(folder, words), Library(folder)
     library.write()
     names = library.names()
-    shows = compare(f"{EDITS} edits, each with show", folder, session, shows_of(names), repeated(shows_of_library, library, names))
-    configs = compare("an edit with config", folder, session, configs_of(names), repeated(configs_of_library, library, names))
+    shows, configs = shows_of(names), configs_of(names)
+    kept &= compare(
+        f"{EDITS} edits, each with show",
+        lambda: time_in_stream(folder, shows),
+        lambda: time_in_session(session, shows),
+        lambda: shows_of_library(library, names),
+    )
+    kept &= compare(
+        "an edit with config",
+        lambda: time_in_stream(folder, configs),
+        lambda: time_in_session(session, configs),
+        lambda: configs_of_library(library, names),
+    )
     shown = session.ask([f"show {names[at % EDITS]}" for at in range(SHOWS)])
     session.end()
     print(f"{SHOWS} show commands: {shown / SHOWS * 1e6:.1f} microseconds each")
-    return shows & configs & report("the first config", firsts, library_firsts, 0.2)
+    return kept
 
 
 def write_tree(folder, shape, count):
