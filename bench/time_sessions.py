@@ -108,9 +108,15 @@ def shows_of(names):
     return [edits_of(names, turn)[1] for turn in range(TURNS)]
 
 
+def config_edits(names):
+    """The names and the values of edits with `config`: each of some symbols twice, so that each edit is a change, also
+    where all are made again."""
+    return [(name, "ny"[(turn + at) % 2]) for turn in range(2) for at, name in enumerate(names[: CONFIGS // 2])]
+
+
 def configs_of(names):
     """The commands of edits, each with `config`, by edits."""
-    return [[f"set {name} {'ny'[at % 2]}", "config"] for at, name in enumerate(names[:CONFIGS])]
+    return [[f"set {name} {value}", "config"] for name, value in config_edits(names)]
 
 
 def time_in_stream(folder, steps):
@@ -134,7 +140,7 @@ def shows_of_library(library, names):
 def configs_of_library(library, names):
     """The time of an edit in Kconfiglib with the text of all."""
     library.write()
-    return sum(library.edit_and_write(name, "ny"[at % 2]) for at, name in enumerate(names[:CONFIGS])) / CONFIGS
+    return sum(library.edit_and_write(name, value) for name, value in config_edits(names)) / CONFIGS
 
 
 def first_of_session(folder):
