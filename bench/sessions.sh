@@ -5,7 +5,7 @@
 #
 # Without PROGRAM it builds kconf by rt. Without TREE it takes the one file of bench/make_tree.py; else the Kconfig of the
 # folder TREE, which tools/expand_kconfig.py wrote, with the words NAME=VALUE that it printed. It compares, each the
-# median of five runs and behind a `config`, so that each value is kept:
+# median ratio of nine rounds and behind a `config`, so that each value is kept:
 #
 # - an edit with the `show` of its symbol, in twenty turns of 400, with the same in Kconfiglib: set the value, then
 #   read value, visibility and assignable values (wanted: at most 0.2): of a stream in a file, which is what the program

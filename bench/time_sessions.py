@@ -13,7 +13,7 @@ import time
 import kconfiglib
 
 ROUNDS = 11
-REPEATS = 5
+REPEATS = 9
 EDITS = 400
 TURNS = 20
 CONFIGS = 100
@@ -152,14 +152,16 @@ def first_of_session(folder):
 
 
 def report(name, over, under, most):
-    """Prints a ratio of medians in milliseconds, and says whether it is kept."""
-    left, right = statistics.median(over), statistics.median(under)
-    print(f"{name}: {left * 1000:.2f} ms against {right * 1000:.2f} ms: {left / right:.3f} (wanted: at most {most})")
-    return left / right <= most
+    """Prints the median ratio of some rounds, with the median times and the extremes, and says whether it is kept."""
+    ratios = sorted(left / right for left, right in zip(over, under))
+    ratio = statistics.median(ratios)
+    times = f"{statistics.median(over) * 1000:.2f} ms against {statistics.median(under) * 1000:.2f} ms"
+    print(f"{name}: {times}: {ratio:.3f}, of {ratios[0]:.3f} to {ratios[-1]:.3f} (wanted: at most {most})")
+    return ratio <= most
 
 
 def by_turns(*measures):
-    """The times of some measurements, some of each: one after the other, since a machine is slower at times."""
+    """The times of some measurements, some rounds of them: each round is short, since a machine is slower at times."""
     return zip(*([measure() for measure in measures] for _ in range(REPEATS)))
 
 

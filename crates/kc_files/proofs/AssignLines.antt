@@ -1,11 +1,9 @@
 -- The line of an assignment: it has no line feed inside, does not end in a blank, and gives the assignment back.
-use Rattle.std.proofs.Common.{◌≡◌, ℕ, ◌<◌, Bool, true, false, List, [], ◌∷◌, ◌++◌, length, get_or, Some, refl, sym, ap, subst, ◌∙◌}
+use Rattle.std.proofs.Common.{◌≡◌, ℕ, ◌<◌, true, false, List, [], ◌∷◌, ◌++◌, length, Some, refl, sym, subst}
 use Rattle.std.specs.Prelude.{codes}
-use Rattle.std.specs.List.{list_all, list_any}
+use Rattle.std.specs.List.{list_any}
 use Rattle.std.specs.Str.{IsUtf8}
-use Rattle.std.proofs.lemmas.Bool.{true≢false, and_parts}
-use Rattle.kc_statement.specs.declared.id.SymId.{SymId}
-use Rattle.kc_statement.specs.declared.tri.Tri.{Tri}
+use Rattle.std.proofs.lemmas.Bool.{true≢false}
 use Rattle.kc_statement.specs.declared.tri.Tri.TheVariants.{No, Module, Yes}
 use Rattle.kc_statement.specs.declared.symbol_type.SymbolType.{SymbolType}
 use Rattle.kc_statement.specs.declared.symbol_type.SymbolType.TheVariants as kind
@@ -25,7 +23,7 @@ use Rattle.kc_files.specs.WrittenAssigns.{assign_line, has_feed, IsWritable}
 use Rattle.kc_files.proofs.LineEnds.{unfed_both, word_unfed, escaped_unfed, EndsWhole, ends_after, whole_of, int_whole, hex_numeral_whole}
 use Rattle.kc_files.proofs.LineFormLaws.{IsNamed, word_bytes}
 use Rattle.kc_files.proofs.SymbolNames.{named_back, name_formed}
-use Rattle.kc_files.proofs.WrittenLines.{tri_body, text_body, symbol_body, symbol_line_is, written_read}
+use Rattle.kc_files.proofs.WrittenLines.{symbol_body, symbol_line_is, written_read}
 
 -- the line without its line feed
 abbrev pub assign_body : TreeValue → List ℕ → Assign → List ℕ

@@ -1,5 +1,5 @@
 -- Without a user value or a chosen member nothing was changed.
-use Rattle.std.proofs.Common.{◌≡◌, Option, None, refl}
+use Rattle.std.proofs.Common.{◌≡◌, None, refl}
 use Rattle.kc_statement.specs.declared.id.SymId.{SymId}
 use Rattle.kc_outline.specs.declared.id.ChoiceId.{ChoiceId}
 use Rattle.kc_outline.specs.TreeValue.{TreeValue}

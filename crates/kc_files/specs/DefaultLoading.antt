@@ -1,5 +1,5 @@
 -- What the text of the default file gives a tree where it is loaded: this project's own.
-use Rattle.std.specs.Prelude.{◌≡◌, Bool, false, ℕ, List, [], ◌∷◌, ◌++◌, Option, Some, None, option_map, filter_map, codes}
+use Rattle.std.specs.Prelude.{◌≡◌, false, ℕ, List, [], ◌∷◌, ◌++◌, Some, option_map, filter_map, codes}
 use Rattle.std.specs.List.{flat_map, list_any}
 use Rattle.kc_statement.specs.declared.id.SymId.{SymId}
 use Rattle.kc_outline.specs.declared.id.ChoiceId.{ChoiceId}

@@ -16,7 +16,9 @@ use crate::prefix::Prefix;
 use crate::symbols::{type_of, written_value};
 use crate::titles::{comment_title, menu_title};
 use kc_tree::{BlockId, CommentId, Entry, SymId, Tree};
-use kc_value::{Resolver, SharedConditions, Value, all_values, comment_condition, menu_condition};
+use kc_value::{
+    NodeValues, Resolver, SharedConditions, all_values, comment_condition, menu_condition,
+};
 use std::alloc::{AllocError, Global};
 
 /// Whether a menu has its lines: its condition is not n.
@@ -24,7 +26,7 @@ fn menu_shows(
     tree: &Tree,
     menu: BlockId,
     conditions: &SharedConditions,
-    values: &[Option<Value>],
+    values: &NodeValues,
 ) -> bool
     requires { AreSharedBy tree.now values.now conditions.now }
     ensures { (a : Assignment) → Agrees tree.now values.now a
@@ -38,7 +40,7 @@ fn comment_shows(
     tree: &Tree,
     comment: CommentId,
     conditions: &SharedConditions,
-    values: &[Option<Value>],
+    values: &NodeValues,
 ) -> bool
     requires { AreSharedBy tree.now values.now conditions.now }
     ensures { (a : Assignment) → Agrees tree.now values.now a
@@ -62,7 +64,7 @@ fn push_symbol(
     draft: &mut Draft,
     tree: &Tree,
     prefix: &Prefix,
-    values: &[Option<Value>],
+    values: &NodeValues,
     symbol: SymId,
 ) -> Result<(), AllocError>
     ensures { OnOk result (draft.new ≡ with_option draft.old (option_map
@@ -80,7 +82,7 @@ fn push_menu(
     draft: &mut Draft,
     tree: &Tree,
     conditions: &SharedConditions,
-    values: &[Option<Value>],
+    values: &NodeValues,
     menu: BlockId,
 ) -> Result<(), AllocError>
     requires { AreSharedBy tree.now values.now conditions.now }
@@ -99,7 +101,7 @@ fn push_menu_end(
     draft: &mut Draft,
     tree: &Tree,
     conditions: &SharedConditions,
-    values: &[Option<Value>],
+    values: &NodeValues,
     before: Option<Entry>,
     menu: BlockId,
 ) -> Result<(), AllocError>
@@ -120,7 +122,7 @@ fn push_comment(
     draft: &mut Draft,
     tree: &Tree,
     conditions: &SharedConditions,
-    values: &[Option<Value>],
+    values: &NodeValues,
     comment: CommentId,
 ) -> Result<(), AllocError>
     requires { AreSharedBy tree.now values.now conditions.now }
@@ -140,7 +142,7 @@ fn push_entry(
     tree: &Tree,
     prefix: &Prefix,
     conditions: &SharedConditions,
-    values: &[Option<Value>],
+    values: &NodeValues,
     before: Option<Entry>,
     entry: Entry,
 ) -> Result<(), AllocError>
@@ -164,7 +166,7 @@ fn push_entries(
     tree: &Tree,
     prefix: &Prefix,
     conditions: &SharedConditions,
-    values: &[Option<Value>],
+    values: &NodeValues,
 ) -> Result<(), AllocError>
     requires { AreSharedBy tree.now values.now conditions.now }
     ensures { OnOk result ((a : Assignment) → Agrees tree.now values.now a
@@ -183,14 +185,14 @@ fn push_entries(
 pub fn config_text_over(
     alloc: Global,
     tree: &Tree,
-    values: &[Option<Value>],
+    values: &NodeValues,
     prefix: &Prefix,
     header: &str,
 ) -> Result<String, AllocError>
     ensures { IfOk result (λ text. (a : Assignment) → Agrees tree.now values.now a
         → string_bytes text ≡ config_text_of tree.now prefix.now header.now a) }
 {
-    let conditions = SharedConditions::of(alloc, tree, values)?;
+    let conditions = SharedConditions::of_blocks(alloc, tree, values)?;
     let mut draft = Draft::new(String::from_str(alloc, header)?);
     push_entries(&mut draft, tree, prefix, &conditions, values)?;
     Ok(draft.into_string())
@@ -216,6 +218,6 @@ pub fn config_text<R: Resolver>(
     ensures grew { R.grew resolver.old resolver.new (all_nodes (R.tree_of resolver.old)) }
 {
     let values = all_values(alloc, resolver)?;
-    let text = config_text_over(alloc, resolver.tree(), values.as_slice(), prefix, header)?;
+    let text = config_text_over(alloc, resolver.tree(), &values, prefix, header)?;
     Ok(text)
 }

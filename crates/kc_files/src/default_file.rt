@@ -17,7 +17,7 @@ use crate::prefix::Prefix;
 use crate::symbol_line::push_symbol_line;
 use crate::symbols::{choice_of, is_symbol, selected_member, type_of};
 use kc_tree::{ChoiceId, Entry, Node, SymId, Tree, Tri, UserVal};
-use kc_value::{Resolver, SharedConditions, User, Value, all_values, changed_value};
+use kc_value::{NodeValues, Resolver, SharedConditions, User, Value, all_values, changed_value};
 use std::alloc::{AllocError, Global};
 
 /// The value of a symbol, where it is another than without the user's own: it is the same where the user gave none.
@@ -27,7 +27,7 @@ fn changed_symbol(
     tree: &Tree,
     user: &User,
     conditions: &SharedConditions,
-    values: &[Option<Value>],
+    values: &NodeValues,
     symbol: SymId,
 ) -> Result<Option<Value>, AllocError>
     requires node { IsNodeOf tree.now (Val symbol) }
@@ -49,7 +49,7 @@ fn changed_selection(
     tree: &Tree,
     user: &User,
     conditions: &SharedConditions,
-    values: &[Option<Value>],
+    values: &NodeValues,
     choice: ChoiceId,
 ) -> Result<Option<Value>, AllocError>
     requires node { IsNodeOf tree.now (Sel choice) }
@@ -70,7 +70,7 @@ fn is_changed_member(
     tree: &Tree,
     user: &User,
     conditions: &SharedConditions,
-    values: &[Option<Value>],
+    values: &NodeValues,
     choice: ChoiceId,
     member: SymId,
 ) -> Result<bool, AllocError>
@@ -95,7 +95,7 @@ fn default_value(
     tree: &Tree,
     user: &User,
     conditions: &SharedConditions,
-    values: &[Option<Value>],
+    values: &NodeValues,
     symbol: SymId,
 ) -> Result<Option<UserVal>, AllocError>
     requires node { IsNodeOf tree.now (Vis symbol) }
@@ -133,7 +133,7 @@ fn push_symbol(
     user: &User,
     prefix: &str,
     conditions: &SharedConditions,
-    values: &[Option<Value>],
+    values: &NodeValues,
     symbol: SymId,
 ) -> Result<(), AllocError>
     requires node { IsNodeOf tree.now (Vis symbol) }
@@ -162,7 +162,7 @@ fn push_entry(
     user: &User,
     prefix: &str,
     conditions: &SharedConditions,
-    values: &[Option<Value>],
+    values: &NodeValues,
     entry: Entry,
 ) -> Result<(), AllocError>
     requires entry { IsEntryOf tree.now entry }
@@ -191,7 +191,7 @@ fn push_entries(
     user: &User,
     prefix: &str,
     conditions: &SharedConditions,
-    values: &[Option<Value>],
+    values: &NodeValues,
 ) -> Result<(), AllocError>
     requires changes { ChangesAreJustEnough tree.now user.now }
     requires conditions { AreSharedBy tree.now values.now conditions.now }
@@ -229,10 +229,9 @@ pub fn defconfig_text<R: Resolver>(
     ensures user { R.user_of resolver.new ≡ R.user_of resolver.old }
     ensures grew { R.grew resolver.old resolver.new (all_nodes (R.tree_of resolver.old)) }
 {
-    let all = all_values(alloc, resolver)?;
-    let values = all.as_slice();
+    let values = all_values(alloc, resolver)?;
     let tree = resolver.tree();
-    let conditions = SharedConditions::of(alloc, tree, values)?;
+    let conditions = SharedConditions::of(alloc, tree, &values)?;
     let mut text = String::new(alloc);
     push_entries(
         alloc,
@@ -241,7 +240,7 @@ pub fn defconfig_text<R: Resolver>(
         resolver.user(),
         prefix.as_str(),
         &conditions,
-        values,
+        &values,
     )?;
     Ok(text)
 }

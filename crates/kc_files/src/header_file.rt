@@ -14,7 +14,7 @@ use crate::prefix::Prefix;
 use crate::quoting::push_quoted;
 use crate::symbols::{type_of, written_value};
 use kc_tree::{Entry, SymId, SymbolType, Tree, Tri, UserVal};
-use kc_value::{Resolver, Value, all_values};
+use kc_value::{NodeValues, Resolver, all_values};
 use std::alloc::{AllocError, Global};
 
 /// The byte of an index, 0 past the end.
@@ -144,7 +144,7 @@ fn push_symbol(
     out: &mut String,
     tree: &Tree,
     prefix: &Prefix,
-    values: &[Option<Value>],
+    values: &NodeValues,
     symbol: SymId,
 ) -> Result<(), AllocError>
     ensures { OnOk result (string_bytes out.new
@@ -161,7 +161,7 @@ fn push_entry(
     out: &mut String,
     tree: &Tree,
     prefix: &Prefix,
-    values: &[Option<Value>],
+    values: &NodeValues,
     entry: Entry,
 ) -> Result<(), AllocError>
     requires { IsEntryOf tree.now entry }
@@ -183,7 +183,7 @@ fn push_entries(
     out: &mut String,
     tree: &Tree,
     prefix: &Prefix,
-    values: &[Option<Value>],
+    values: &NodeValues,
 ) -> Result<(), AllocError>
     ensures { (u : UserValues) → AreSolved tree.now u values.now → OnOk result (string_bytes out.new
         ≡ string_bytes out.old ++ header_text_of tree.now prefix.now (solution tree.now u)) }
@@ -199,7 +199,7 @@ fn push_entries(
 pub fn header_text_over(
     alloc: Global,
     tree: &Tree,
-    values: &[Option<Value>],
+    values: &NodeValues,
     prefix: &Prefix,
 ) -> Result<String, AllocError>
     ensures { IfOk result (λ text. (u : UserValues) → AreSolved tree.now u values.now
@@ -230,6 +230,6 @@ pub fn header_text<R: Resolver>(
     ensures grew { R.grew resolver.old resolver.new (all_nodes (R.tree_of resolver.old)) }
 {
     let values = all_values(alloc, resolver)?;
-    let text = header_text_over(alloc, resolver.tree(), values.as_slice(), prefix)?;
+    let text = header_text_over(alloc, resolver.tree(), &values, prefix)?;
     Ok(text)
 }

@@ -18,7 +18,7 @@ use crate::symbols::{
     choice_of, is_symbol, is_tri_type, selected_member, shown_text, type_of, visibility,
 };
 use kc_tree::{ChoiceId, Entry, SymId, Tree};
-use kc_value::{Resolver, SharedConditions, User, Value, all_values, assignable_among};
+use kc_value::{NodeValues, Resolver, SharedConditions, User, all_values, assignable_among};
 use std::alloc::{AllocError, Global};
 
 /// Whether a user can give the symbol another value than it has.
@@ -27,7 +27,7 @@ fn has_another_value(
     tree: &Tree,
     user: &User,
     conditions: &SharedConditions,
-    values: &[Option<Value>],
+    values: &NodeValues,
     symbol: SymId,
 ) -> Result<bool, AllocError>
     requires inside { IsNodeOf tree.now (Vis symbol) }
@@ -49,7 +49,7 @@ fn is_new_symbol(
     tree: &Tree,
     user: &User,
     conditions: &SharedConditions,
-    values: &[Option<Value>],
+    values: &NodeValues,
     symbol: SymId,
 ) -> Result<bool, AllocError>
     requires inside { IsNodeOf tree.now (Vis symbol) }
@@ -65,7 +65,7 @@ fn is_new_symbol(
 }
 
 /// Whether a symbol of the tree is visible.
-fn is_visible(tree: &Tree, values: &[Option<Value>], symbol: SymId) -> bool
+fn is_visible(tree: &Tree, values: &NodeValues, symbol: SymId) -> bool
     ensures { result ≡ is_visible tree.now (assignment_of tree.now values.now) symbol }
 {
     match tree.symbols().get(symbol.0 as usize) {
@@ -75,7 +75,7 @@ fn is_visible(tree: &Tree, values: &[Option<Value>], symbol: SymId) -> bool
 }
 
 /// How many of the members are visible.
-fn visible_count(tree: &Tree, values: &[Option<Value>], members: &[SymId]) -> usize
+fn visible_count(tree: &Tree, values: &NodeValues, members: &[SymId]) -> usize
     ensures { result ≡ count_by (is_visible tree.now (assignment_of tree.now values.now)) members.now }
 {
     members
@@ -85,7 +85,7 @@ fn visible_count(tree: &Tree, values: &[Option<Value>], members: &[SymId]) -> us
 }
 
 /// Whether two members of a choice or more are visible.
-fn has_another_member(tree: &Tree, values: &[Option<Value>], choice: ChoiceId) -> bool
+fn has_another_member(tree: &Tree, values: &NodeValues, choice: ChoiceId) -> bool
     ensures { result ≡ nat_le 2 (visible_count tree.now (assignment_of tree.now values.now) choice) }
 {
     match tree.choices().get(choice.0 as usize) {
@@ -98,7 +98,7 @@ fn has_another_member(tree: &Tree, values: &[Option<Value>], choice: ChoiceId) -
 fn is_new_member(
     tree: &Tree,
     user: &User,
-    values: &[Option<Value>],
+    values: &NodeValues,
     choice: ChoiceId,
     member: SymId,
 ) -> bool
@@ -116,7 +116,7 @@ fn is_new(
     tree: &Tree,
     user: &User,
     conditions: &SharedConditions,
-    values: &[Option<Value>],
+    values: &NodeValues,
     symbol: SymId,
 ) -> Result<bool, AllocError>
     requires inside { IsNodeOf tree.now (Vis symbol) }
@@ -139,7 +139,7 @@ fn push_symbol(
     user: &User,
     prefix: &Prefix,
     conditions: &SharedConditions,
-    values: &[Option<Value>],
+    values: &NodeValues,
     symbol: SymId,
 ) -> Result<(), AllocError>
     requires inside { IsNodeOf tree.now (Vis symbol) }
@@ -170,7 +170,7 @@ fn push_entry(
     user: &User,
     prefix: &Prefix,
     conditions: &SharedConditions,
-    values: &[Option<Value>],
+    values: &NodeValues,
     entry: Entry,
 ) -> Result<(), AllocError>
     requires inside { IsEntryOf tree.now entry }
@@ -200,7 +200,7 @@ fn push_entries(
     user: &User,
     prefix: &Prefix,
     conditions: &SharedConditions,
-    values: &[Option<Value>],
+    values: &NodeValues,
 ) -> Result<(), AllocError>
     requires sized { IsUserFor tree.now user.now }
     requires conditions { AreSharedBy tree.now values.now conditions.now }
@@ -232,10 +232,9 @@ pub fn new_text<R: Resolver>(
     ensures user { R.user_of resolver.new ≡ R.user_of resolver.old }
     ensures grew { R.grew resolver.old resolver.new (all_nodes (R.tree_of resolver.old)) }
 {
-    let all = all_values(alloc, resolver)?;
-    let values = all.as_slice();
+    let values = all_values(alloc, resolver)?;
     let tree = resolver.tree();
-    let conditions = SharedConditions::of(alloc, tree, values)?;
+    let conditions = SharedConditions::of(alloc, tree, &values)?;
     let mut text = String::new(alloc);
     push_entries(
         alloc,
@@ -244,7 +243,7 @@ pub fn new_text<R: Resolver>(
         resolver.user(),
         prefix,
         &conditions,
-        values,
+        &values,
     )?;
     Ok(text)
 }

@@ -10,7 +10,7 @@ ghost use Rattle.kc_value.specs.ChoiceRule.{is_symbol, selected_in};
 ghost use Rattle.kc_files.specs.ConfigText.{type_of, written_value};
 
 use kc_tree::{ChoiceId, Node, SymId, SymbolType, Tree, Tri, UserVal};
-use kc_value::Value;
+use kc_value::{NodeValues, Value};
 
 /// The declared type of a symbol, bool for a number that the tree doesn't have.
 pub(crate) fn type_of(tree: &Tree, symbol: SymId) -> SymbolType
@@ -32,39 +32,33 @@ pub(crate) fn choice_of(tree: &Tree, symbol: SymId) -> Option<ChoiceId>
 /// The value of a symbol that is written.
 pub(crate) fn written_value<'a>(
     tree: &Tree,
-    values: &'a [Option<Value>],
+    values: &'a NodeValues,
     symbol: SymId,
 ) -> Option<&'a UserVal>
     ensures { option_copied result ≡ written_value (assignment_of tree.now values.now) symbol }
 {
     match values.get(tree.number(Node::Val(symbol))) {
-        Some(Some(Value::Shown(value, true))) => Some(value),
-        Some(Some(Value::Shown(_, false) | Value::Tri(_) | Value::Member(_)) | None) | None => None,
+        Some(Value::Shown(value, true)) => Some(value),
+        Some(Value::Shown(_, false) | Value::Tri(_) | Value::Member(_)) | None => None,
     }
 }
 
 /// The value of a node, by its number.
-fn value_at<'a>(tree: &Tree, values: &'a [Option<Value>], node: Node) -> Option<&'a Value>
+fn value_at<'a>(tree: &Tree, values: &'a NodeValues, node: Node) -> Option<&'a Value>
     ensures { option_copied result ≡ value_at tree.now values.now node }
 {
-    match values.get(tree.number(node)) {
-        Some(Some(value)) => Some(value),
-        Some(None) | None => None,
-    }
+    values.get(tree.number(node))
 }
 
 /// The visibility of a symbol.
-pub(crate) fn visibility(tree: &Tree, values: &[Option<Value>], symbol: SymId) -> Tri
+pub(crate) fn visibility(tree: &Tree, values: &NodeValues, symbol: SymId) -> Tri
     ensures { result ≡ as_tri (assignment_of tree.now values.now (Vis symbol)) }
 {
-    match value_at(tree, values, Node::Vis(symbol)) {
-        Some(value) => value.as_tri(),
-        None => Tri::No,
-    }
+    values.tri(tree.number(Node::Vis(symbol)))
 }
 
 /// The text of the value that a symbol shows.
-pub(crate) fn shown_text<'a>(tree: &Tree, values: &'a [Option<Value>], symbol: SymId) -> &'a str
+pub(crate) fn shown_text<'a>(tree: &Tree, values: &'a NodeValues, symbol: SymId) -> &'a str
     ensures { result.now ≡ as_text (assignment_of tree.now values.now (Val symbol)) }
 {
     match value_at(tree, values, Node::Val(symbol)) {
@@ -74,11 +68,7 @@ pub(crate) fn shown_text<'a>(tree: &Tree, values: &'a [Option<Value>], symbol: S
 }
 
 /// The selected member of a choice of the tree.
-pub(crate) fn selected_member(
-    tree: &Tree,
-    values: &[Option<Value>],
-    choice: ChoiceId,
-) -> Option<SymId>
+pub(crate) fn selected_member(tree: &Tree, values: &NodeValues, choice: ChoiceId) -> Option<SymId>
     ensures { result ≡ selected_in tree.now (assignment_of tree.now values.now) choice }
 {
     tree.choices().get(choice.0 as usize)?;

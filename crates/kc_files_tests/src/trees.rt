@@ -57,8 +57,8 @@ pub(crate) fn load(alloc: Global, tree: &Tree, user: &mut User, config: &[u8]) -
 
 /// Appends a line for a value: its text, whether a line is written for it, and one more than the number of the member
 /// that is selected.
-fn push_value(alloc: Global, out: &mut String, value: Option<&Option<Value>>) -> Result<(), Fail> {
-    if let Some(Some(value)) = value {
+fn push_value(alloc: Global, out: &mut String, value: Option<&Value>) -> Result<(), Fail> {
+    if let Some(value) = value {
         let (text, is_written) = (value.as_text(), value.is_written());
         let member = match value.as_member() {
             Some(member) => u64::from(member.0) + 1,
@@ -78,7 +78,7 @@ pub(crate) fn show_owned(alloc: Global, tree: &Tree, user: &User) -> Result<Stri
     let mut out = String::new(alloc);
     for node in tree.nodes() {
         if let Node::Val(_) | Node::Sel(_) = node {
-            push_value(alloc, &mut out, values.as_slice().get(tree.number(node)))?;
+            push_value(alloc, &mut out, values.get(tree.number(node)))?;
         }
     }
     Ok(out)
@@ -93,7 +93,7 @@ pub(crate) fn show_visibilities(alloc: Global, tree: &Tree, user: &User) -> Resu
     let mut out = String::new(alloc);
     for node in tree.nodes() {
         if let Node::Vis(_) = node {
-            push_value(alloc, &mut out, values.as_slice().get(tree.number(node)))?;
+            push_value(alloc, &mut out, values.get(tree.number(node)))?;
         }
     }
     Ok(out)

@@ -12,7 +12,7 @@ ghost use Rattle.kc_session.specs.ChoiceLine.{choice_line_of, choices_text_of, m
 use crate::kept::kept_value;
 use kc_files::push_quoted;
 use kc_tree::{ChoiceId, Node, SymId, Tree};
-use kc_value::{User, Value, tri_letter};
+use kc_value::{NodeValues, User, tri_letter};
 use std::alloc::{AllocError, Global};
 
 /// The prompt of a choice, empty where it has none.
@@ -57,7 +57,7 @@ fn choice_line(
     alloc: Global,
     tree: &Tree,
     user: &User,
-    values: &[Option<Value>],
+    values: &NodeValues,
     choice: ChoiceId,
 ) -> Result<String, AllocError>
     requires inside { IsNodeOf tree.now (Mode choice) }
@@ -93,7 +93,7 @@ pub(crate) fn choices_text(
     alloc: Global,
     tree: &Tree,
     user: &User,
-    values: &[Option<Value>],
+    values: &NodeValues,
 ) -> Result<String, AllocError>
     requires kept { AreKept tree.now user.now values.now }
     requires asked { (c : ChoiceId) → IsNodeOf tree.now (Sel c) → IsKept tree.now values.now (Sel c) }

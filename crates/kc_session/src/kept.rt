@@ -7,17 +7,17 @@ ghost use Rattle.kc_value.specs.Solution.{solution};
 ghost use Rattle.kc_value.specs.UserValues.{UserValues};
 
 use kc_tree::{Node, Tree};
-use kc_value::Value;
+use kc_value::{NodeValues, Value};
 
 /// The value of a node that is kept.
-pub(crate) fn kept_value<'a>(tree: &Tree, values: &'a [Option<Value>], node: Node) -> &'a Value
+pub(crate) fn kept_value<'a>(tree: &Tree, values: &'a NodeValues, node: Node) -> &'a Value
     requires inside { IsNodeOf tree.now node }
     requires kept { IsKept tree.now values.now node }
     ensures value { (u : UserValues) → AreKept tree.now u values.now → result.now ≡ solution tree.now u node }
     ensures accepted { IsAccepted tree.now }
 {
     match values.get(tree.number(node)) {
-        Some(Some(value)) => value,
-        Some(None) | None => unreachable!(),
+        Some(value) => value,
+        None => unreachable!(),
     }
 }

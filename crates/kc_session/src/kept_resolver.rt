@@ -9,7 +9,7 @@ ghost use Rattle.kc_value.specs.Solution.{solution, IsOnlySolution};
 ghost use Rattle.kc_value.specs.UserValues.{UserValues, IsUserFor, no_values};
 
 use kc_tree::{Node, Tree};
-use kc_value::{KeptValues, Resolver, User, Value};
+use kc_value::{KeptValues, NodeValues, Resolver, User, Value};
 use std::alloc::{AllocError, Global};
 use std::marker::Model;
 
@@ -104,7 +104,7 @@ impl KeptResolver {
     }
 
     /// The values that are kept, by number. They are right, whatever was done before.
-    pub(crate) fn values(&self) -> &[Option<Value>]
+    pub(crate) fn values(&self) -> &NodeValues
         ensures values { result.now ≡ self.now.kept.values }
         ensures sound { IsResolving self.now }
     {

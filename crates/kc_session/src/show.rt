@@ -16,7 +16,7 @@ use crate::kept::kept_value;
 use crate::values::{choice_of, type_of};
 use kc_files::push_text_in;
 use kc_tree::{Node, SymId, SymbolType, Tree, Tri, UserVal};
-use kc_value::{SharedConditions, User, Value, assignable_among, tri_letter};
+use kc_value::{NodeValues, SharedConditions, User, Value, assignable_among, tri_letter};
 use std::alloc::{AllocError, Global};
 
 /// The line of `show` about a symbol whose value is kept. What it is computed from, as its visibility, is kept with it.
@@ -29,7 +29,7 @@ pub(crate) fn show_line(
     tree: &Tree,
     user: &User,
     conditions: &SharedConditions,
-    values: &[Option<Value>],
+    values: &NodeValues,
     symbol: SymId,
 ) -> Result<String, AllocError>
     requires inside { IsNodeOf tree.now (Vis symbol) }
@@ -153,7 +153,7 @@ pub(crate) fn list_text(
     alloc: Global,
     tree: &Tree,
     user: &User,
-    values: &[Option<Value>],
+    values: &NodeValues,
 ) -> Result<String, AllocError>
     requires user { IsUserFor tree.now user.now }
     requires kept { AreKept tree.now user.now values.now }

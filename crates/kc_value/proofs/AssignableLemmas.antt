@@ -142,21 +142,20 @@ shown_agrees t u a b s same =
     (λ i v. as_tri (rule_agrees t (with_value u s (Some (TriVal v))) a b (Val s) same i))
 
 -- what was shown over the values of the used nodes is what can be given to a visible symbol that is no member
-pub visible_values : (t t₁ t₂ : TreeValue) (u u₁ : UserValues) (s : SymId) (env lent : List (Option Value)) (items : List Tri)
-    → t₁ ≡ t → u₁ ≡ u → t₂ ≡ t → lent ≡ env → IsUserFor t u
+pub visible_values : (t t₁ t₂ : TreeValue) (u u₁ : UserValues) (s : SymId) (env : List (Option Value)) (items : List Tri)
+    → t₁ ≡ t → u₁ ≡ u → t₂ ≡ t → IsUserFor t u
     → ((n : Node) → Uses t₁ (Val s) n → assignment_of t₁ env n ≡ solution t₁ u₁ n)
-    → ((w : UserValues) → IsUserFor t₂ w → items ≡ filter (is_shown_with_some t₂ w (assignment_of t₂ lent) s) (No ∷ Module ∷ Yes ∷ []))
+    → ((w : UserValues) → IsUserFor t₂ w → items ≡ filter (is_shown_with_some t₂ w (assignment_of t₂ env) s) (No ∷ Module ∷ Yes ∷ []))
     → is_no (as_tri (solution t u (Vis s))) ≡ false
     → is_some (choice_of t s) ≡ false
     → items ≡ assignable_in t u (solution t u) s
-visible_values t t₁ t₂ u u₁ s env lent items e₁ f₁ e₂ g sized right shown seen alone =
+visible_values t t₁ t₂ u u₁ s env items e₁ f₁ e₂ sized right shown seen alone =
     let same : (n : Node) → Uses t (Val s) n → assignment_of t env n ≡ solution t u n = λ n uses.
     sym (ap (λ x. assignment_of x env n) e₁) ∙ right n (subst (λ x. Uses x (Val s) n) (sym e₁) uses) ∙ ap (λ x. solution x u₁ n) e₁ ∙ ap (λ w. solution t w n) f₁
     in
     let all = filter (is_shown_with_some t u (solution t u) s) (No ∷ Module ∷ Yes ∷ []) in
     shown u (subst (λ x. IsUserFor x u) (sym e₂) sized)
-    ∙ ap (λ x. filter (is_shown_with_some x u (assignment_of x lent) s) (No ∷ Module ∷ Yes ∷ [])) e₂
-    ∙ ap (λ l. filter (is_shown_with_some t u (assignment_of t l) s) (No ∷ Module ∷ Yes ∷ [])) g
+    ∙ ap (λ x. filter (is_shown_with_some x u (assignment_of x env) s) (No ∷ Module ∷ Yes ∷ [])) e₂
     ∙ shown_agrees t u (assignment_of t env) (solution t u) s same
     ∙ sym (ap (λ b. if b then [] else (if is_some (choice_of t s) then Yes ∷ [] else all)) seen ∙ ap (λ b. if b then Yes ∷ [] else all) alone)
 

@@ -19,9 +19,13 @@ use Rattle.kc_tree.proofs.NodeNumbers.{at_below, Contains-at, Contains-from_at, 
 use Rattle.kc_value.specs.declared.value.Value.{Value}
 use Rattle.kc_value.specs.Assignment.{value_at}
 use Rattle.kc_value.specs.Dirty.{Drops}
-use Rattle.kc_value.specs.DropWalk.{AreUnmarked, AreWalked, DropsAll, IsDropping, IsFrom, NothingToDrop}
+use Rattle.kc_value.specs.DropWalk.{AreAbsent, AreWalked, DropsAll, IsDropping, IsFrom, NothingToDrop}
 use Rattle.kc_value.specs.Kept.{IsKept, IsClosed, kept_count}
-use Rattle.kc_value.proofs.SlotLemmas.{none_set, unmarked_is_empty}
+use Rattle.kc_value.specs.NodeValues.{is_present, summary_of}
+use Rattle.kc_value.specs.declared.node_values.Summary.{Summary}
+use Rattle.kc_value.specs.declared.node_values.Summary.TheVariants.{Yes}
+use Rattle.kc_value.proofs.NodeValueLemmas.{absent_is_empty}
+use Rattle.kc_value.proofs.SlotLemmas.{none_set}
 use Rattle.kc_value.proofs.UsesLaws.{user_node}
 
 -- ---- how many values are kept
@@ -187,11 +191,11 @@ module _ (t : TreeValue) (g : List (List ℕ)) (numbers : List ℕ) (old new : L
       let same : i + (to - i) ≡ to = omega (arith, h) in
       subst DropsFor same (row_passed (to - i) (omega (arith, h, within)) (λ j a b. none j a (omega (arith, b, h))) drops)
 
--- numbers that are not marked have nothing to drop
-pub nothing_unmarked : (t : TreeValue) (values : List (Option Value)) (filled : List Bool) (numbers : List ℕ) (from to : ℕ) → filled ≡ map is_some values → length values ≡ node_count t
-    → AreUnmarked filled numbers from to → NothingToDrop t values numbers from to
-nothing_unmarked t values filled numbers from to is whole none i above below =
-    let one = unmarked_is_empty values (get_or numbers i 0) (subst (λ (xs : List Bool). get_or xs (get_or numbers i 0) true ≡ false) is (none i above below)) in
+-- numbers of nodes of which it is said that they have no value have nothing to drop
+pub nothing_absent : (t : TreeValue) (values : List (Option Value)) (summaries : List Summary) (numbers : List ℕ) (from to : ℕ) → summaries ≡ map summary_of values → length values ≡ node_count t
+    → AreAbsent summaries numbers from to → NothingToDrop t values numbers from to
+nothing_absent t values summaries numbers from to is whole none i above below =
+    let one = absent_is_empty values (get_or numbers i 0) (subst (λ (xs : List Summary). is_present (get_or xs (get_or numbers i 0) Yes) ≡ false) is (none i above below)) in
     (subst (λ n. get_or numbers i 0 < n) whole one.0, one.1)
 
 -- ---- the marks of shared lists

@@ -2,7 +2,7 @@
 use Rattle.std.proofs.Common.{◌≡◌, ◌↔◌, ℕ, ◌+◌, ◌<◌, ◌≤◌, ◌-◌, List, [], ◌∷◌, ◌++◌, map, length, get_or, take, drop, Option, Some, None, unwrap_or, refl, sym, ap, ◌∙◌, set, subst, ⊎_elim, get_or-set_same, get_or-set_other, arith}
 use Rattle.std.specs.List.{Contains, range_with_len}
 use Rattle.std.proofs.lemmas.Bool.{cases_eq}
-use Rattle.std.proofs.lemmas.List.{take_all, take_more, drop_more, length-drop}
+use Rattle.std.proofs.lemmas.List.{take_all, take_more, drop_more, length-drop, get_or-map}
 use Rattle.std.proofs.lemmas.List.Elements.{Contains-push_cases, Contains-get_or}
 use Rattle.std.proofs.lemmas.List.FromFn.{get_or-map-range_with_len, length-map-range_with_len, map-range_with_len_more}
 use Rattle.kc_tree.specs.declared.node.Node.{Node}
@@ -34,27 +34,27 @@ used_in_one t m q uses n (p, asked, leads) =
     ⊎_elim (λ first. (p, first, leads)) (λ same. (m, (0, omega arith, refl), step uses (subst (λ x. Leads t x n) (sym same) leads))) (Contains-push_cases (m ∷ []) q p asked)
 
 -- the values of all nodes up to a number
-abbrev pub values_up_to : TreeValue → UserValues → ℕ → List (Option Value)
-values_up_to t u k = map (λ j. Some (solution t u (node_at t j))) (range_with_len 0 k)
+abbrev pub values_up_to : TreeValue → UserValues → ℕ → List Value
+values_up_to t u k = map (λ j. solution t u (node_at t j)) (range_with_len 0 k)
 
-pub one_more_value : (t s : TreeValue) (u w : UserValues) (k : ℕ) (n : Node) (v : Value) (before after : List (Option Value))
-    → s ≡ t → w ≡ u → n ≡ node_at t k → v ≡ solution s w n → before ≡ values_up_to t u k → after ≡ before ++ Some v ∷ []
+pub one_more_value : (t s : TreeValue) (u w : UserValues) (k : ℕ) (n : Node) (v : Value) (before after : List Value)
+    → s ≡ t → w ≡ u → n ≡ node_at t k → v ≡ solution s w n → before ≡ values_up_to t u k → after ≡ before ++ v ∷ []
     → after ≡ values_up_to t u (k + 1)
 one_more_value t s u w k n v before after tree user node is kept pushed =
     let right : v ≡ solution t u (node_at t k) = is ∙ ap (λ x. solution x w n) tree ∙ ap (λ x. solution t x n) user ∙ ap (solution t u) node in
     pushed
-    ∙ ap (λ vs. vs ++ Some v ∷ []) kept
-    ∙ ap (λ x. values_up_to t u k ++ Some x ∷ []) right
-    ∙ sym (map-range_with_len_more (λ j. Some (solution t u (node_at t j))) 0 k k (omega arith))
+    ∙ ap (λ vs. vs ++ v ∷ []) kept
+    ∙ ap (λ x. values_up_to t u k ++ x ∷ []) right
+    ∙ sym (map-range_with_len_more (λ j. solution t u (node_at t j)) 0 k k (omega arith))
 
 -- the same where the list itself says how many there are
-pub one_more_counted : (t s : TreeValue) (u w : UserValues) (n : Node) (v : Value) (before after : List (Option Value))
-    → s ≡ t → w ≡ u → n ≡ node_at t (length before) → v ≡ solution s w n → before ≡ values_up_to t u (length before) → after ≡ before ++ Some v ∷ []
+pub one_more_counted : (t s : TreeValue) (u w : UserValues) (n : Node) (v : Value) (before after : List Value)
+    → s ≡ t → w ≡ u → n ≡ node_at t (length before) → v ≡ solution s w n → before ≡ values_up_to t u (length before) → after ≡ before ++ v ∷ []
     → (length after ≡ length before + 1) × (after ≡ values_up_to t u (length after))
 one_more_counted t s u w n v before after tree user node is kept pushed =
     let k : ℕ = length before in
     let all : after ≡ values_up_to t u (k + 1) = one_more_value t s u w k n v before after tree user node is kept pushed in
-    let long : length after ≡ k + 1 = ap length all ∙ length-map-range_with_len (λ j. Some (solution t u (node_at t j))) 0 (k + 1) in
+    let long : length after ≡ k + 1 = ap length all ∙ length-map-range_with_len (λ j. solution t u (node_at t j)) 0 (k + 1) in
     (long, all ∙ ap (values_up_to t u) (sym long))
 
 -- the first of the nodes that are left
@@ -76,12 +76,15 @@ none_of_all t k within e =
     omega (arith, none, long, within)
 
 -- the values of all nodes, as an assignment
-pub all_values_right : (t : TreeValue) (u : UserValues) (k : ℕ) (vs : List (Option Value)) → k ≡ node_count t → vs ≡ values_up_to t u k
-    → (n : Node) → IsNodeOf t n → assignment_of t vs n ≡ solution t u n
-all_values_right t u k vs whole is n inside =
+pub all_values_right : (t : TreeValue) (u : UserValues) (k : ℕ) (vs : List Value) (all : List (Option Value)) → k ≡ node_count t → vs ≡ values_up_to t u k → all ≡ map Some vs
+    → (n : Node) → IsNodeOf t n → assignment_of t all n ≡ solution t u n
+all_values_right t u k vs all whole is each n inside =
     let below : number_of t n < k = subst (λ j. number_of t n < j) (sym whole) (number_below t n inside) in
-    ap (λ xs. assignment_of t xs n) is
-    ∙ ap (λ o. unwrap_or o (Level No)) (get_or-map-range_with_len (λ j. Some (solution t u (node_at t j))) 0 k (number_of t n) (number_of t n) None below (omega arith))
+    let long : length vs ≡ k = ap length is ∙ length-map-range_with_len (λ j. solution t u (node_at t j)) 0 k in
+    ap (λ xs. assignment_of t xs n) each
+    ∙ ap (λ o. unwrap_or o (Level No)) (get_or-map Some vs (number_of t n) (Level No) None (omega (arith, below, long)))
+    ∙ ap (λ xs. get_or xs (number_of t n) (Level No)) is
+    ∙ get_or-map-range_with_len (λ j. solution t u (node_at t j)) 0 k (number_of t n) (number_of t n) (Level No) below (omega arith)
     ∙ ap (solution t u) (node_at-number_of t n inside)
 
 -- a node at a place of a list of what a node uses

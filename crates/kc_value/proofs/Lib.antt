@@ -21,6 +21,7 @@ pub mod KeptLaws
 pub mod KeptReading
 pub mod KnownLaws
 pub mod ModeLaws
+pub mod NodeValueLemmas
 pub mod NumberedSteps
 pub mod NumeralLemmas
 pub mod OrderSteps

@@ -17,9 +17,12 @@ use Rattle.kc_tree.proofs.NodeNumbers.{at_below, number_of-node_at}
 use Rattle.kc_value.specs.declared.filling.Missing.{Missing}
 use Rattle.kc_value.specs.declared.filling.Step.{Step}
 use Rattle.kc_value.specs.declared.value.Value.{Value}
-use Rattle.kc_value.specs.FillWalk.{AreFilled, HasValue, HaveValues, AllHaveValues, IsSettled, AreMarked, IsPassed}
+use Rattle.kc_value.specs.FillWalk.{ArePresent, HasValue, HaveValues, AllHaveValues, IsSettled, AreMarked, IsPassed}
 use Rattle.kc_value.specs.Kept.{IsKept, is_kept}
-use Rattle.kc_value.proofs.SlotLemmas.{marked_is_some}
+use Rattle.kc_value.specs.NodeValues.{is_present, summary_of}
+use Rattle.kc_value.specs.declared.node_values.Summary.{Summary}
+use Rattle.kc_value.specs.declared.node_values.Summary.TheVariants.{Absent}
+use Rattle.kc_value.proofs.NodeValueLemmas.{present_is_some}
 
 -- ---- lists of numbers
 -- one more node has a value
@@ -73,23 +76,23 @@ module _ (n : ℕ) (g : List (List ℕ)) (kept : List (Option Value)) where
     inside = λ above j below inside. absurd (omega (arith, below));
   }
 
-  -- a number whose mark says that its node has a value is settled
-  marked_node_settled : (filled : List Bool) (k : ℕ) → filled ≡ map is_some kept → length kept ≡ n → get_or filled k false ≡ true → IsSettled n g kept k
-  marked_node_settled filled k is whole h =
-      let one = marked_is_some kept k (subst (λ (xs : List Bool). get_or xs k false ≡ true) is h) in
+  -- a number of a node of which it is said that it has a value is settled
+  present_node_settled : (summaries : List Summary) (k : ℕ) → summaries ≡ map summary_of kept → length kept ≡ n → is_present (get_or summaries k Absent) ≡ true → IsSettled n g kept k
+  present_node_settled summaries k is whole h =
+      let one = present_is_some kept k (subst (λ (xs : List Summary). is_present (get_or xs k Absent) ≡ true) is h) in
       record {
         node = λ below. one.1;
         list = λ above. absurd (omega (arith, above, one.0, whole));
       }
 
-  -- a number that is settled, and those behind it whose marks say that they have values
-  pub passed_to_unfilled : (filled : List Bool) (numbers : List ℕ) (place within to : ℕ) → filled ≡ map is_some kept → length kept ≡ n
-      → IsPassed n g kept numbers place within → IsSettled n g kept (get_or numbers place 0) → AreFilled filled numbers (place + 1) to → IsPassed n g kept numbers to 0
-  passed_to_unfilled filled numbers place within to marks whole is here marked = record {
+  -- a number that is settled, and those behind it of which it is said that they have values
+  pub passed_to_unfilled : (summaries : List Summary) (numbers : List ℕ) (place within to : ℕ) → summaries ≡ map summary_of kept → length kept ≡ n
+      → IsPassed n g kept numbers place within → IsSettled n g kept (get_or numbers place 0) → ArePresent summaries numbers (place + 1) to → IsPassed n g kept numbers to 0
+  passed_to_unfilled summaries numbers place within to said whole is here present = record {
     before = λ i below inside.
         ⊎_elim
         (λ (h : i < place + 1). (one_more_passed numbers place within is here).before i h inside)
-        (λ h. marked_node_settled filled (get_or numbers i 0) marks whole (marked i h below inside))
+        (λ h. present_node_settled summaries (get_or numbers i 0) said whole (present i h below inside))
         (cases_lt i (place + 1));
     inside = λ above j below inside. absurd (omega (arith, below));
   }

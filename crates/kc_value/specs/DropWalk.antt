@@ -6,9 +6,12 @@ use Rattle.kc_tree.specs.declared.node.Node.{Node}
 use Rattle.kc_tree.specs.Nodes.{IsNodeOf, node_count}
 use Rattle.kc_tree.specs.Reached.{Leads}
 use Rattle.kc_tree.specs.Uses.{Uses}
+use Rattle.kc_value.specs.declared.node_values.Summary.{Summary}
+use Rattle.kc_value.specs.declared.node_values.Summary.TheVariants.{Yes}
 use Rattle.kc_value.specs.declared.value.Value.{Value}
 use Rattle.kc_value.specs.Assignment.{value_at}
 use Rattle.kc_value.specs.Kept.{IsKept, kept_count}
+use Rattle.kc_value.specs.NodeValues.{is_present}
 
 -- The values of some nodes are dropped and no others, and each node that had one comes to a list of nodes, which so
 -- grows by no more than the values become fewer.
@@ -43,6 +46,6 @@ abbrev pub NothingToDrop : TreeValue → List (Option Value) → List ℕ → �
 NothingToDrop t values numbers from to =
     (i : ℕ) → from ≤ i → i < to → (slice_index_or numbers i 0 < node_count t) × (is_some (slice_index_or values (slice_index_or numbers i 0) None) ≡ false)
 
--- between two places of a row each number is that of a node that is not marked
-abbrev pub AreUnmarked : List Bool → List ℕ → ℕ → ℕ → Type 0
-AreUnmarked filled numbers from to = (i : ℕ) → from ≤ i → i < to → slice_index_or filled (slice_index_or numbers i 0) true ≡ false
+-- between two places of a row each number is that of a node of which it is said that it has no value
+abbrev pub AreAbsent : List Summary → List ℕ → ℕ → ℕ → Type 0
+AreAbsent summaries numbers from to = (i : ℕ) → from ≤ i → i < to → is_present (slice_index_or summaries (slice_index_or numbers i 0) Yes) ≡ false

@@ -2,7 +2,10 @@
 -- A number of a row below n is that of a node, and one from n on that of a shared list of nodes (kc_graph, Shared).
 use Rattle.std.specs.Prelude.{◌≡◌, ℕ, ◌+◌, ◌<◌, ◌≤◌, Bool, true, false, List, Option, None, is_some, length, slice_index_or}
 use Rattle.kc_graph.specs.Graph.{row}
+use Rattle.kc_value.specs.declared.node_values.Summary.{Summary}
+use Rattle.kc_value.specs.declared.node_values.Summary.TheVariants.{Absent}
 use Rattle.kc_value.specs.declared.value.Value.{Value}
+use Rattle.kc_value.specs.NodeValues.{is_present}
 
 -- the node of a number has a value
 abbrev pub HasValue : List (Option Value) → ℕ → Type 0
@@ -30,6 +33,6 @@ pub record IsPassed (n : ℕ) (g : List (List ℕ)) (kept : List (Option Value))
   pub before : (i : ℕ) → i < place → i < length numbers → IsSettled n g kept (slice_index_or numbers i 0)
   pub inside : n ≤ slice_index_or numbers place 0 → HaveValues kept (row g (slice_index_or numbers place 0)) within
 
--- between two places of a row each number is that of a place that is marked
-abbrev pub AreFilled : List Bool → List ℕ → ℕ → ℕ → Type 0
-AreFilled filled numbers from to = (i : ℕ) → from ≤ i → i < to → i < length numbers → slice_index_or filled (slice_index_or numbers i 0) false ≡ true
+-- between two places of a row each number is that of a node of which it is said that it has a value
+abbrev pub ArePresent : List Summary → List ℕ → ℕ → ℕ → Type 0
+ArePresent summaries numbers from to = (i : ℕ) → from ≤ i → i < to → i < length numbers → is_present (slice_index_or summaries (slice_index_or numbers i 0) Absent) ≡ true

@@ -11,11 +11,7 @@ use Rattle.kc_value.specs.Counting.{raised}
 use Rattle.kc_value.specs.Solution.{solution}
 use Rattle.kc_value.specs.UserValues.{UserValues}
 
--- a value or none for each node, by number
-abbrev pub Slots : Type 0
-Slots = List (Option Value)
-
--- these, and how many evaluations there were
+-- a value or none for each node, by number, and how many evaluations there were
 pub record KeptValue : Type 0 where
   pub values : List (Option Value)
   pub evals : ℕ

@@ -13,6 +13,7 @@ pub mod FillWalk
 pub mod Fresh
 pub mod Kept
 pub mod KnownConditions
+pub mod NodeValues
 pub mod Numerals
 pub mod Replay
 pub mod Rule

@@ -23,10 +23,10 @@ ghost use Rattle.kc_value.specs.UserValues.{UserValues, IsUserFor};
 use crate::expr_value::node_tri;
 use crate::gathering::used_values;
 use crate::known_conditions::KnownConditions;
+use crate::node_values::NodeValues;
 use crate::resolver::Resolver;
 use crate::shared_conditions::SharedConditions;
 use crate::symbol_value::{LineValues, line_values, shown_tri};
-use crate::value::Value;
 use kc_tree::{Node, SymId, Symbol, SymbolType, Tree, Tri, UserVal};
 use std::alloc::{AllocError, Global};
 
@@ -79,7 +79,7 @@ fn shown_values(
     tree: &Tree,
     id: SymId,
     known: KnownConditions<'_>,
-    env: &[Option<Value>],
+    env: &NodeValues,
 ) -> Result<Vec<Tri>, AllocError>
     requires known { AreRight tree.now env.now known.depends.now known.visible.now known.own.now }
     requires inside { IsNodeOf tree.now (Val id) }
@@ -162,7 +162,7 @@ pub fn assignable<R: Resolver>(
     }
     let env = used_values(alloc, resolver, Node::Val(symbol))?;
     let known = KnownConditions::none();
-    let values = shown_values(alloc, resolver.tree(), symbol, known, env.as_slice())?;
+    let values = shown_values(alloc, resolver.tree(), symbol, known, &env)?;
     Ok(values)
 }
 
@@ -175,7 +175,7 @@ pub fn assignable_among(
     alloc: Global,
     tree: &Tree,
     conditions: &SharedConditions,
-    values: &[Option<Value>],
+    values: &NodeValues,
     symbol: SymId,
 ) -> Result<Vec<Tri>, AllocError>
     requires inside { IsNodeOf tree.now (Vis symbol) }

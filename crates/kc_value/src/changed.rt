@@ -11,6 +11,7 @@ ghost use Rattle.kc_value.specs.UserValues.{UserValues};
 ghost use Rattle.kc_value.specs.Without.{value_without, IsOwned};
 
 use crate::assignable_values::is_same;
+use crate::node_values::NodeValues;
 use crate::shared_conditions::SharedConditions;
 use crate::value::{Value, copy_of};
 use crate::without::{selection_alone, selects_none, value_alone};
@@ -59,15 +60,15 @@ fn is_same_value(left: &Value, right: &Value) -> bool
 fn value_at(
     alloc: Global,
     tree: &Tree,
-    values: &[Option<Value>],
+    values: &NodeValues,
     node: Node,
 ) -> Result<Value, AllocError>
     ensures value { IfOk result (λ v. v ≡ assignment_of tree.now values.now node) }
     ensures accepted { IsAccepted tree.now }
 {
     match values.get(tree.number(node)) {
-        Some(Some(value)) => copy_of(alloc, value),
-        Some(None) | None => Ok(Value::Tri(Tri::No)),
+        Some(value) => copy_of(alloc, value),
+        None => Ok(Value::Tri(Tri::No)),
     }
 }
 
@@ -76,7 +77,7 @@ fn value_without(
     alloc: Global,
     tree: &Tree,
     conditions: &SharedConditions,
-    values: &[Option<Value>],
+    values: &NodeValues,
     node: Node,
 ) -> Result<Value, AllocError>
     requires inside { IsNodeOf tree.now node }
@@ -109,7 +110,7 @@ pub fn changed_value(
     alloc: Global,
     tree: &Tree,
     conditions: &SharedConditions,
-    values: &[Option<Value>],
+    values: &NodeValues,
     node: Node,
 ) -> Result<Option<Value>, AllocError>
     requires inside { IsNodeOf tree.now node }

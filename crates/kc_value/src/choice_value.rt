@@ -9,6 +9,7 @@ ghost use Rattle.kc_value.specs.ChoiceRule.{mode, is_visible, is_symbol, chosen_
 use crate::conditions::choice_prompt_tri;
 use crate::expr_value::{node_tri, own_condition_tri, value_of};
 use crate::known_conditions::KnownConditions;
+use crate::node_values::NodeValues;
 use crate::value::Value;
 use kc_tree::{Choice, ChoiceDefault, ChoiceId, Node, SymId, Tree, Tri, UserVal};
 
@@ -26,7 +27,7 @@ pub(crate) fn mode_value(
     choice: &Choice,
     chosen: Option<SymId>,
     known: KnownConditions<'_>,
-    env: &[Option<Value>],
+    env: &NodeValues,
 ) -> Tri
     requires known { AreRight tree.now env.now known.depends.now known.visible.now known.own.now }
     ensures { result ≡ mode tree.now (assignment_of tree.now env.now) choice.now chosen }
@@ -36,7 +37,7 @@ pub(crate) fn mode_value(
 }
 
 /// Whether a symbol of the tree is visible.
-fn is_visible(tree: &Tree, symbol: SymId, env: &[Option<Value>]) -> bool
+fn is_visible(tree: &Tree, symbol: SymId, env: &NodeValues) -> bool
     ensures { result ≡ is_visible tree.now (assignment_of tree.now env.now) symbol }
 {
     match tree.symbols().get(symbol.0 as usize) {
@@ -56,7 +57,7 @@ fn is_symbol(wanted: Option<SymId>, symbol: SymId) -> bool
 }
 
 /// Whether a symbol is the chosen one and visible.
-fn is_chosen(tree: &Tree, symbol: SymId, chosen: Option<SymId>, env: &[Option<Value>]) -> bool
+fn is_chosen(tree: &Tree, symbol: SymId, chosen: Option<SymId>, env: &NodeValues) -> bool
     ensures { result
         ≡ is_symbol chosen symbol && is_visible tree.now (assignment_of tree.now env.now) symbol }
 {
@@ -68,7 +69,7 @@ fn visible_chosen(
     tree: &Tree,
     members: &[SymId],
     chosen: Option<SymId>,
-    env: &[Option<Value>],
+    env: &NodeValues,
 ) -> Option<SymId>
     ensures { result
         ≡ find (λ s. is_symbol chosen s && is_visible tree.now (assignment_of tree.now env.now) s) members.now }
@@ -85,7 +86,7 @@ fn chosen_member(
     id: ChoiceId,
     choice: &Choice,
     chosen: Option<SymId>,
-    env: &[Option<Value>],
+    env: &NodeValues,
 ) -> Option<SymId>
     ensures { result ≡ chosen_member tree.now (assignment_of tree.now env.now) id choice.now chosen }
 {
@@ -96,7 +97,7 @@ fn chosen_member(
 }
 
 /// The member of a default that is active and whose member is visible.
-fn default_member(tree: &Tree, default: &ChoiceDefault, env: &[Option<Value>]) -> Option<SymId>
+fn default_member(tree: &Tree, default: &ChoiceDefault, env: &NodeValues) -> Option<SymId>
     ensures { result ≡ default_member tree.now (assignment_of tree.now env.now) default.now }
 {
     let member = default.symbol?;
@@ -109,11 +110,7 @@ fn default_member(tree: &Tree, default: &ChoiceDefault, env: &[Option<Value>]) -
 }
 
 /// That of the first such default.
-fn first_default_member(
-    tree: &Tree,
-    defaults: &[ChoiceDefault],
-    env: &[Option<Value>],
-) -> Option<SymId>
+fn first_default_member(tree: &Tree, defaults: &[ChoiceDefault], env: &NodeValues) -> Option<SymId>
     ensures { result ≡ slice_get (filter_map (default_member tree.now (assignment_of tree.now env.now)) defaults.now) 0 }
 {
     for default in defaults {
@@ -125,7 +122,7 @@ fn first_default_member(
 }
 
 /// The first member that is visible.
-fn first_visible(tree: &Tree, members: &[SymId], env: &[Option<Value>]) -> Option<SymId>
+fn first_visible(tree: &Tree, members: &[SymId], env: &NodeValues) -> Option<SymId>
     ensures { result ≡ find (is_visible tree.now (assignment_of tree.now env.now)) members.now }
 {
     members
@@ -141,7 +138,7 @@ pub(crate) fn selection_value(
     id: ChoiceId,
     choice: &Choice,
     chosen: Option<SymId>,
-    env: &[Option<Value>],
+    env: &NodeValues,
 ) -> Option<SymId>
     ensures { result ≡ selection tree.now (assignment_of tree.now env.now) id choice.now chosen }
 {
@@ -155,7 +152,7 @@ pub(crate) fn selection_value(
 }
 
 /// The member that the selection of a choice has in a list by number.
-fn selected(tree: &Tree, choice: ChoiceId, env: &[Option<Value>]) -> Option<SymId>
+fn selected(tree: &Tree, choice: ChoiceId, env: &NodeValues) -> Option<SymId>
     ensures { result ≡ selected_in tree.now (assignment_of tree.now env.now) choice }
 {
     tree.choices().get(choice.0 as usize)?;
@@ -168,7 +165,7 @@ pub(crate) fn member_value(
     choice: ChoiceId,
     member: SymId,
     visibility: Tri,
-    env: &[Option<Value>],
+    env: &NodeValues,
 ) -> Value
     ensures { result ≡ member_rule tree.now (assignment_of tree.now env.now) choice member visibility }
 {

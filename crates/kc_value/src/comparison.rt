@@ -11,6 +11,7 @@ ghost use Rattle.kc_value.specs.Numerals.{number_of_text};
 ghost use Rattle.kc_value.specs.ExprValue.{constant_of, tri_number, number_in_type, symbol_text, symbol_number, term_text, term_number, is_string_term, number_or_text_order, term_order, is_related, yes_if};
 
 use crate::expr_value::value_of;
+use crate::node_values::NodeValues;
 use crate::numeral::number_of_text;
 use crate::value::{Value, tri_letter};
 use kc_tree::{Comparison, Node, Operands, SymId, SymbolType, Term, Tree, Tri, numeral};
@@ -113,7 +114,7 @@ impl<'a> Operand<'a> {
     }
 
     /// The value of a symbol, n where it has none.
-    fn of_symbol(tree: &Tree, env: &'a [Option<Value>], symbol: SymId) -> Operand<'a>
+    fn of_symbol(tree: &Tree, env: &'a NodeValues, symbol: SymId) -> Operand<'a>
         ensures text { result.text.now ≡ symbol_text tree.now (assignment_of tree.now env.now) symbol }
         ensures number { result.number ≡ symbol_number tree.now (assignment_of tree.now env.now) symbol }
     {
@@ -127,7 +128,7 @@ impl<'a> Operand<'a> {
     }
 
     /// A term: a symbol stands for its value, and a word that names none for itself.
-    fn of_term(tree: &Tree, env: &'a [Option<Value>], term: &'a Term) -> Operand<'a>
+    fn of_term(tree: &Tree, env: &'a NodeValues, term: &'a Term) -> Operand<'a>
         ensures text { result.text.now ≡ term_text tree.now (assignment_of tree.now env.now) term.now }
         ensures number { result.number ≡ term_number tree.now (assignment_of tree.now env.now) term.now }
     {
@@ -166,7 +167,7 @@ pub(crate) fn is_related(comparison: Comparison, order: Ordering) -> bool
 }
 
 /// The text of a term.
-pub(crate) fn term_text<'a>(tree: &Tree, env: &'a [Option<Value>], term: &'a Term) -> &'a str
+pub(crate) fn term_text<'a>(tree: &Tree, env: &'a NodeValues, term: &'a Term) -> &'a str
     ensures { result.now ≡ term_text tree.now (assignment_of tree.now env.now) term.now }
 {
     let operand = Operand::of_term(tree, env, term);
@@ -187,7 +188,7 @@ fn is_string(tree: &Tree, term: &Term) -> bool
 }
 
 /// How two terms are ordered: two symbols of type string as texts, else as numbers where both count, else as texts.
-fn term_order(tree: &Tree, env: &[Option<Value>], operands: &Operands) -> Ordering
+fn term_order(tree: &Tree, env: &NodeValues, operands: &Operands) -> Ordering
     ensures { result ≡ term_order tree.now (assignment_of tree.now env.now) operands.now.left operands.now.right }
 {
     let left = Operand::of_term(tree, env, &operands.left);
@@ -202,7 +203,7 @@ fn term_order(tree: &Tree, env: &[Option<Value>], operands: &Operands) -> Orderi
 /// The value of a comparison, y or n.
 pub(crate) fn comparison_tri(
     tree: &Tree,
-    env: &[Option<Value>],
+    env: &NodeValues,
     comparison: Comparison,
     operands: &Operands,
 ) -> Tri

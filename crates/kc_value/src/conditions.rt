@@ -14,8 +14,8 @@ ghost use Rattle.kc_value.specs.Conditions.{blocks_depend, blocks_visible, depen
 
 use crate::expr_value::{conditions_tri, node_tri, own_condition_tri};
 use crate::known_conditions::KnownConditions;
+use crate::node_values::NodeValues;
 use crate::shared_conditions::SharedConditions;
-use crate::value::Value;
 use kc_outline::MOST_OPEN_BLOCKS;
 use kc_tree::{Block, BlockId, Choice, ChoiceId, Comment, CommentId, Definition, Node, Tree, Tri};
 
@@ -33,7 +33,7 @@ fn own_depends_tri(
     id: Option<BlockId>,
     block: &Block,
     known: KnownConditions<'_>,
-    env: &[Option<Value>],
+    env: &NodeValues,
 ) -> Tri
     requires known { AreRight tree.now env.now known.depends.now known.visible.now known.own.now }
     requires block { option_and_then (λ i. slice_get tree.now.blocks i.0) id ≡ Some block.now }
@@ -51,7 +51,7 @@ fn depend_within(
     limit: usize,
     innermost: Option<BlockId>,
     known: KnownConditions<'_>,
-    env: &[Option<Value>],
+    env: &NodeValues,
 ) -> Tri
     requires known { AreRight tree.now env.now known.depends.now known.visible.now known.own.now }
     ensures { result ≡ blocks_depend tree.now (assignment_of tree.now env.now) (blocks_from tree.now.blocks limit innermost) }
@@ -77,7 +77,7 @@ fn own_visible_tri(
     id: Option<BlockId>,
     block: &Block,
     known: KnownConditions<'_>,
-    env: &[Option<Value>],
+    env: &NodeValues,
 ) -> Tri
     requires known { AreRight tree.now env.now known.depends.now known.visible.now known.own.now }
     requires block { option_and_then (λ i. slice_get tree.now.blocks i.0) id ≡ Some block.now }
@@ -95,7 +95,7 @@ fn prompt_within(
     limit: usize,
     innermost: Option<BlockId>,
     known: KnownConditions<'_>,
-    env: &[Option<Value>],
+    env: &NodeValues,
 ) -> Tri
     requires known { AreRight tree.now env.now known.depends.now known.visible.now known.own.now }
     ensures { result ≡ least (blocks_depend tree.now (assignment_of tree.now env.now) (blocks_from tree.now.blocks limit innermost))
@@ -122,7 +122,7 @@ pub(crate) fn blocks_depend_tri(
     tree: &Tree,
     innermost: Option<BlockId>,
     known: KnownConditions<'_>,
-    env: &[Option<Value>],
+    env: &NodeValues,
 ) -> Tri
     requires known { AreRight tree.now env.now known.depends.now known.visible.now known.own.now }
     ensures { result ≡ blocks_depend tree.now (assignment_of tree.now env.now) (blocks_around tree.now innermost) }
@@ -135,7 +135,7 @@ fn blocks_prompt_tri(
     tree: &Tree,
     innermost: Option<BlockId>,
     known: KnownConditions<'_>,
-    env: &[Option<Value>],
+    env: &NodeValues,
 ) -> Tri
     requires known { AreRight tree.now env.now known.depends.now known.visible.now known.own.now }
     ensures { result ≡ least (blocks_depend tree.now (assignment_of tree.now env.now) (blocks_around tree.now innermost))
@@ -150,7 +150,7 @@ fn own_lines_tri(
     number: usize,
     definition: &Definition,
     known: KnownConditions<'_>,
-    env: &[Option<Value>],
+    env: &NodeValues,
 ) -> Tri
     requires known { AreRight tree.now env.now known.depends.now known.visible.now known.own.now }
     requires definition { slice_get tree.now.definitions number ≡ Some definition.now }
@@ -162,46 +162,26 @@ fn own_lines_tri(
     }
 }
 
-/// The dependencies of the definition of a number, n where there is none: the same as [`dependency_tri`] gives, for a
-/// definition whose own lines many symbols read.
-pub(crate) fn shared_dependency_tri(
+/// The dependencies of the definition of a number (kconfig-language.rst, "Menu dependencies"): its own `depends on` lines,
+/// and those of all blocks around it; n where there is none.
+pub(crate) fn dependency_tri(
     tree: &Tree,
     number: usize,
     known: KnownConditions<'_>,
-    env: &[Option<Value>],
+    env: &NodeValues,
 ) -> Tri
     requires known { AreRight tree.now env.now known.depends.now known.visible.now known.own.now }
     ensures { result
         ≡ option_map_or (dependency tree.now (assignment_of tree.now env.now)) (slice_get tree.now.definitions number) No }
 {
-    match tree.definitions().get(number) {
-        Some(definition) => {
-            let lines = own_lines_tri(tree, number, definition, known, env);
-            if lines.is_no() {
-                return Tri::No;
-            }
-            lines.and(blocks_depend_tri(tree, definition.block(), known, env))
-        }
-        None => Tri::No,
-    }
-}
-
-/// The dependencies of a definition (kconfig-language.rst, "Menu dependencies"): its own `depends on` lines, and those
-/// of all blocks around it.
-pub(crate) fn dependency_tri(
-    tree: &Tree,
-    definition: &Definition,
-    known: KnownConditions<'_>,
-    env: &[Option<Value>],
-) -> Tri
-    requires known { AreRight tree.now env.now known.depends.now known.visible.now known.own.now }
-    ensures { result ≡ dependency tree.now (assignment_of tree.now env.now) definition.now }
-{
-    let own = conditions_tri(tree, definition.depends(), env);
-    if own.is_no() {
+    let Some(definition) = tree.definitions().get(number) else {
+        return Tri::No;
+    };
+    let lines = own_lines_tri(tree, number, definition, known, env);
+    if lines.is_no() {
         return Tri::No;
     }
-    own.and(blocks_depend_tri(tree, definition.block(), known, env))
+    lines.and(blocks_depend_tri(tree, definition.block(), known, env))
 }
 
 /// The condition of a definition's prompt, n without one.
@@ -210,7 +190,7 @@ pub(crate) fn prompt_tri(
     tree: &Tree,
     definition: &Definition,
     known: KnownConditions<'_>,
-    env: &[Option<Value>],
+    env: &NodeValues,
 ) -> Tri
     requires known { AreRight tree.now env.now known.depends.now known.visible.now known.own.now }
     ensures { result ≡ prompt_value tree.now (assignment_of tree.now env.now) definition.now }
@@ -230,7 +210,7 @@ pub(crate) fn prompt_tri(
 }
 
 /// The condition of a menu over the values of the nodes in `env`.
-fn menu_tri(tree: &Tree, menu: &Block, known: KnownConditions<'_>, env: &[Option<Value>]) -> Tri
+fn menu_tri(tree: &Tree, menu: &Block, known: KnownConditions<'_>, env: &NodeValues) -> Tri
     requires known { AreRight tree.now env.now known.depends.now known.visible.now known.own.now }
     ensures { result ≡ menu_value tree.now (assignment_of tree.now env.now) menu.now }
 {
@@ -240,12 +220,7 @@ fn menu_tri(tree: &Tree, menu: &Block, known: KnownConditions<'_>, env: &[Option
 }
 
 /// The condition of a comment over the values of the nodes in `env`.
-fn comment_tri(
-    tree: &Tree,
-    comment: &Comment,
-    known: KnownConditions<'_>,
-    env: &[Option<Value>],
-) -> Tri
+fn comment_tri(tree: &Tree, comment: &Comment, known: KnownConditions<'_>, env: &NodeValues) -> Tri
     requires known { AreRight tree.now env.now known.depends.now known.visible.now known.own.now }
     ensures { result ≡ comment_value tree.now (assignment_of tree.now env.now) comment.now }
 {
@@ -255,7 +230,7 @@ fn comment_tri(
 }
 
 /// The mode of the choice in which something stands, y outside of choices.
-pub(crate) fn mode_tri(tree: &Tree, choice: Option<ChoiceId>, env: &[Option<Value>]) -> Tri
+pub(crate) fn mode_tri(tree: &Tree, choice: Option<ChoiceId>, env: &NodeValues) -> Tri
     ensures { result ≡ mode_around tree.now (assignment_of tree.now env.now) choice }
 {
     let Some(choice) = choice else {
@@ -272,7 +247,7 @@ pub(crate) fn choice_prompt_tri(
     tree: &Tree,
     choice: &Choice,
     known: KnownConditions<'_>,
-    env: &[Option<Value>],
+    env: &NodeValues,
 ) -> Tri
     requires known { AreRight tree.now env.now known.depends.now known.visible.now known.own.now }
     ensures { result ≡ choice_prompt_value tree.now (assignment_of tree.now env.now) choice.now }
@@ -291,7 +266,7 @@ pub fn menu_condition(
     tree: &Tree,
     menu: BlockId,
     conditions: &SharedConditions,
-    env: &[Option<Value>],
+    env: &NodeValues,
 ) -> Tri
     requires { AreSharedBy tree.now env.now conditions.now }
     ensures { (a : Assignment) → ((n : Node) → IsNodeOf tree.now n → assignment_of tree.now env.now n ≡ a n)
@@ -310,7 +285,7 @@ pub fn comment_condition(
     tree: &Tree,
     comment: CommentId,
     conditions: &SharedConditions,
-    env: &[Option<Value>],
+    env: &NodeValues,
 ) -> Tri
     requires { AreSharedBy tree.now env.now conditions.now }
     ensures { (a : Assignment) → ((n : Node) → IsNodeOf tree.now n → assignment_of tree.now env.now n ≡ a n)

@@ -5,37 +5,39 @@ ghost use Rattle.kc_graph.specs.Shared.{IsShared, stands_for, whole_row};
 ghost use Rattle.kc_tree.specs.declared.node.Node.{Node};
 ghost use Rattle.kc_tree.specs.Nodes.{IsNodeOf, node_at, node_count};
 ghost use Rattle.kc_value.specs.declared.value.Value.{Value};
+ghost use Rattle.kc_value.specs.declared.node_values.Summary.TheVariants.{Yes};
+ghost use Rattle.kc_value.specs.NodeValues.{is_present};
 ghost use Rattle.kc_value.specs.Dirty.{Drops};
-ghost use Rattle.kc_value.specs.DropWalk.{AreUnmarked, AreWalked, DropsAll, IsDropping};
+ghost use Rattle.kc_value.specs.DropWalk.{AreAbsent, AreWalked, DropsAll, IsDropping};
 ghost use Rattle.kc_value.specs.Kept.{IsClosed, kept_count};
 
-use crate::kept_slots::KeptSlots;
 use crate::kept_values::KeptValues;
 use crate::marks::{clear_marks, is_marked, mark};
+use crate::node_values::{NodeValues, Summary};
 use kc_graph::Rows;
 use kc_tree::{Node, Tree};
 
-/// Drops the value of the node of a number, if it has one, and then lists the node. There is room for it, so that this
+/// Drops the value of the node of a number, if it has one, and then lists the number. There is room for it, so that this
 /// takes no memory.
-pub(crate) fn drop_one(tree: &Tree, values: &mut KeptSlots, list: &mut Vec<Node>, number: usize)
+pub(crate) fn drop_one(tree: &Tree, values: &mut NodeValues, list: &mut Vec<usize>, number: usize)
     requires inside { number < node_count tree.now }
     requires whole { length values.old ≡ node_count tree.now }
     requires room { length list.old.items + kept_count values.old ≤ vec_capacity list.old }
-    ensures drops { DropsAll tree.now (node_at tree.now number ∷ []) values.old values.new list.old.items list.new.items }
+    ensures drops { DropsAll tree.now (node_at tree.now number ∷ []) values.old values.new (map (node_at tree.now) list.old.items) (map (node_at tree.now) list.new.items) }
     ensures capacity { vec_capacity list.old ≤ vec_capacity list.new }
 {
     if values.has(number) {
         values.remove(number);
-        let _ = list.push(tree.node(number));
+        let _ = list.push(number);
     }
 }
 
 /// Drops the values of nodes by their numbers, and lists those that had one.
-fn drop_listed(tree: &Tree, values: &mut KeptSlots, list: &mut Vec<Node>, numbers: &[u32])
+fn drop_listed(tree: &Tree, values: &mut NodeValues, list: &mut Vec<usize>, numbers: &[u32])
     requires inside { (k : ℕ) → Contains numbers.now k → k < node_count tree.now }
     requires whole { length values.old ≡ node_count tree.now }
     requires room { length list.old.items + kept_count values.old ≤ vec_capacity list.old }
-    ensures drops { DropsAll tree.now (map (node_at tree.now) numbers.now) values.old values.new list.old.items list.new.items }
+    ensures drops { DropsAll tree.now (map (node_at tree.now) numbers.now) values.old values.new (map (node_at tree.now) list.old.items) (map (node_at tree.now) list.new.items) }
     ensures capacity { vec_capacity list.old ≤ vec_capacity list.new }
 {
     for number in numbers {
@@ -49,8 +51,8 @@ fn drop_for_number(
     tree: &Tree,
     table: &Rows,
     walked: &mut Vec<bool>,
-    values: &mut KeptSlots,
-    list: &mut Vec<Node>,
+    values: &mut NodeValues,
+    list: &mut Vec<usize>,
     number: usize,
 )
     requires shared { IsShared (node_count tree.now) table.now }
@@ -58,7 +60,7 @@ fn drop_for_number(
     requires room { length list.old.items + kept_count values.old ≤ vec_capacity list.old }
     requires walked { AreWalked tree.now table.now walked.old.items values.old }
     ensures drops { DropsAll tree.now (map (node_at tree.now) (stands_for (node_count tree.now) table.now number))
-        values.old values.new list.old.items list.new.items }
+        values.old values.new (map (node_at tree.now) list.old.items) (map (node_at tree.now) list.new.items) }
     ensures walked { AreWalked tree.now table.now walked.new.items values.new }
     ensures capacity { vec_capacity list.old ≤ vec_capacity list.new }
 {
@@ -71,28 +73,28 @@ fn drop_for_number(
     }
 }
 
-/// Whether the node of a number has a value, by the marks of the nodes. A number past them is that of a shared list, which
+/// Whether the node of a number has a value, by the bytes of the nodes. A number past them is that of a shared list, which
 /// has something to drop until it was gone over.
-fn may_drop(filled: &[bool], number: usize) -> bool
-    ensures { result ≡ slice_index_or filled.now number true }
+fn may_drop(summaries: &[Summary], number: usize) -> bool
+    ensures { result ≡ is_present (slice_index_or summaries.now number Yes) }
 {
-    match filled.get(number) {
-        Some(is_filled) => *is_filled,
+    match summaries.get(number) {
+        Some(summary) => summary.is_present(),
         None => true,
     }
 }
 
 /// The place of the first number of a row, from a place on, that has something to drop: that of a node with a value, or of a
 /// shared list. Most numbers have nothing, since an edit comes to nodes that were dropped before, so that this reads the
-/// marks of the nodes alone.
-fn next_to_drop(filled: &[bool], numbers: &[u32], from: usize) -> usize
+/// bytes of the nodes alone.
+fn next_to_drop(summaries: &[Summary], numbers: &[u32], from: usize) -> usize
     ensures from { from ≤ result }
     ensures inside { from ≤ length numbers.now → result ≤ length numbers.now }
-    ensures nothing { AreUnmarked filled.now numbers.now from result }
+    ensures nothing { AreAbsent summaries.now numbers.now from result }
 {
     let mut place = from;
     while place < numbers.len() {
-        if may_drop(filled, numbers[place] as usize) {
+        if may_drop(summaries, numbers[place] as usize) {
             return place;
         }
         place += 1;
@@ -105,8 +107,8 @@ fn drop_row(
     tree: &Tree,
     table: &Rows,
     walked: &mut Vec<bool>,
-    values: &mut KeptSlots,
-    list: &mut Vec<Node>,
+    values: &mut NodeValues,
+    list: &mut Vec<usize>,
     numbers: &[u32],
 )
     requires shared { IsShared (node_count tree.now) table.now }
@@ -114,14 +116,14 @@ fn drop_row(
     requires room { length list.old.items + kept_count values.old ≤ vec_capacity list.old }
     requires walked { AreWalked tree.now table.now walked.old.items values.old }
     ensures drops { DropsAll tree.now (map (node_at tree.now) (whole_row (node_count tree.now) table.now numbers.now))
-        values.old values.new list.old.items list.new.items }
+        values.old values.new (map (node_at tree.now) list.old.items) (map (node_at tree.now) list.new.items) }
     ensures walked { AreWalked tree.now table.now walked.new.items values.new }
     ensures capacity { vec_capacity list.old ≤ vec_capacity list.new }
 {
-    let mut place = next_to_drop(values.filled(), numbers, 0);
+    let mut place = next_to_drop(values.summaries(), numbers, 0);
     while place < numbers.len() {
         drop_for_number(tree, table, walked, values, list, numbers[place] as usize);
-        place = next_to_drop(values.filled(), numbers, place + 1);
+        place = next_to_drop(values.summaries(), numbers, place + 1);
     }
 }
 
@@ -130,30 +132,23 @@ fn drop_row(
 /// that rows share once, and takes no memory.
 pub(crate) fn walk(
     tree: &Tree,
-    values: &mut KeptSlots,
-    list: &mut Vec<Node>,
+    values: &mut NodeValues,
+    list: &mut Vec<usize>,
     walked: &mut Vec<bool>,
 )
-    requires inside { (n : Node) → Contains list.old.items n → IsNodeOf tree.now n }
+    requires inside { (n : Node) → Contains (map (node_at tree.now) list.old.items) n → IsNodeOf tree.now n }
     requires whole { length values.old ≡ node_count tree.now }
     requires room { length list.old.items + kept_count values.old ≤ vec_capacity list.old }
     requires unmarked { (k : ℕ) → slice_index_or walked.old.items k false ≡ false }
     ensures drops { (starts : List Node) (first : List (Option Value)) → IsClosed tree.now first
-        → IsDropping tree.now starts first values.old list.old.items
+        → IsDropping tree.now starts first values.old (map (node_at tree.now) list.old.items)
         → IsClosed tree.now values.new × Drops tree.now starts first values.new }
     ensures whole { length values.new ≡ length values.old }
     ensures capacity { vec_capacity list.old ≤ vec_capacity list.new }
 {
     let table = tree.user_table();
     while let Some(next) = list.pop() {
-        drop_row(
-            tree,
-            table,
-            walked,
-            values,
-            list,
-            table.row(tree.number(next)),
-        );
+        drop_row(tree, table, walked, values, list, table.row(next));
     }
 }
 

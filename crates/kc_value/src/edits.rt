@@ -1,11 +1,11 @@
 //! Dropping what an edit of the user values can change, before the edit: exactly what is computed from a node that changes.
 
-ghost use Rattle.std.specs.Prelude.{◌≡◌, ◌&&◌, ◌+◌, ◌≤◌, [], ◌∷◌, length, not, is_some, vec_capacity};
+ghost use Rattle.std.specs.Prelude.{◌≡◌, ◌&&◌, ◌+◌, ◌≤◌, [], ◌∷◌, length, not, is_some, vec_capacity, map};
 ghost use Rattle.std.specs.Option.{option_copied};
 ghost use Rattle.kc_outline.specs.TreeValue.{choice_of};
 ghost use Rattle.kc_tree.specs.declared.node.Node.TheVariants.{Val, Sel};
 ghost use Rattle.kc_tree.specs.Accepted.{IsAccepted};
-ghost use Rattle.kc_tree.specs.Nodes.{IsNodeOf, node_count};
+ghost use Rattle.kc_tree.specs.Nodes.{IsNodeOf, node_count, node_at};
 ghost use Rattle.kc_tree.specs.Uses.{nodes_if};
 ghost use Rattle.kc_value.specs.ChangedValue.{same_mark};
 ghost use Rattle.kc_value.specs.Dirty.{same_given, is_changed, changed_nodes, Drops, Edits};
@@ -16,9 +16,9 @@ ghost use Rattle.kc_value.specs.Without.{is_optional_choice};
 
 use crate::changed::{is_same_member, is_same_user_value};
 use crate::dropping::{drop_one, walk};
-use crate::kept_slots::KeptSlots;
 use crate::kept_values::KeptValues;
 use crate::marks::clear_marks;
+use crate::node_values::NodeValues;
 use crate::user::User;
 use kc_tree::{ChoiceId, Node, SymId, Tree, UserVal};
 
@@ -80,11 +80,17 @@ fn is_node_changed(tree: &Tree, user: &User, next: &User, node: Node) -> bool
 
 /// Drops the values of all nodes that change where the user values become others, but not of what is computed from them,
 /// and lists the nodes that had one.
-fn drop_changed(tree: &Tree, values: &mut KeptSlots, list: &mut Vec<Node>, user: &User, next: &User)
+fn drop_changed(
+    tree: &Tree,
+    values: &mut NodeValues,
+    list: &mut Vec<usize>,
+    user: &User,
+    next: &User,
+)
     requires whole { length values.old ≡ node_count tree.now }
     requires room { length list.old.items + kept_count values.old ≤ vec_capacity list.old }
     ensures drops { DropsAll tree.now (changed_nodes tree.now user.now next.now)
-        values.old values.new list.old.items list.new.items }
+        values.old values.new (map (node_at tree.now) list.old.items) (map (node_at tree.now) list.new.items) }
     ensures capacity { vec_capacity list.old ≤ vec_capacity list.new }
     ensures accepted { IsAccepted tree.now }
 {

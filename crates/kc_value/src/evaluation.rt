@@ -9,6 +9,7 @@ use crate::choice_value::{mode_value, selection_value};
 use crate::expr_value::node_tri;
 use crate::known_conditions::KnownConditions;
 use crate::meter::Meter;
+use crate::node_values::NodeValues;
 use crate::symbol_value::{symbol_value, symbol_visibility};
 use crate::user::User;
 use crate::value::Value;
@@ -21,7 +22,7 @@ fn visibility(
     tree: &Tree,
     user: &User,
     known: KnownConditions<'_>,
-    env: &[Option<Value>],
+    env: &NodeValues,
     id: SymId,
 ) -> Value
     requires known { AreRight tree.now env.now known.depends.now known.visible.now known.own.now }
@@ -40,7 +41,7 @@ fn value(
     tree: &Tree,
     user: &User,
     known: KnownConditions<'_>,
-    env: &[Option<Value>],
+    env: &NodeValues,
     id: SymId,
 ) -> Result<Value, AllocError>
     requires known { AreRight tree.now env.now known.depends.now known.visible.now known.own.now }
@@ -68,7 +69,7 @@ fn mode(
     tree: &Tree,
     user: &User,
     known: KnownConditions<'_>,
-    env: &[Option<Value>],
+    env: &NodeValues,
     id: ChoiceId,
 ) -> Value
     requires known { AreRight tree.now env.now known.depends.now known.visible.now known.own.now }
@@ -82,7 +83,7 @@ fn mode(
 
 /// What the rule of a selection gives.
 #[tactic(auto, unfolding(crate::specs::Rule::rule))]
-fn selection(tree: &Tree, user: &User, env: &[Option<Value>], id: ChoiceId) -> Value
+fn selection(tree: &Tree, user: &User, env: &NodeValues, id: ChoiceId) -> Value
     ensures { result ≡ rule tree.now user.now (assignment_of tree.now env.now) (Sel id) }
 {
     match tree.choices().get(id.0 as usize) {
@@ -98,7 +99,7 @@ fn apply_rule(
     tree: &Tree,
     user: &User,
     known: KnownConditions<'_>,
-    env: &[Option<Value>],
+    env: &NodeValues,
     node: Node,
 ) -> Result<Value, AllocError>
     requires known { AreRight tree.now env.now known.depends.now known.visible.now known.own.now }
@@ -121,7 +122,7 @@ pub fn eval(
     alloc: Global,
     tree: &Tree,
     user: &User,
-    env: &[Option<Value>],
+    env: &NodeValues,
     node: Node,
     meter: &mut Meter,
 ) -> Result<Value, AllocError>
@@ -138,7 +139,7 @@ pub(crate) fn eval_over(
     tree: &Tree,
     user: &User,
     known: KnownConditions<'_>,
-    env: &[Option<Value>],
+    env: &NodeValues,
     node: Node,
     meter: &mut Meter,
 ) -> Result<Value, AllocError>

@@ -7,31 +7,26 @@ ghost use Rattle.kc_value.specs.Assignment.{as_tri, value_at, assignment_of};
 ghost use Rattle.kc_value.specs.ExprValue.{symbol_tri, modules_value, term_tri, complements, formula_value, expr_value, conditions_value, own_condition};
 
 use crate::comparison::{comparison_tri, constant_of};
+use crate::node_values::NodeValues;
 use crate::value::Value;
 use kc_tree::{Expr, Node, SymId, Term, Tree, Tri};
 
 /// The value that stands for a node in a list by number.
-pub(crate) fn value_of<'a>(tree: &Tree, env: &'a [Option<Value>], node: Node) -> Option<&'a Value>
+pub(crate) fn value_of<'a>(tree: &Tree, env: &'a NodeValues, node: Node) -> Option<&'a Value>
     ensures { option_copied result ≡ value_at tree.now env.now node }
 {
-    match env.get(tree.number(node)) {
-        Some(Some(value)) => Some(value),
-        Some(None) | None => None,
-    }
+    env.get(tree.number(node))
 }
 
 /// The tristate value of a node in a list by number, n where it has nothing.
-pub(crate) fn node_tri(tree: &Tree, env: &[Option<Value>], node: Node) -> Tri
+pub(crate) fn node_tri(tree: &Tree, env: &NodeValues, node: Node) -> Tri
     ensures { result ≡ as_tri (assignment_of tree.now env.now node) }
 {
-    match value_of(tree, env, node) {
-        Some(value) => value.as_tri(),
-        None => Tri::No,
-    }
+    env.tri(tree.number(node))
 }
 
 /// The value of a symbol, whatever its visibility.
-pub(crate) fn symbol_tri(tree: &Tree, env: &[Option<Value>], symbol: SymId) -> Tri
+pub(crate) fn symbol_tri(tree: &Tree, env: &NodeValues, symbol: SymId) -> Tri
     ensures { result ≡ symbol_tri tree.now (assignment_of tree.now env.now) symbol }
 {
     match tree.symbols().get(symbol.0 as usize) {
@@ -41,7 +36,7 @@ pub(crate) fn symbol_tri(tree: &Tree, env: &[Option<Value>], symbol: SymId) -> T
 }
 
 /// The value of `MODULES`, n where it is not defined.
-pub(crate) fn modules_tri(tree: &Tree, env: &[Option<Value>]) -> Tri
+pub(crate) fn modules_tri(tree: &Tree, env: &NodeValues) -> Tri
     ensures { result ≡ modules_value tree.now (assignment_of tree.now env.now) }
 {
     match tree.modules() {
@@ -51,7 +46,7 @@ pub(crate) fn modules_tri(tree: &Tree, env: &[Option<Value>]) -> Tri
 }
 
 /// The value of a term that stands alone.
-fn term_tri(tree: &Tree, env: &[Option<Value>], term: &Term) -> Tri
+fn term_tri(tree: &Tree, env: &NodeValues, term: &Term) -> Tri
     ensures { result ≡ term_tri tree.now (assignment_of tree.now env.now) term.now }
 {
     match term {
@@ -78,7 +73,7 @@ fn negated(value: Tri, count: usize) -> Tri
 /// place is empty or missing counts as n), n, m and y for themselves, and other texts for n. A comparison is y or n.
 /// An m that stood alone where a condition was read means `m && MODULES`.
 #[cycle(expr_value)]
-pub fn tri(tree: &Tree, expr: &Expr, env: &[Option<Value>]) -> Tri
+pub fn tri(tree: &Tree, expr: &Expr, env: &NodeValues) -> Tri
     ensures { result ≡ expr_value tree.now (assignment_of tree.now env.now) expr.now }
 {
     match expr {
@@ -94,7 +89,7 @@ pub fn tri(tree: &Tree, expr: &Expr, env: &[Option<Value>]) -> Tri
 
 /// The value of expressions that `&&` joins. Behind one that is n the others make no difference.
 #[cycle(expr_value)]
-fn all_tri(tree: &Tree, parts: &[Expr], env: &[Option<Value>]) -> Tri
+fn all_tri(tree: &Tree, parts: &[Expr], env: &NodeValues) -> Tri
     ensures { result ≡ formula_value tree.now (assignment_of tree.now env.now) (all_joined (map formula parts.now)) }
 {
     let mut least = Tri::Yes;
@@ -109,7 +104,7 @@ fn all_tri(tree: &Tree, parts: &[Expr], env: &[Option<Value>]) -> Tri
 
 /// The value of expressions that `||` joins. Behind one that is y the others make no difference.
 #[cycle(expr_value)]
-fn any_tri(tree: &Tree, parts: &[Expr], env: &[Option<Value>]) -> Tri
+fn any_tri(tree: &Tree, parts: &[Expr], env: &NodeValues) -> Tri
     ensures { result ≡ formula_value tree.now (assignment_of tree.now env.now) (any_joined (map formula parts.now)) }
 {
     let mut greatest = Tri::No;
@@ -123,7 +118,7 @@ fn any_tri(tree: &Tree, parts: &[Expr], env: &[Option<Value>]) -> Tri
 }
 
 /// The value of conditions that `&&` joins. Behind one that is n the others make no difference.
-pub(crate) fn conditions_tri(tree: &Tree, exprs: &[Expr], env: &[Option<Value>]) -> Tri
+pub(crate) fn conditions_tri(tree: &Tree, exprs: &[Expr], env: &NodeValues) -> Tri
     ensures { result ≡ conditions_value tree.now (assignment_of tree.now env.now) exprs.now }
 {
     let mut least = Tri::Yes;
@@ -137,7 +132,7 @@ pub(crate) fn conditions_tri(tree: &Tree, exprs: &[Expr], env: &[Option<Value>])
 }
 
 /// The value of the condition after `if`, y where there is none.
-pub(crate) fn own_condition_tri(tree: &Tree, condition: Option<&Expr>, env: &[Option<Value>]) -> Tri
+pub(crate) fn own_condition_tri(tree: &Tree, condition: Option<&Expr>, env: &NodeValues) -> Tri
     ensures { result ≡ own_condition tree.now (assignment_of tree.now env.now) (option_copied condition.entry) }
 {
     match condition {

@@ -8,14 +8,16 @@ ghost use Rattle.kc_tree.specs.declared.node.Node.{Node};
 ghost use Rattle.kc_tree.specs.Accepted.{IsAccepted, IsSharedTable};
 ghost use Rattle.kc_tree.specs.Nodes.{IsNodeOf, node_at, node_count, number_of};
 ghost use Rattle.kc_tree.specs.Uses.{Uses};
-ghost use Rattle.kc_value.specs.FillWalk.{AreFilled, HaveValues, AllHaveValues, IsSettled, AreMarked, IsPassed};
+ghost use Rattle.kc_value.specs.declared.node_values.Summary.TheVariants.{Absent};
+ghost use Rattle.kc_value.specs.NodeValues.{is_present};
+ghost use Rattle.kc_value.specs.FillWalk.{ArePresent, HaveValues, AllHaveValues, IsSettled, AreMarked, IsPassed};
 ghost use Rattle.kc_value.specs.Kept.{IsKept, AreKept, Fills};
 ghost use Rattle.kc_value.specs.KnownConditions.{AreKnown};
 
-use crate::kept_slots::KeptSlots;
 use crate::kept_values::KeptValues;
 use crate::known_conditions::FoundConditions;
-use crate::marks::{has_mark, is_marked, mark, no_marks};
+use crate::marks::{is_marked, mark, no_marks};
+use crate::node_values::{NodeValues, Summary};
 use crate::user::User;
 use kc_graph::Rows;
 use kc_tree::{Node, Tree};
@@ -38,7 +40,7 @@ struct Missing {
 }
 
 /// The first node of a list of numbers, from a place on, that has no value. Those before the place have one.
-fn first_missing(values: &KeptSlots, numbers: &[u32], from: usize) -> Option<Missing>
+fn first_missing(values: &NodeValues, numbers: &[u32], from: usize) -> Option<Missing>
     requires before { HaveValues values.now numbers.now from }
     ensures at { IfSome result (λ m. (m.place < length numbers.now) × (m.number ≡ slice_index_or numbers.now m.place 0)) }
     ensures missing { IfSome result (λ m. is_some (slice_index_or values.now m.number None) ≡ false) }
@@ -59,7 +61,7 @@ fn first_missing(values: &KeptSlots, numbers: &[u32], from: usize) -> Option<Mis
 /// The first node without a value of those that a number of a row stands for; of a shared list, the nodes before a place
 /// have values. A list whose nodes all have values is marked, and passed at once the next time.
 fn missing_for(
-    values: &KeptSlots,
+    values: &NodeValues,
     marks: &mut Vec<bool>,
     count: usize,
     table: &Rows,
@@ -92,15 +94,26 @@ fn missing_for(
     missing
 }
 
+/// Whether the node of a number has a value, by the bytes of the nodes. A number past them is that of a shared list, which
+/// may have nodes without.
+fn is_filled(summaries: &[Summary], number: usize) -> bool
+    ensures { result ≡ is_present (slice_index_or summaries.now number Absent) }
+{
+    match summaries.get(number) {
+        Some(summary) => summary.is_present(),
+        None => false,
+    }
+}
+
 /// The place of the first number of a row, from a place on, that is not that of a node with a value. Most numbers are, so
-/// that this reads the marks of the nodes alone.
-fn next_to_fill(filled: &[bool], numbers: &[u32], from: usize) -> usize
+/// that this reads the bytes of the nodes alone.
+fn next_to_fill(summaries: &[Summary], numbers: &[u32], from: usize) -> usize
     ensures from { from ≤ result }
-    ensures passed { AreFilled filled.now numbers.now from result }
+    ensures passed { ArePresent summaries.now numbers.now from result }
 {
     let mut place = from;
     while place < numbers.len() {
-        if !has_mark(filled, numbers[place] as usize) {
+        if !is_filled(summaries, numbers[place] as usize) {
             return place;
         }
         place += 1;
@@ -110,7 +123,7 @@ fn next_to_fill(filled: &[bool], numbers: &[u32], from: usize) -> usize
 
 /// The first node without a value of those that a step's node uses, from where the step is. The step goes on to there.
 fn missing_from(
-    values: &KeptSlots,
+    values: &NodeValues,
     marks: &mut Vec<bool>,
     count: usize,
     table: &Rows,
@@ -128,14 +141,14 @@ fn missing_from(
     ensures used { IfSome result (λ m. (k : ℕ) × Contains numbers.now k × Contains (stands_for count table.now k) m) }
     ensures settled { IfNone result ((i : ℕ) → i < length numbers.now → IsSettled count table.now values.now (slice_index_or numbers.now i 0)) }
 {
-    let filled = values.filled();
+    let summaries = values.summaries();
     while step.place < numbers.len() {
         let number = numbers[step.place];
         if let Some(missing) = missing_for(values, marks, count, table, number, step.within) {
             step.within = missing.place;
             return Some(missing.number);
         }
-        step.place = next_to_fill(filled, numbers, step.place + 1);
+        step.place = next_to_fill(summaries, numbers, step.place + 1);
         step.within = 0;
     }
     None
@@ -183,7 +196,7 @@ impl KeptValues {
         })?;
         while let Some(mut step) = path.pop() {
             let numbers = table.row(tree.number(step.node));
-            match missing_from(self.slots(), marks, count, table, numbers, &mut step) {
+            match missing_from(self.values(), marks, count, table, numbers, &mut step) {
                 Some(number) => {
                     path.push(step)?;
                     path.push(Step {

@@ -6,7 +6,7 @@ ghost use Rattle.kc_value.specs.UserValues.{IsUserFor};
 use crate::kept_values::KeptValues;
 use crate::resolver::Resolver;
 use crate::user::User;
-use crate::value::Value;
+use crate::value::{Value, copy_of};
 use kc_tree::{Node, Tree, Tri};
 use std::alloc::{AllocError, Global};
 
@@ -24,7 +24,10 @@ pub fn solve(alloc: Global, tree: &Tree, user: &User, node: Node) -> Result<Valu
     let number = tree.number(node);
     let mut kept = KeptValues::new(alloc, tree)?;
     kept.fill(alloc, tree, user, node)?;
-    Ok(kept.into_value(number))
+    match kept.values().get(number) {
+        Some(value) => copy_of(alloc, value),
+        None => unreachable!(),
+    }
 }
 
 /// A resolver that keeps nothing from one call to the next: each `node` is a [`solve`].

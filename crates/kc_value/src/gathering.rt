@@ -8,8 +8,8 @@ ghost use Rattle.kc_value.specs.Assignment.{assignment_of};
 ghost use Rattle.kc_value.specs.ChangedValue.{ChangesAreJustEnough};
 ghost use Rattle.kc_value.specs.Solution.{solution, AreSolved, IsOnlySolution};
 
+use crate::node_values::NodeValues;
 use crate::resolver::Resolver;
-use crate::slots::empty_slots;
 use crate::value::{Value, copy_of};
 use kc_tree::{Node, NodeRow};
 use std::alloc::{AllocError, Global};
@@ -30,11 +30,8 @@ fn value_at<R: Resolver>(alloc: Global, resolver: &mut R, node: Node) -> Result<
 /// and no other, holds whatever the call returns, and so does what is said of the values that the user changed.
 ///
 /// The error comes where memory is refused.
-pub fn all_values<R: Resolver>(
-    alloc: Global,
-    resolver: &mut R,
-) -> Result<Vec<Option<Value>>, AllocError>
-    ensures values { IfOk result (λ v. AreSolved (R.tree_of resolver.old) (R.user_of resolver.old) v.items) }
+pub fn all_values<R: Resolver>(alloc: Global, resolver: &mut R) -> Result<NodeValues, AllocError>
+    ensures values { IfOk result (λ v. AreSolved (R.tree_of resolver.old) (R.user_of resolver.old) v) }
     ensures solved { IsOnlySolution (R.tree_of resolver.old) (R.user_of resolver.old)
         (solution (R.tree_of resolver.old) (R.user_of resolver.old)) }
     ensures changes { ChangesAreJustEnough (R.tree_of resolver.old) (R.user_of resolver.old) }
@@ -45,9 +42,9 @@ pub fn all_values<R: Resolver>(
     let mut values = Vec::with_capacity(alloc, resolver.tree().node_count())?;
     for node in resolver.tree().nodes() {
         let value = value_at(alloc, resolver, node)?;
-        values.push(Some(value))?;
+        values.push(value)?;
     }
-    Ok(values)
+    NodeValues::of(alloc, values)
 }
 
 /// The nodes of a row as a list. The error comes where memory is refused.
@@ -64,20 +61,20 @@ pub(crate) fn used_values<R: Resolver>(
     alloc: Global,
     resolver: &mut R,
     node: Node,
-) -> Result<Vec<Option<Value>>, AllocError>
+) -> Result<NodeValues, AllocError>
     requires { IsNodeOf (R.tree_of resolver.old) node }
     ensures values { IfOk result (λ v. (n : Node) → Uses (R.tree_of resolver.old) node n
-        → assignment_of (R.tree_of resolver.old) v.items n ≡ solution (R.tree_of resolver.old) (R.user_of resolver.old) n) }
+        → assignment_of (R.tree_of resolver.old) v n ≡ solution (R.tree_of resolver.old) (R.user_of resolver.old) n) }
     ensures tree { R.tree_of resolver.new ≡ R.tree_of resolver.old }
     ensures user { R.user_of resolver.new ≡ R.user_of resolver.old }
     ensures grew { R.grew resolver.old resolver.new (node ∷ []) }
 {
     let nodes = listed(alloc, resolver.tree().uses(node))?;
-    let mut values = empty_slots(alloc, resolver.tree().node_count())?;
+    let mut values = NodeValues::empty(alloc, resolver.tree().node_count())?;
     for next in nodes.as_slice() {
         let value = value_at(alloc, resolver, *next)?;
         let number = resolver.tree().number(*next);
-        values[number] = Some(value);
+        values.put(number, value);
     }
     Ok(values)
 }

@@ -9,10 +9,10 @@ ghost use Rattle.kc_value.specs.KnownConditions.{AreKnown};
 ghost use Rattle.kc_value.specs.Rule.{rule};
 
 use crate::evaluation::eval_over;
-use crate::kept_slots::KeptSlots;
 use crate::known_conditions::KnownConditions;
 use crate::marks::no_marks;
 use crate::meter::Meter;
+use crate::node_values::NodeValues;
 use crate::user::User;
 use crate::value::Value;
 use kc_tree::{Node, Tree};
@@ -23,9 +23,9 @@ use std::marker::Model;
 /// each node, by number, and the count.
 #[derive(Drop)]
 pub struct KeptValues {
-    pub(crate) values: KeptSlots,
-    /// The nodes whose users are still to be dropped, which takes no memory: there is room for all nodes.
-    pub(crate) dropped: Vec<Node>,
+    pub(crate) values: NodeValues,
+    /// The numbers of the nodes whose users are still to be dropped, which takes no memory: there is room for all nodes.
+    pub(crate) dropped: Vec<usize>,
     /// By the number of a list that rows of the tree share: whether the walk of an edit has gone over it.
     pub(crate) walked: Vec<bool>,
     meter: Meter,
@@ -51,7 +51,7 @@ impl KeptValues {
     {
         let count = tree.node_count();
         Ok(KeptValues {
-            values: KeptSlots::empty(alloc, count)?,
+            values: NodeValues::empty(alloc, count)?,
             dropped: Vec::with_capacity(alloc, count)?,
             walked: no_marks(alloc, tree, tree.user_table())?,
             meter: Meter::new(),
@@ -66,14 +66,7 @@ impl KeptValues {
     }
 
     /// The values by number, with nothing for a node that is not kept.
-    pub fn values(&self) -> &[Option<Value>]
-        ensures { result.now ≡ self.now.values }
-    {
-        self.values.values()
-    }
-
-    /// The same, with whether there is a value.
-    pub(crate) fn slots(&self) -> &KeptSlots
+    pub fn values(&self) -> &NodeValues
         ensures { result.now ≡ self.now.values }
     {
         &self.values
@@ -91,9 +84,9 @@ impl KeptValues {
         requires { IsKept tree.now self.now.values node }
         ensures { value_at tree.now self.now.values node ≡ Some result.now }
     {
-        match self.values.values().get(tree.number(node)) {
-            Some(Some(value)) => value,
-            Some(None) | None => unreachable!(),
+        match self.values.get(tree.number(node)) {
+            Some(value) => value,
+            None => unreachable!(),
         }
     }
 
@@ -121,30 +114,12 @@ impl KeptValues {
             tree,
             user,
             known,
-            self.values.values(),
+            &self.values,
             node,
             &mut self.meter,
         )?;
         let number = tree.number(node);
         self.values.put(number, value);
         Ok(())
-    }
-
-    /// The value of the node of a number, which is kept.
-    pub(crate) fn into_value(self, number: usize) -> Value
-        requires { is_some (slice_index_or self.values number None) ≡ true }
-        ensures { slice_index_or self.values number None ≡ Some result }
-    {
-        let KeptValues {
-            values,
-            dropped: _,
-            walked: _,
-            meter: _,
-        } = self;
-        let mut values = values.into_values();
-        match values[number].take() {
-            Some(value) => value,
-            None => unreachable!(),
-        }
     }
 }

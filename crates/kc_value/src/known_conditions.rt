@@ -13,8 +13,8 @@ ghost use Rattle.kc_value.specs.KnownConditions.{AreKnown, IsRightOfOwn, IsKeptO
 
 use crate::conditions::block_at;
 use crate::expr_value::{conditions_tri, symbol_tri};
+use crate::node_values::NodeValues;
 use crate::slots::no_tris;
-use crate::value::Value;
 use kc_outline::MOST_OPEN_BLOCKS;
 use kc_tree::{BlockId, Choice, ChoiceId, Definition, Node, Reverse, SymId, Symbol, Tree, Tri};
 use std::alloc::{AllocError, Global};
@@ -134,12 +134,7 @@ fn block_of(tree: &Tree, number: usize) -> Option<BlockId>
 
 /// Finds what the own `depends on` lines of a definition say, by its number, where there is a place for it and it was not
 /// found before.
-pub(crate) fn find_own(
-    tree: &Tree,
-    own: &mut Vec<Option<Tri>>,
-    number: usize,
-    env: &[Option<Value>],
-)
+pub(crate) fn find_own(tree: &Tree, own: &mut Vec<Option<Tri>>, number: usize, env: &NodeValues)
     ensures right { IsRightOfOwn tree.now env.now own.old.items → IsRightOfOwn tree.now env.now own.new.items }
     ensures kept { ((d : DefinitionValue) (m : Node) → slice_get tree.now.definitions number ≡ Some d → Contains (conditions_nodes tree.now d.depends) m → IsKept tree.now env.now m)
         → IsKeptOfOwn tree.now env.now own.old.items → IsKeptOfOwn tree.now env.now own.new.items }
@@ -217,12 +212,7 @@ impl FoundConditions {
 
     /// Finds what a block's own lines say that all inside depends on, and gives the block around it; none where it was
     /// found before. All that the lines read is kept.
-    fn find_own_depends(
-        &mut self,
-        tree: &Tree,
-        id: BlockId,
-        env: &[Option<Value>],
-    ) -> Option<BlockId>
+    fn find_own_depends(&mut self, tree: &Tree, id: BlockId, env: &NodeValues) -> Option<BlockId>
         requires known { AreKnown tree.now env.now self.old.depends.items self.old.visible.items self.old.own.items }
         requires kept { (x : BlockValue) (m : Node) → slice_get tree.now.blocks id.0 ≡ Some x → Contains (conditions_nodes tree.now x.depends) m → IsKept tree.now env.now m }
         ensures known { AreKnown tree.now env.now self.new.depends.items self.new.visible.items self.new.own.items }
@@ -242,7 +232,7 @@ impl FoundConditions {
 
     /// Finds what the blocks around a place say that all inside depends on: from the innermost outwards, up to one of
     /// which it was found before. All that it reads is kept.
-    fn find_depends(&mut self, tree: &Tree, innermost: BlockId, env: &[Option<Value>])
+    fn find_depends(&mut self, tree: &Tree, innermost: BlockId, env: &NodeValues)
         requires known { AreKnown tree.now env.now self.old.depends.items self.old.visible.items self.old.own.items }
         requires kept { (m : Node) → Contains (depends_nodes tree.now (blocks_around tree.now (Some innermost))) m → IsKept tree.now env.now m }
         ensures { AreKnown tree.now env.now self.new.depends.items self.new.visible.items self.new.own.items }
@@ -258,12 +248,7 @@ impl FoundConditions {
 
     /// Finds what the `visible if` lines of a block say, and gives the block around it; none where it was
     /// found before. All that the lines read is kept.
-    fn find_own_visible(
-        &mut self,
-        tree: &Tree,
-        id: BlockId,
-        env: &[Option<Value>],
-    ) -> Option<BlockId>
+    fn find_own_visible(&mut self, tree: &Tree, id: BlockId, env: &NodeValues) -> Option<BlockId>
         requires known { AreKnown tree.now env.now self.old.depends.items self.old.visible.items self.old.own.items }
         requires kept { (x : BlockValue) (m : Node) → slice_get tree.now.blocks id.0 ≡ Some x → Contains (conditions_nodes tree.now x.visible) m → IsKept tree.now env.now m }
         ensures known { AreKnown tree.now env.now self.new.depends.items self.new.visible.items self.new.own.items }
@@ -282,7 +267,7 @@ impl FoundConditions {
     }
 
     /// Finds what the `visible if` lines of the blocks around a place say, in the same way.
-    fn find_visible(&mut self, tree: &Tree, innermost: BlockId, env: &[Option<Value>])
+    fn find_visible(&mut self, tree: &Tree, innermost: BlockId, env: &NodeValues)
         requires known { AreKnown tree.now env.now self.old.depends.items self.old.visible.items self.old.own.items }
         requires kept { (m : Node) → Contains (visible_nodes tree.now (blocks_around tree.now (Some innermost))) m → IsKept tree.now env.now m }
         ensures { AreKnown tree.now env.now self.new.depends.items self.new.visible.items self.new.own.items }
@@ -297,7 +282,7 @@ impl FoundConditions {
     }
 
     /// Finds what a prompt in a definition depends on by the blocks around. All that the prompt reads is kept.
-    fn find_for_prompt(&mut self, tree: &Tree, definition: &Definition, env: &[Option<Value>])
+    fn find_for_prompt(&mut self, tree: &Tree, definition: &Definition, env: &NodeValues)
         requires known { AreKnown tree.now env.now self.old.depends.items self.old.visible.items self.old.own.items }
         requires kept { (m : Node) → Contains (prompt_nodes tree.now definition.now) m → IsKept tree.now env.now m }
         ensures { AreKnown tree.now env.now self.new.depends.items self.new.visible.items self.new.own.items }
@@ -313,7 +298,7 @@ impl FoundConditions {
     }
 
     /// Finds what a symbol's prompts depend on by the blocks around. All that the visibility reads is kept.
-    fn find_for_visibility(&mut self, tree: &Tree, symbol: &Symbol, env: &[Option<Value>])
+    fn find_for_visibility(&mut self, tree: &Tree, symbol: &Symbol, env: &NodeValues)
         requires known { AreKnown tree.now env.now self.old.depends.items self.old.visible.items self.old.own.items }
         requires kept { (m : Node) → Contains (visibility_nodes tree.now symbol.now) m → IsKept tree.now env.now m }
         ensures { AreKnown tree.now env.now self.new.depends.items self.new.visible.items self.new.own.items }
@@ -327,7 +312,7 @@ impl FoundConditions {
 
     /// Finds what the definition of a `select` or `imply` line depends on, by its own lines and by the blocks around,
     /// where the symbol of the line is not n. All that the line gives is computed from is kept.
-    fn find_for_reverse(&mut self, tree: &Tree, reverse: &Reverse, env: &[Option<Value>])
+    fn find_for_reverse(&mut self, tree: &Tree, reverse: &Reverse, env: &NodeValues)
         requires known { AreKnown tree.now env.now self.old.depends.items self.old.visible.items self.old.own.items }
         requires kept { (m : Node) → Contains (reverse_nodes tree.now reverse.now) m → IsKept tree.now env.now m }
         ensures { AreKnown tree.now env.now self.new.depends.items self.new.visible.items self.new.own.items }
@@ -342,7 +327,7 @@ impl FoundConditions {
     }
 
     /// The same for some of these lines.
-    fn find_for_reverses(&mut self, tree: &Tree, reverses: &[Reverse], env: &[Option<Value>])
+    fn find_for_reverses(&mut self, tree: &Tree, reverses: &[Reverse], env: &NodeValues)
         requires known { AreKnown tree.now env.now self.old.depends.items self.old.visible.items self.old.own.items }
         requires kept { (m : Node) → Contains (flat_map (reverse_nodes tree.now) reverses.now) m → IsKept tree.now env.now m }
         ensures { AreKnown tree.now env.now self.new.depends.items self.new.visible.items self.new.own.items }
@@ -354,7 +339,7 @@ impl FoundConditions {
 
     /// Finds what the definitions of a symbol of this number, which is no member of a choice, depend on by the blocks
     /// around, and what those depend on that select or imply it. All that the value reads is kept.
-    fn find_for_value(&mut self, tree: &Tree, id: SymId, symbol: &Symbol, env: &[Option<Value>])
+    fn find_for_value(&mut self, tree: &Tree, id: SymId, symbol: &Symbol, env: &NodeValues)
         requires known { AreKnown tree.now env.now self.old.depends.items self.old.visible.items self.old.own.items }
         requires free { symbol.now.choice ≡ None }
         requires kept { (m : Node) → Contains (symbol_value_nodes tree.now id symbol.now) m → IsKept tree.now env.now m }
@@ -370,7 +355,7 @@ impl FoundConditions {
     }
 
     /// Finds what a choice's prompt depends on by the blocks around. All that the mode reads is kept.
-    fn find_for_mode(&mut self, tree: &Tree, choice: &Choice, env: &[Option<Value>])
+    fn find_for_mode(&mut self, tree: &Tree, choice: &Choice, env: &NodeValues)
         requires known { AreKnown tree.now env.now self.old.depends.items self.old.visible.items self.old.own.items }
         requires kept { (m : Node) → Contains (choice_prompt_nodes tree.now choice.now) m → IsKept tree.now env.now m }
         ensures { AreKnown tree.now env.now self.new.depends.items self.new.visible.items self.new.own.items }
@@ -383,7 +368,7 @@ impl FoundConditions {
     }
 
     /// Finds the conditions of the blocks around what a node is computed from, all of which is kept.
-    pub(crate) fn find_for(&mut self, tree: &Tree, node: Node, env: &[Option<Value>])
+    pub(crate) fn find_for(&mut self, tree: &Tree, node: Node, env: &NodeValues)
         requires known { AreKnown tree.now env.now self.old.depends.items self.old.visible.items self.old.own.items }
         requires kept { (m : Node) → Uses tree.now node m → IsKept tree.now env.now m }
         ensures { AreKnown tree.now env.now self.new.depends.items self.new.visible.items self.new.own.items }

@@ -1,6 +1,6 @@
 //! Marks of the lists that rows of a table share, for one walk over the table.
 
-ghost use Rattle.std.specs.Prelude.{◌≡◌, ℕ, false, true, IfOk, length, replicate, slice_index_or};
+ghost use Rattle.std.specs.Prelude.{◌≡◌, ℕ, false, true, IfOk, length, slice_index_or};
 ghost use Rattle.std.specs.List.{slice_set};
 
 use kc_graph::Rows;
@@ -13,13 +13,6 @@ pub(crate) fn no_marks(alloc: Global, tree: &Tree, table: &Rows) -> Result<Vec<b
     ensures { IfOk result (λ marks. (k : ℕ) → slice_index_or marks.items k false ≡ false) }
 {
     let count = table.len().saturating_sub(tree.node_count());
-    vec![in alloc; false; count]
-}
-
-/// So many places, none of which is marked. The error comes where memory is refused.
-pub(crate) fn unmarked(alloc: Global, count: usize) -> Result<Vec<bool>, AllocError>
-    ensures { IfOk result (λ marks. marks.items ≡ replicate count false) }
-{
     vec![in alloc; false; count]
 }
 

@@ -9,8 +9,8 @@ ghost use Rattle.kc_value.specs.KnownConditions.{AreSharedBy, IsRightOfOwn, all_
 
 use crate::expr_value::conditions_tri;
 use crate::known_conditions::{KnownConditions, find_own};
+use crate::node_values::NodeValues;
 use crate::slots::empty_slots;
-use crate::value::Value;
 use kc_tree::{Reverse, Tree, Tri};
 use std::alloc::{AllocError, Global};
 use std::marker::Model;
@@ -50,14 +50,29 @@ impl SharedConditions {
     pub fn of(
         alloc: Global,
         tree: &Tree,
-        values: &[Option<Value>],
+        values: &NodeValues,
+    ) -> Result<SharedConditions, AllocError>
+        ensures depends { IfOk result (λ c. c.depends ≡ all_depends tree.now (assignment_of tree.now values.now)) }
+        ensures visible { IfOk result (λ c. c.visible ≡ all_visible tree.now (assignment_of tree.now values.now)) }
+        ensures right { IfOk result (λ c. AreSharedBy tree.now values.now c) }
+    {
+        let mut conditions = SharedConditions::of_blocks(alloc, tree, values)?;
+        conditions.own = own_conditions(alloc, tree, values)?;
+        Ok(conditions)
+    }
+
+    /// What the values of nodes, by number, give all blocks of the tree, and no definition: for who asks for titles alone.
+    /// A node without a value counts as n. The error comes where memory is refused.
+    pub fn of_blocks(
+        alloc: Global,
+        tree: &Tree,
+        values: &NodeValues,
     ) -> Result<SharedConditions, AllocError>
         ensures depends { IfOk result (λ c. c.depends ≡ all_depends tree.now (assignment_of tree.now values.now)) }
         ensures visible { IfOk result (λ c. c.visible ≡ all_visible tree.now (assignment_of tree.now values.now)) }
         ensures right { IfOk result (λ c. AreSharedBy tree.now values.now c) }
     {
         let count = tree.blocks().len();
-        let own = own_conditions(alloc, tree, values)?;
         let mut depends = Vec::with_capacity(alloc, count)?;
         let mut visible = Vec::with_capacity(alloc, count)?;
         for block in tree.blocks() {
@@ -67,7 +82,7 @@ impl SharedConditions {
         Ok(SharedConditions {
             depends,
             visible,
-            own,
+            own: Vec::new(alloc),
         })
     }
 
@@ -86,12 +101,7 @@ impl SharedConditions {
 }
 
 /// What the own `depends on` lines of the definitions say in which some `select` or `imply` lines stand.
-fn find_all_own(
-    tree: &Tree,
-    own: &mut Vec<Option<Tri>>,
-    reverses: &[Reverse],
-    values: &[Option<Value>],
-)
+fn find_all_own(tree: &Tree, own: &mut Vec<Option<Tri>>, reverses: &[Reverse], values: &NodeValues)
     requires { IsRightOfOwn tree.now values.now own.old.items }
     ensures { IsRightOfOwn tree.now values.now own.new.items }
 {
@@ -105,7 +115,7 @@ fn find_all_own(
 fn own_conditions(
     alloc: Global,
     tree: &Tree,
-    values: &[Option<Value>],
+    values: &NodeValues,
 ) -> Result<Vec<Option<Tri>>, AllocError>
     ensures { IfOk result (λ own. IsRightOfOwn tree.now values.now own.items) }
 {

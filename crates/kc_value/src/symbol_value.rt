@@ -13,9 +13,10 @@ ghost use Rattle.kc_value.specs.Defaults.{is_active};
 ghost use Rattle.kc_value.specs.Rule.{in_bool, has_modules, in_type, visibility, definition_default, default_value, reverse_value, reverse_values, direct, user_part, tri_rule, symbol_rule};
 
 use crate::choice_value::member_value;
-use crate::conditions::{dependency_tri, mode_tri, prompt_tri, shared_dependency_tri};
+use crate::conditions::{dependency_tri, mode_tri, prompt_tri};
 use crate::expr_value::{modules_tri, own_condition_tri, symbol_tri, tri};
 use crate::known_conditions::KnownConditions;
+use crate::node_values::NodeValues;
 use crate::text_value::text_value;
 use crate::value::Value;
 use itertools::Itertools;
@@ -33,7 +34,7 @@ fn bool_value(value: Tri) -> Tri
 }
 
 /// Whether a symbol takes m: a tristate acts as bool where `MODULES` is n.
-fn has_modules(tree: &Tree, symbol: &Symbol, env: &[Option<Value>]) -> bool
+fn has_modules(tree: &Tree, symbol: &Symbol, env: &NodeValues) -> bool
     ensures { result ≡ has_modules tree.now (assignment_of tree.now env.now) symbol.now }
 {
     match symbol.kind() {
@@ -58,7 +59,7 @@ fn numbered_prompt_tri(
     tree: &Tree,
     number: usize,
     known: KnownConditions<'_>,
-    env: &[Option<Value>],
+    env: &NodeValues,
 ) -> Tri
     requires known { AreRight tree.now env.now known.depends.now known.visible.now known.own.now }
     ensures { result
@@ -76,7 +77,7 @@ pub(crate) fn symbol_visibility(
     tree: &Tree,
     symbol: &Symbol,
     known: KnownConditions<'_>,
-    env: &[Option<Value>],
+    env: &NodeValues,
 ) -> Tri
     requires known { AreRight tree.now env.now known.depends.now known.visible.now known.own.now }
     ensures { result ≡ visibility tree.now (assignment_of tree.now env.now) symbol.now }
@@ -90,19 +91,14 @@ pub(crate) fn symbol_visibility(
 }
 
 /// The condition of a default in a definition with these dependencies.
-fn default_condition_tri(
-    tree: &Tree,
-    default: &DefaultValue,
-    depends: Tri,
-    env: &[Option<Value>],
-) -> Tri
+fn default_condition_tri(tree: &Tree, default: &DefaultValue, depends: Tri, env: &NodeValues) -> Tri
     ensures { result ≡ least (own_condition tree.now (assignment_of tree.now env.now) default.now.condition) depends }
 {
     own_condition_tri(tree, default.condition.as_ref(), env).and(depends)
 }
 
 /// Whether the condition of a default is not n.
-fn is_active(tree: &Tree, default: &DefaultValue, depends: Tri, env: &[Option<Value>]) -> bool
+fn is_active(tree: &Tree, default: &DefaultValue, depends: Tri, env: &NodeValues) -> bool
     ensures { result
         ≡ not (is_no (least (own_condition tree.now (assignment_of tree.now env.now) default.now.condition) depends)) }
 {
@@ -114,7 +110,7 @@ pub(crate) fn first_active_default<'a>(
     tree: &Tree,
     definition: &'a Definition,
     depends: Tri,
-    env: &[Option<Value>],
+    env: &NodeValues,
 ) -> Option<&'a DefaultValue>
     requires { depends ≡ dependency tree.now (assignment_of tree.now env.now) definition.now }
     ensures { option_copied result
@@ -132,7 +128,7 @@ fn definition_default_tri(
     tree: &Tree,
     definition: &Definition,
     depends: Tri,
-    env: &[Option<Value>],
+    env: &NodeValues,
 ) -> Option<Tri>
     requires { depends ≡ dependency tree.now (assignment_of tree.now env.now) definition.now }
     ensures { result ≡ definition_default tree.now (assignment_of tree.now env.now) definition.now }
@@ -160,7 +156,7 @@ fn with_definition(
     defined: Defined,
     number: usize,
     known: KnownConditions<'_>,
-    env: &[Option<Value>],
+    env: &NodeValues,
 ) -> Defined
     requires known { AreRight tree.now env.now known.depends.now known.visible.now known.own.now }
     ensures default { result.default ≡ option_or defined.default
@@ -172,7 +168,7 @@ fn with_definition(
     let Some(definition) = tree.definitions().get(number) else {
         return defined;
     };
-    let depends = dependency_tri(tree, definition, known, env);
+    let depends = dependency_tri(tree, number, known, env);
     let default = match defined.default {
         Some(value) => Some(value),
         None => definition_default_tri(tree, definition, depends, env),
@@ -188,7 +184,7 @@ fn definitions_of(
     tree: &Tree,
     symbol: &Symbol,
     known: KnownConditions<'_>,
-    env: &[Option<Value>],
+    env: &NodeValues,
 ) -> Defined
     requires known { AreRight tree.now env.now known.depends.now known.visible.now known.own.now }
     ensures default { result.default
@@ -207,12 +203,7 @@ fn definitions_of(
 }
 
 /// What a `select` or `imply` gives: the least of the value of its symbol and its condition.
-fn reverse_tri(
-    tree: &Tree,
-    reverse: &Reverse,
-    known: KnownConditions<'_>,
-    env: &[Option<Value>],
-) -> Tri
+fn reverse_tri(tree: &Tree, reverse: &Reverse, known: KnownConditions<'_>, env: &NodeValues) -> Tri
     requires known { AreRight tree.now env.now known.depends.now known.visible.now known.own.now }
     ensures { result ≡ reverse_value tree.now (assignment_of tree.now env.now) reverse.now }
 {
@@ -221,7 +212,7 @@ fn reverse_tri(
         return Tri::No;
     }
     let own = own_condition_tri(tree, reverse.condition.as_ref(), env);
-    value.and(own.and(shared_dependency_tri(tree, reverse.definition, known, env)))
+    value.and(own.and(dependency_tri(tree, reverse.definition, known, env)))
 }
 
 /// The greatest that some `select` or `imply` lines give.
@@ -229,7 +220,7 @@ fn reverses_tri(
     tree: &Tree,
     reverses: &[Reverse],
     known: KnownConditions<'_>,
-    env: &[Option<Value>],
+    env: &NodeValues,
 ) -> Tri
     requires known { AreRight tree.now env.now known.depends.now known.visible.now known.own.now }
     ensures { result ≡ reverse_values tree.now (assignment_of tree.now env.now) reverses.now }
@@ -276,7 +267,7 @@ pub(crate) fn line_values(
     tree: &Tree,
     symbol: &Symbol,
     known: KnownConditions<'_>,
-    env: &[Option<Value>],
+    env: &NodeValues,
 ) -> LineValues
     requires known { AreRight tree.now env.now known.depends.now known.visible.now known.own.now }
     ensures default { result.default ≡ default_value tree.now (assignment_of tree.now env.now) symbol.now }
@@ -314,7 +305,7 @@ fn tri_value(
     visibility: Tri,
     user: Option<&UserVal>,
     known: KnownConditions<'_>,
-    env: &[Option<Value>],
+    env: &NodeValues,
 ) -> Value
     requires known { AreRight tree.now env.now known.depends.now known.visible.now known.own.now }
     ensures { result ≡ tri_rule tree.now (assignment_of tree.now env.now) symbol.now visibility (option_copied user.entry) }
@@ -338,7 +329,7 @@ pub(crate) fn symbol_value(
     visibility: Tri,
     user: Option<&UserVal>,
     known: KnownConditions<'_>,
-    env: &[Option<Value>],
+    env: &NodeValues,
 ) -> Result<Value, AllocError>
     requires known { AreRight tree.now env.now known.depends.now known.visible.now known.own.now }
     ensures { IfOk result (λ v. v

@@ -16,6 +16,7 @@ use crate::comparison::term_text;
 use crate::conditions::dependency_tri;
 use crate::expr_value::own_condition_tri;
 use crate::known_conditions::KnownConditions;
+use crate::node_values::NodeValues;
 use crate::symbol_value::first_active_default;
 use crate::value::Value;
 use itertools::Itertools;
@@ -24,7 +25,7 @@ use kc_tree::{Definition, Expr, Range, Symbol, SymbolType, Tree, Tri, UserVal, l
 use std::alloc::{AllocError, Global};
 
 /// The text of a default's value: that of the one term that it is.
-fn value_text<'a>(tree: &Tree, value: &'a Expr, env: &'a [Option<Value>]) -> &'a str
+fn value_text<'a>(tree: &Tree, value: &'a Expr, env: &'a NodeValues) -> &'a str
     ensures { result.now ≡ value_text tree.now (assignment_of tree.now env.now) value.now }
 {
     match lone_term(value) {
@@ -33,35 +34,20 @@ fn value_text<'a>(tree: &Tree, value: &'a Expr, env: &'a [Option<Value>]) -> &'a
     }
 }
 
-/// The text of the first active default of a definition.
-fn definition_text<'a>(
-    tree: &'a Tree,
-    definition: &'a Definition,
-    known: KnownConditions<'_>,
-    env: &'a [Option<Value>],
-) -> Option<&'a str>
-    requires known { AreRight tree.now env.now known.depends.now known.visible.now known.own.now }
-    ensures { option_map (λ w. w.now) result ≡ definition_text tree.now (assignment_of tree.now env.now) definition.now }
-{
-    let depends = dependency_tri(tree, definition, known, env);
-    let default = first_active_default(tree, definition, depends, env)?;
-    Some(value_text(tree, &default.value, env))
-}
-
-/// That of a definition by number.
+/// The text of the first active default of a definition by number.
 fn numbered_text<'a>(
     tree: &'a Tree,
     number: usize,
     known: KnownConditions<'_>,
-    env: &'a [Option<Value>],
+    env: &'a NodeValues,
 ) -> Option<&'a str>
     requires known { AreRight tree.now env.now known.depends.now known.visible.now known.own.now }
     ensures { option_map (λ w. w.now) result ≡ option_map_or (definition_text tree.now (assignment_of tree.now env.now)) (slice_get tree.now.definitions number) None }
 {
-    match tree.definitions().get(number) {
-        Some(definition) => definition_text(tree, definition, known, env),
-        None => None,
-    }
+    let definition = tree.definitions().get(number)?;
+    let depends = dependency_tri(tree, number, known, env);
+    let default = first_active_default(tree, definition, depends, env)?;
+    Some(value_text(tree, &default.value, env))
 }
 
 /// The text of the first active default of a symbol.
@@ -69,7 +55,7 @@ fn default_text<'a>(
     tree: &'a Tree,
     symbol: &Symbol,
     known: KnownConditions<'_>,
-    env: &'a [Option<Value>],
+    env: &'a NodeValues,
 ) -> Option<&'a str>
     requires known { AreRight tree.now env.now known.depends.now known.visible.now known.own.now }
     ensures { option_map (λ w. w.now) result ≡ default_text tree.now (assignment_of tree.now env.now) symbol.now }
@@ -83,7 +69,7 @@ fn default_text<'a>(
 }
 
 /// Whether the condition of a range in a definition with these dependencies is not n.
-fn is_range_active(tree: &Tree, range: &Range, depends: Tri, env: &[Option<Value>]) -> bool
+fn is_range_active(tree: &Tree, range: &Range, depends: Tri, env: &NodeValues) -> bool
     ensures { result
         ≡ not (is_no (least (own_condition tree.now (assignment_of tree.now env.now) range.now.condition) depends)) }
 {
@@ -96,7 +82,7 @@ fn first_active_range<'a>(
     tree: &Tree,
     definition: &'a Definition,
     depends: Tri,
-    env: &[Option<Value>],
+    env: &NodeValues,
 ) -> Option<&'a Range>
     requires { depends ≡ dependency tree.now (assignment_of tree.now env.now) definition.now }
     ensures { option_copied result
@@ -110,7 +96,7 @@ fn first_active_range<'a>(
 }
 
 /// The bounds of a range, by the type of its symbol.
-fn bounds_in(tree: &Tree, kind: SymbolType, range: &Range, env: &[Option<Value>]) -> Bounds
+fn bounds_in(tree: &Tree, kind: SymbolType, range: &Range, env: &NodeValues) -> Bounds
     ensures bounds { result ≡ bounds_in tree.now (assignment_of tree.now env.now) kind range.now }
     ensures small { AreSmall kind (Some result) }
 {
@@ -126,14 +112,14 @@ fn numbered_bounds(
     kind: SymbolType,
     number: usize,
     known: KnownConditions<'_>,
-    env: &[Option<Value>],
+    env: &NodeValues,
 ) -> Option<Bounds>
     requires known { AreRight tree.now env.now known.depends.now known.visible.now known.own.now }
     ensures bounds { result ≡ option_map_or (definition_bounds tree.now (assignment_of tree.now env.now) kind) (slice_get tree.now.definitions number) None }
     ensures small { AreSmall kind result }
 {
     let definition = tree.definitions().get(number)?;
-    let depends = dependency_tri(tree, definition, known, env);
+    let depends = dependency_tri(tree, number, known, env);
     let range = first_active_range(tree, definition, depends, env)?;
     Some(bounds_in(tree, kind, range, env))
 }
@@ -143,7 +129,7 @@ fn bounds_of(
     tree: &Tree,
     symbol: &Symbol,
     known: KnownConditions<'_>,
-    env: &[Option<Value>],
+    env: &NodeValues,
 ) -> Option<Bounds>
     requires known { AreRight tree.now env.now known.depends.now known.visible.now known.own.now }
     ensures bounds { result ≡ bounds_of tree.now (assignment_of tree.now env.now) symbol.now }
@@ -193,7 +179,7 @@ pub(crate) fn text_value(
     visibility: Tri,
     user: Option<&UserVal>,
     known: KnownConditions<'_>,
-    env: &[Option<Value>],
+    env: &NodeValues,
 ) -> Result<Value, AllocError>
     requires known { AreRight tree.now env.now known.depends.now known.visible.now known.own.now }
     ensures { IfOk result (λ v. v

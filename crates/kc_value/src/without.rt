@@ -14,6 +14,7 @@ use crate::choice_value::selection_value;
 use crate::expr_value::node_tri;
 use crate::gathering::used_values;
 use crate::known_conditions::KnownConditions;
+use crate::node_values::NodeValues;
 use crate::resolver::Resolver;
 use crate::symbol_value::symbol_value;
 use crate::value::Value;
@@ -41,7 +42,7 @@ pub(crate) fn value_alone(
     tree: &Tree,
     symbol: SymId,
     known: KnownConditions<'_>,
-    env: &[Option<Value>],
+    env: &NodeValues,
 ) -> Result<Value, AllocError>
     requires known { AreRight tree.now env.now known.depends.now known.visible.now known.own.now }
     ensures { (u : UserValues) → IfOk result (λ v. v
@@ -57,7 +58,7 @@ pub(crate) fn value_alone(
 }
 
 /// What the rule gives a selection without a chosen member, over the values of the nodes that it is computed from.
-pub(crate) fn selection_alone(tree: &Tree, choice: ChoiceId, env: &[Option<Value>]) -> Value
+pub(crate) fn selection_alone(tree: &Tree, choice: ChoiceId, env: &NodeValues) -> Value
     ensures { (u : UserValues) →
         result ≡ rule tree.now (user_without u (Sel choice)) (assignment_of tree.now env.now) (Sel choice) }
 {
@@ -93,9 +94,9 @@ pub fn without_user<R: Resolver>(
     match node {
         Node::Val(symbol) => {
             let known = KnownConditions::none();
-            value_alone(alloc, resolver.tree(), symbol, known, env.as_slice())
+            value_alone(alloc, resolver.tree(), symbol, known, &env)
         }
-        Node::Sel(choice) => Ok(selection_alone(resolver.tree(), choice, env.as_slice())),
+        Node::Sel(choice) => Ok(selection_alone(resolver.tree(), choice, &env)),
         Node::Vis(_) | Node::Mode(_) => unreachable!(),
     }
 }

@@ -11,6 +11,6 @@ returns-clause-text g c =
     let a = solution t (g.R.Resolver.user_of c.args.resolver.now) in
     let s = c.tree.result.now in
     let same : s ≡ t = c.tree.ensures ∙ c.all_values.ensures.tree in
-    let known : Agrees t c.as_slice.result.now a = subst (λ v. Agrees t v a) (sym c.as_slice.ensures.value) c.in_ok-values.ensures.values in
-    let agrees : Agrees s c.as_slice.result.now a = subst (λ x. Agrees x c.as_slice.result.now a) (sym same) known in
+    let values = c.in_ok-values.values in
+    let agrees : Agrees s values a = subst (λ x. Agrees x values a) (sym same) c.in_ok-values.ensures.values in
     c.in_ok-text.ensures a agrees ∙ ap (λ x. config_text_of x c.args.prefix.now c.args.header.now a) same

@@ -18,14 +18,13 @@ returns-clause-keeps g c = λ unfed.
     let t = r.tree_of c.args.resolver.now in
     let u = r.user_of c.args.resolver.now in
     let prefix : List ℕ = c.args.prefix.now in
-    let all = c.in_ok-all.ensures in
+    let all = c.in_ok-values.ensures in
     let same_tree : c.tree-tree.result.now ≡ t = c.tree-tree.ensures ∙ all.tree in
     let same_user : c.user.result.now ≡ u = c.user.ensures.user ∙ all.user in
     let accepted : IsAccepted t = subst IsAccepted same_tree c.push_entries.ensures.accepted in
     let fitting : IsUserFor t u = subst (λ (p : TreeValue × UserValues). IsUserFor p.0 p.1) (λ i. (all.tree i, all.user i)) c.user.ensures.fitting in
-    let solved : AreSolved c.tree-tree.result.now c.user.result.now c.as_slice-values.result.now =
-    subst (λ (p : TreeValue × UserValues). AreSolved p.0 p.1 c.as_slice-values.result.now) (λ i. (sym same_tree i, sym same_user i))
-    (subst (AreSolved t u) (sym c.as_slice-values.ensures.value) all.values) in
+    let solved : AreSolved c.tree-tree.result.now c.user.result.now c.in_ok-values.values =
+    subst (λ (p : TreeValue × UserValues). AreSolved p.0 p.1 c.in_ok-values.values) (λ i. (sym same_tree i, sym same_user i)) all.values in
     let is : string_bytes c.push_entries.new.out ≡ default_text_of t u prefix =
     c.in_ok-push_entries.ensures.text solved
     ∙ ap (λ b. b ++ default_text_of c.tree-tree.result.now c.user.result.now c.as_str.result.now) c.new-text.ensures.bytes

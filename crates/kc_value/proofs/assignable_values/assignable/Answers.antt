@@ -49,9 +49,9 @@ returns-clause-values g c =
     let s = c.args.symbol in
     let seen : is_no (as_tri (solution t u (Vis s))) ≡ false = sym (ap is_no (c.as_tri-visibility.ensures ∙ ap as_tri c.in_ok-node.ensures.value)) ∙ sym c.is_no.ensures ∙ c.if-is_no.false in
     let alone : is_some (choice_of t s) ≡ false = sym (ap (λ x. is_some (choice_of x s)) (c.tree.ensures ∙ c.node.follows.holds-at-none.0)) ∙ sym c.is_member.ensures.member ∙ c.if-is_member.false in
-    visible_values t _ _ u _ s c.in_ok-env.env.items c.as_slice.result.now c.in_ok-values.values.items
+    visible_values t _ _ u _ s c.in_ok-env.env c.in_ok-values.values.items
     c.node.follows.holds-at-none.0 c.node.follows.holds-at-none.1 (c.tree-2.ensures ∙ c.used_values.ensures.tree ∙ c.node.follows.holds-at-none.0)
-    c.as_slice.ensures.value c.node.ensures.fitting c.in_ok-env.ensures.values c.in_ok-values.ensures seen alone
+    c.node.ensures.fitting c.in_ok-env.ensures.values c.in_ok-values.ensures seen alone
 
 pub returns-clause-grew : goal.returns-clause-grew
 returns-clause-grew g c =

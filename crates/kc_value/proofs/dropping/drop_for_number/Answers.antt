@@ -17,7 +17,7 @@ pub returns-then-number-count-clause-walked : goal.returns-then-number-count-cla
 returns-then-number-count-clause-walked c =
     let t = c.args.tree.now in
     walked_after t c.args.table.now c.args.walked.now.items c.requires.shared c.args.values.now c.requires.walked (node_at t c.args.number ∷ [])
-    c.drop_one.new.values c.args.list.now.items c.drop_one.new.list.items c.drop_one.ensures.drops
+    c.drop_one.new.values (map (node_at t) c.args.list.now.items) (map (node_at t) c.drop_one.new.list.items) c.drop_one.ensures.drops
 
 pub returns-then-not-is_marked-clause-walked : goal.returns-then-not-is_marked-clause-walked
 returns-then-not-is_marked-clause-walked c =
@@ -29,9 +29,9 @@ returns-then-not-is_marked-clause-walked c =
     let place = c.args.number - c.node_count-count.result in
     let same : c.args.number ≡ node_count t + place = omega (arith, c.if-number-count.false, c.node_count-count.ensures.count) in
     let numbers : c.row.result.now ≡ row g (node_count t + place) = c.row.ensures.row ∙ ap (row g) same in
-    let drops = subst (λ ks. DropsAll t (map (node_at t) ks) old new c.args.list.now.items c.drop_listed.new.list.items) numbers c.drop_listed.ensures.drops in
+    let drops = subst (λ ks. DropsAll t (map (node_at t) ks) old new (map (node_at t) c.args.list.now.items) (map (node_at t) c.drop_listed.new.list.items)) numbers c.drop_listed.ensures.drops in
     subst (λ ms. AreWalked t g ms new) (sym c.mark.ensures)
-    (walked_more t g marks c.requires.shared old c.requires.walked place new c.args.list.now.items c.drop_listed.new.list.items drops)
+    (walked_more t g marks c.requires.shared old c.requires.walked place new (map (node_at t) c.args.list.now.items) (map (node_at t) c.drop_listed.new.list.items) drops)
 
 pub returns-else-not-is_marked-clause-drops : goal.returns-else-not-is_marked-clause-drops
 returns-else-not-is_marked-clause-drops c =
@@ -39,7 +39,7 @@ returns-else-not-is_marked-clause-drops c =
     let g = c.args.table.now in
     let marks = c.args.walked.now.items in
     let old = c.args.values.now in
-    let list = c.args.list.now.items in
+    let list = map (node_at t) c.args.list.now.items in
     let place = c.args.number - c.node_count-count.result in
     let above : node_count t ≤ c.args.number = omega (arith, c.if-number-count.false, c.node_count-count.ensures.count) in
     let same : node_count t + place ≡ c.args.number = omega (arith, above, c.node_count-count.ensures.count) in

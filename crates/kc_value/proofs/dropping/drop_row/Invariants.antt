@@ -7,7 +7,7 @@ use Rattle.kc_value.proofs.dropping.drop_row.Given as goal
 abbrev pub invariant-loop-place : goal.invariant-loop-place
 invariant-loop-place l = record {
   inside : l.place ≤ length l.numbers;
-  drops : DropsAll l.tree (map (node_at l.tree) (whole_row (node_count l.tree) l.table (take l.place l.numbers))) l.fn.values l.values l.fn.list.items l.list.items;
+  drops : DropsAll l.tree (map (node_at l.tree) (whole_row (node_count l.tree) l.table (take l.place l.numbers))) l.fn.values l.values (map (node_at l.tree) l.fn.list.items) (map (node_at l.tree) l.list.items);
   walked : AreWalked l.tree l.table l.walked.items l.values;
   capacity : vec_capacity l.fn.list ≤ vec_capacity l.list;
 }

@@ -1,5 +1,5 @@
 use Rattle.std.proofs.Common.{◌≤◌, ◌-◌, length}
-use Rattle.kc_value.specs.DropWalk.{AreUnmarked}
+use Rattle.kc_value.specs.DropWalk.{AreAbsent}
 use Rattle.kc_value.proofs.dropping.next_to_drop.Given as goal
 
 -- the numbers so far have nothing to drop
@@ -7,7 +7,7 @@ abbrev pub invariant-loop-place : goal.invariant-loop-place
 invariant-loop-place l = record {
   from : l.fn.from ≤ l.place;
   inside : l.fn.from ≤ length l.numbers → l.place ≤ length l.numbers;
-  nothing : AreUnmarked l.filled l.numbers l.fn.from l.place;
+  nothing : AreAbsent l.summaries l.numbers l.fn.from l.place;
 }
 
 abbrev pub decreases-loop-place : goal.decreases-loop-place

@@ -7,6 +7,6 @@ loop-step-preserved c =
     record {
       node = now.invariant.node;
       marked = c.missing_for.ensures.marked;
-      passed = passed_to_unfilled c.args.count c.args.table.now c.args.values.now c.filled-filled.result.now c.args.numbers.now now.step.place now.step.within c.next_to_fill-step.result
-          c.filled-filled.ensures c.requires.whole now.invariant.passed c.in_default.ensures.settled c.next_to_fill-step.ensures.passed;
+      passed = passed_to_unfilled c.args.count c.args.table.now c.args.values.now c.summaries-summaries.result.now c.args.numbers.now now.step.place now.step.within c.next_to_fill-step.result
+          c.summaries-summaries.ensures c.requires.whole now.invariant.passed c.in_default.ensures.settled c.next_to_fill-step.ensures.passed;
     }

@@ -1,5 +1,9 @@
-use Rattle.std.proofs.Common.{◌≡◌, None, slice_index_or, sym, ap, ◌∙◌}
+use Rattle.std.proofs.Common.{◌≡◌, Some, None, slice_index_or, sym, ap, ◌∙◌}
+use Rattle.std.specs.Option.{option_copied}
+use Rattle.std.proofs.lemmas.Result.{IfOk-weaker}
 use Rattle.kc_tree.specs.Nodes.{number_of}
+use Rattle.kc_value.specs.Assignment.{value_at}
+use Rattle.kc_value.specs.Solution.{solution}
 use Rattle.kc_value.proofs.SolutionLaws.{one_solution}
 use Rattle.kc_value.proofs.fresh.solve.Goals as goal
 
@@ -12,9 +16,13 @@ returns-in_err-fill-clause-solved c = one_solution _ _ c.number-number.ensures.a
 pub returns-clause-value : goal.returns-clause-value
 returns-clause-value c =
     let t = c.args.tree.now in
+    let n = c.args.node in
     let values = c.fill.new.self.values in
-    let number : number_of t c.args.node ≡ c.number-number.result = sym c.number-number.ensures.number in
-    c.in_ok-fill.ensures.kept.right c.args.node c.into_value.result c.requires (ap (λ k. slice_index_or values k None) number ∙ c.into_value.ensures)
+    let v = c.in-Some.value.now in
+    let number : number_of t n ≡ c.number-number.result = sym c.number-number.ensures.number in
+    let here : value_at t values n ≡ Some v =
+    ap (λ k. slice_index_or values k None) number ∙ ap (λ vs. slice_index_or vs c.number-number.result None) (sym c.values.ensures) ∙ sym c.get.ensures ∙ ap option_copied c.in-Some.is in
+    IfOk-weaker c.copy_of.result (λ w. w ≡ v) (λ w. w ≡ solution t c.args.user.now n) (λ w is. is ∙ c.in_ok-fill.ensures.kept.right n v c.requires here) c.copy_of.ensures
 
 pub returns-clause-solved : goal.returns-clause-solved
 returns-clause-solved c = one_solution _ _ c.number-number.ensures.accepted

@@ -1,7 +1,9 @@
-use Rattle.std.proofs.Common.{[], ◌∷◌, ◌++◌, ℕ, length, drop, sym, ap, ◌∙◌, subst, arith}
+use Rattle.std.proofs.Common.{◌≡◌, [], ◌∷◌, ◌++◌, ℕ, Some, map, length, drop, sym, ap, ◌∙◌, subst, arith}
+use Rattle.std.proofs.lemmas.Result.{IfOk-weaker}
 use Rattle.kc_tree.specs.Accepted.{IsAccepted}
 use Rattle.kc_tree.specs.Nodes.{IsNodeOf, all_nodes, node_at}
 use Rattle.kc_tree.proofs.NodeNumbers.{at_below}
+use Rattle.kc_value.specs.Solution.{AreSolved}
 use Rattle.kc_value.proofs.GatheringLemmas.{once_more_in_all, one_more_counted, next_of_all, none_of_all, all_values_right}
 use Rattle.kc_value.proofs.ChangedLaws.{just_enough}
 use Rattle.kc_value.proofs.SolutionLaws.{one_solution}
@@ -63,7 +65,7 @@ returns-clause-values g c =
     let kept = c.loop-node.invariant in
     let k : ℕ = length c.loop-node.values.items in
     let done = none_of_all t k kept.within (sym c.in-None.ensures.steps.0 ∙ kept.left) in
-    all_values_right t u k c.loop-node.values.items done kept.values
+    IfOk-weaker c.of.result (λ s. s ≡ map Some c.loop-node.values.items) (λ s. AreSolved t u s) (λ s is. all_values_right t u k c.loop-node.values.items s done kept.values is) c.of.ensures
 
 pub returns-in_err-values-clause-solved : goal.returns-in_err-values-clause-solved
 returns-in_err-values-clause-solved g c =

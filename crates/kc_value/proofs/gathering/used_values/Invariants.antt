@@ -15,6 +15,6 @@ invariant-loop-next g l =
       tree : r.tree_of l.resolver ≡ t;
       user : r.user_of l.resolver ≡ u;
       grew : r.grew l.initial.resolver l.resolver (l.fn.node ∷ []);
-      long : length l.values.items ≡ node_count t;
-      right : (m : Node) → Contains (take l.next-index l.next-items) m → assignment_of t l.values.items m ≡ solution t u m;
+      long : length l.values ≡ node_count t;
+      right : (m : Node) → Contains (take l.next-index l.next-items) m → assignment_of t l.values m ≡ solution t u m;
     }

@@ -20,13 +20,13 @@ returns-in-Val-clause-value g c =
     let u = g.R.Resolver.user_of c.args.resolver.now in
     let n = c.args.node in
     let now = c.tree-in-Val.result.now in
-    let lent = c.as_slice.result.now in
+    let lent = c.in_ok-env.env in
     let tree : now ≡ t = c.tree-in-Val.ensures ∙ c.used_values.ensures.tree in
     let some : selects_none t n ≡ false = sym (ap (λ x. selects_none x n) c.tree.ensures) ∙ sym c.selects_none.ensures.test ∙ c.if-selects_none.false in
     IfOk-weaker c.value_alone.result
     (λ v. v ≡ rule now (user_without u (Val c.in-Val.symbol)) (assignment_of now lent) (Val c.in-Val.symbol))
     (λ v. v ≡ value_without t u n)
-    (λ v is. without_solution t _ now u _ n c.in_ok-env.env.items lent v refl refl tree c.as_slice.ensures.value some c.in_ok-env.ensures.values
+    (λ v is. without_solution t _ now u _ n lent lent v refl refl tree refl some c.in_ok-env.ensures.values
     (subst (λ (m : Node). v ≡ rule now (user_without u m) (assignment_of now lent) m) (sym c.in-Val.is) is))
     (c.value_alone.ensures u)
 
@@ -36,9 +36,9 @@ returns-in-Sel-clause-value g c =
     let u = g.R.Resolver.user_of c.args.resolver.now in
     let n = c.args.node in
     let now = c.tree-in-Sel.result.now in
-    let lent = c.as_slice-in-Sel.result.now in
+    let lent = c.in_ok-env.env in
     let tree : now ≡ t = c.tree-in-Sel.ensures ∙ c.used_values.ensures.tree in
     let some : selects_none t n ≡ false = sym (ap (λ x. selects_none x n) c.tree.ensures) ∙ sym c.selects_none.ensures.test ∙ c.if-selects_none.false in
     let is = c.selection_alone.ensures u in
-    without_solution t _ now u _ n c.in_ok-env.env.items lent c.selection_alone.result refl refl tree c.as_slice-in-Sel.ensures.value some c.in_ok-env.ensures.values
+    without_solution t _ now u _ n lent lent c.selection_alone.result refl refl tree refl some c.in_ok-env.ensures.values
     (subst (λ (m : Node). c.selection_alone.result ≡ rule now (user_without u m) (assignment_of now lent) m) (sym c.in-Sel.is) is)

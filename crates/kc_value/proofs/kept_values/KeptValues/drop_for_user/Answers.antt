@@ -1,5 +1,7 @@
-use Rattle.std.proofs.Common.{◌≡◌, List, length, refl, ap, arith}
+use Rattle.std.proofs.Common.{◌≡◌, List, length, map, refl, ap, arith}
+use Rattle.std.proofs.lemmas.List.{length-map}
 use Rattle.kc_tree.specs.declared.node.Node.{Node}
+use Rattle.kc_tree.specs.Nodes.{node_at}
 use Rattle.kc_value.specs.Dirty.{Drops, changed_nodes}
 use Rattle.kc_value.specs.Kept.{IsClosed, KeptValue}
 use Rattle.kc_value.proofs.DirtyLaws.{kept_after}
@@ -19,12 +21,23 @@ walk-requires-clause-inside c =
     let starts : List Node = changed_nodes t u w in
     let held = c.self.inside.values in
     let new = c.drop_changed.new.values in
-    let list = c.drop_changed.new.list.items in
-    listed_inside t starts held new list (changed_inside t u w) (drops_begun t starts held held new c.clear.new.self.items list refl c.clear.ensures.items c.drop_changed.ensures.drops)
+    let cleared = map (node_at c.args.tree.now) c.clear.new.self.items in
+    let list = map (node_at c.args.tree.now) c.drop_changed.new.list.items in
+    listed_inside t starts held new list (changed_inside t u w) (drops_begun t starts held held new cleared list refl (ap (map (node_at t)) c.clear.ensures.items) c.drop_changed.ensures.drops)
 
 pub walk-requires-clause-room : goal.walk-requires-clause-room
 walk-requires-clause-room c =
-    omega (arith, ap length c.clear.ensures.items, c.clear.ensures.capacity, kept_count-within c.self.inside.values, c.self.invariant, c.drop_changed.ensures.drops.room, c.drop_changed.ensures.capacity)
+    omega (
+      arith,
+      ap length c.clear.ensures.items,
+      c.clear.ensures.capacity,
+      kept_count-within c.self.inside.values,
+      c.self.invariant,
+      c.drop_changed.ensures.drops.room,
+      c.drop_changed.ensures.capacity,
+      length-map c.clear.new.self.items (node_at c.args.tree.now),
+      length-map c.drop_changed.new.list.items (node_at c.args.tree.now),
+    )
 
 walked : (c : goal.After-walk) → IsClosed c.args.tree.now c.walk.new.values × Drops c.args.tree.now (changed_nodes c.args.tree.now c.args.user.now c.args.next.now) c.args.self.now.values c.walk.new.values
 walked c =
@@ -33,11 +46,12 @@ walked c =
     let old = c.args.self.now.values in
     let closed = c.requires.kept.closed in
     let new = c.drop_changed.new.values in
-    let list = c.drop_changed.new.list.items in
+    let cleared = map (node_at c.args.tree.now) c.clear.new.self.items in
+    let list = map (node_at c.args.tree.now) c.drop_changed.new.list.items in
     let values : c.self.inside.values ≡ old = ap (λ (k : KeptValue). k.values) c.self.view_is in
     c.walk.ensures.drops starts old closed
     (walk_begun t c.drop_changed.ensures.accepted starts old closed new list
-    (drops_begun t starts c.self.inside.values old new c.clear.new.self.items list values c.clear.ensures.items c.drop_changed.ensures.drops))
+    (drops_begun t starts c.self.inside.values old new cleared list values (ap (map (node_at t)) c.clear.ensures.items) c.drop_changed.ensures.drops))
 
 pub returns-clause-edits : goal.returns-clause-edits
 returns-clause-edits c =

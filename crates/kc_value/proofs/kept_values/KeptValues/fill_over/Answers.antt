@@ -101,14 +101,14 @@ loop-step-preserved-in-Continue-branch-3 c =
     let count = c.node_count-count.ensures.count in
     let missing : is_kept t values below.node ≡ false =
     subst (λ m. is_kept t values m ≡ false) (sym c.node.ensures.node) (at_missing t values c.in-Some-missing_from.number
-    (subst (λ vs. is_some (get_or vs c.in-Some-missing_from.number None) ≡ false) c.slots.ensures c.in-Some-missing_from.ensures.missing))
+    (subst (λ vs. is_some (get_or vs c.in-Some-missing_from.number None) ≡ false) c.values.ensures c.in-Some-missing_from.ensures.missing))
     in
     let before : AreSteps t g values front = steps_front t g values front c.loop-step.path.items step c.in-Some.ensures.items c.loop-step.invariant.steps in
     let there : row g (number_of t again.node) ≡ c.row-numbers.result.now = ap (λ x. row g (number_of t x)) same ∙ sym numbers in
     let further : IsStep t g values again =
     subst (λ xs. IsPassed (node_count t) g values xs again.place again.within) (sym there)
     (subst (λ n. IsPassed n g values c.row-numbers.result.now again.place again.within) count
-    (subst (λ vs. IsPassed c.node_count-count.result g vs c.row-numbers.result.now again.place again.within) c.slots.ensures c.in-Some-missing_from.ensures.passed))
+    (subst (λ vs. IsPassed c.node_count-count.result g vs c.row-numbers.result.now again.place again.within) c.values.ensures c.in-Some-missing_from.ensures.passed))
     in
     let up_to : AreSteps t g values c.push-in-Some-missing_from.new.self.items =
     steps_push t g values front c.push-in-Some-missing_from.new.self.items again c.in_ok-push-in-Some-missing_from.ensures.items before further
@@ -121,7 +121,7 @@ loop-step-preserved-in-Continue-branch-3 c =
       steps = steps_push t g values c.push-in-Some-missing_from.new.self.items c.push-in-Some-missing_from-2.new.self.items below c.in_ok-push-in-Some-missing_from-2.ensures.items up_to
           (nothing_passed (node_count t) g values (row g (number_of t below.node)));
       marked = subst (λ n. AreMarked n g values c.missing_from.new.marks.items) count
-          (subst (λ vs. AreMarked c.node_count-count.result g vs c.missing_from.new.marks.items) c.slots.ensures c.missing_from.ensures.marked);
+          (subst (λ vs. AreMarked c.node_count-count.result g vs c.missing_from.new.marks.items) c.values.ensures c.missing_from.ensures.marked);
       known = c.loop-step.invariant.known;
       accepted = c.loop-step.invariant.accepted;
     }
@@ -162,7 +162,7 @@ evaluate_next-requires-clause-ready c =
     let numbers : c.row-numbers.result.now ≡ row g (number_of t step.node) = c.row-numbers.ensures.row ∙ ap (row g) c.number.ensures.number in
     let count = c.node_count-count.ensures.count in
     let settled : (i : ℕ) → i < length c.row-numbers.result.now → IsSettled c.node_count-count.result g values (get_or c.row-numbers.result.now i 0) =
-    subst (λ vs. (i : ℕ) → i < length c.row-numbers.result.now → IsSettled c.node_count-count.result g vs (get_or c.row-numbers.result.now i 0)) c.slots.ensures c.in-None.ensures.settled
+    subst (λ vs. (i : ℕ) → i < length c.row-numbers.result.now → IsSettled c.node_count-count.result g vs (get_or c.row-numbers.result.now i 0)) c.values.ensures c.in-None.ensures.settled
     in
     let ready : (m : Node) → Uses t step.node m → IsKept t values m =
     step_done t g c.requires.table step.node inside values c.node_count-count.result c.row-numbers.result.now c.loop-step.invariant.accepted count numbers settled
@@ -207,7 +207,7 @@ loop-step-preserved c =
     let count = c.node_count-count.ensures.count in
     let kept = c.loop-step.invariant.kept in
     let settled : (i : ℕ) → i < length c.row-numbers.result.now → IsSettled c.node_count-count.result g values (get_or c.row-numbers.result.now i 0) =
-    subst (λ vs. (i : ℕ) → i < length c.row-numbers.result.now → IsSettled c.node_count-count.result g vs (get_or c.row-numbers.result.now i 0)) c.slots.ensures c.in-None.ensures.settled
+    subst (λ vs. (i : ℕ) → i < length c.row-numbers.result.now → IsSettled c.node_count-count.result g vs (get_or c.row-numbers.result.now i 0)) c.values.ensures c.in-None.ensures.settled
     in
     let ready : (m : Node) → Uses t step.node m → IsKept t values m =
     step_done t g c.requires.table step.node inside values c.node_count-count.result c.row-numbers.result.now c.loop-step.invariant.accepted count numbers settled
@@ -225,7 +225,7 @@ loop-step-preserved c =
       steps = steps_stay t g values new front stay (steps_front t g values front c.loop-step.path.items step c.in-Some.ensures.items c.loop-step.invariant.steps);
       marked = marked_stay (node_count t) g values new stay c.missing_from.new.marks.items
           (subst (λ n. AreMarked n g values c.missing_from.new.marks.items) count
-          (subst (λ vs. AreMarked c.node_count-count.result g vs c.missing_from.new.marks.items) c.slots.ensures c.missing_from.ensures.marked));
+          (subst (λ vs. AreMarked c.node_count-count.result g vs c.missing_from.new.marks.items) c.values.ensures c.missing_from.ensures.marked));
       known = c.evaluate_next.ensures.known;
       accepted = c.loop-step.invariant.accepted;
     }

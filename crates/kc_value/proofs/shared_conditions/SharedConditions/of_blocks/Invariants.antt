@@ -1,7 +1,7 @@
 use Rattle.std.proofs.Common.{◌≡◌, ◌++◌, drop, map}
 use Rattle.kc_value.specs.Assignment.{assignment_of}
 use Rattle.kc_value.specs.KnownConditions.{all_depends, all_visible, own_depends, own_visible}
-use Rattle.kc_value.proofs.shared_conditions.SharedConditions.of.Given as goal
+use Rattle.kc_value.proofs.shared_conditions.SharedConditions.of_blocks.Given as goal
 
 -- what is there, with what the blocks that are left are given, is the whole
 abbrev pub invariant-loop-block : goal.invariant-loop-block

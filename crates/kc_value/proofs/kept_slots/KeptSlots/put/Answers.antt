@@ -1,6 +1,0 @@
-use Rattle.std.proofs.Common.{Some}
-use Rattle.kc_value.proofs.SlotLemmas.{filled_set}
-use Rattle.kc_value.proofs.kept_slots.KeptSlots.put.Goals as goal
-
-pub invariant_of-self : goal.invariant_of-self
-invariant_of-self c = filled_set c.self.inside.values.items c.self.inside.filled.items c.args.number (Some c.args.value) c.self.invariant
