@@ -21,9 +21,9 @@ use Rattle.kc_value.specs.Assignment.{value_at}
 use Rattle.kc_value.specs.Dirty.{Drops}
 use Rattle.kc_value.specs.DropWalk.{AreAbsent, AreWalked, DropsAll, IsDropping, IsFrom, NothingToDrop}
 use Rattle.kc_value.specs.Kept.{IsKept, IsClosed, kept_count}
-use Rattle.kc_value.specs.NodeValues.{is_present, summary_of}
-use Rattle.kc_value.specs.declared.node_values.Summary.{Summary}
-use Rattle.kc_value.specs.declared.node_values.Summary.TheVariants.{Yes}
+use Rattle.kc_value.specs.Summaries.{is_present, summary_of}
+use Rattle.kc_value.specs.declared.summary.Summary.{Summary}
+use Rattle.kc_value.specs.declared.summary.Summary.TheVariants.{Yes}
 use Rattle.kc_value.proofs.NodeValueLemmas.{absent_is_empty}
 use Rattle.kc_value.proofs.SlotLemmas.{none_set}
 use Rattle.kc_value.proofs.UsesLaws.{user_node}

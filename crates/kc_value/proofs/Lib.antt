@@ -33,6 +33,7 @@ pub mod SameLaws
 pub mod SlotLemmas
 pub mod SolutionLaws
 pub mod StepLemmas
+pub mod SummaryLemmas
 pub mod UserLemmas
 pub mod UsesLaws
 pub mod VisibilityLaws

@@ -1,45 +1,32 @@
 -- The values of nodes, and what is said of them beside.
-use Rattle.std.proofs.Common.{◌≡◌, true, false, true≢false, map, ℕ, zero, suc, ◌<◌, ◌≤◌, List, [], ◌∷◌, Option, Some, None, length, get_or, replicate, slice_set, unwrap_or, refl, sym, ap, ◌∙◌, arith}
+use Rattle.std.proofs.Common.{◌≡◌, Bool, true, false, true≢false, map, ℕ, zero, suc, ◌<◌, ◌≤◌, List, [], ◌∷◌, Option, Some, None, length, get_or, replicate, slice_set, unwrap_or, if◌then◌else◌, refl, sym, ap, ◌∙◌, arith}
 use Rattle.std.specs.Prelude.{is_some, slice_get}
-use Rattle.std.proofs.lemmas.List.{map-set}
-use Rattle.kc_statement.specs.declared.tri.Tri.{Tri}
-use Rattle.kc_statement.specs.declared.tri.Tri.TheVariants.{No as TriNo, Module as TriModule, Yes as TriYes}
-use Rattle.kc_value.specs.declared.node_values.Summary.{Summary}
-use Rattle.kc_value.specs.declared.node_values.Summary.TheVariants.{Absent, No, Module, Yes}
+use Rattle.std.proofs.lemmas.List.{length-map, map-set}
+use Rattle.kc_statement.specs.declared.tri.Tri.TheVariants.{No as TriNo}
+use Rattle.kc_value.specs.declared.summary.Summary.{Summary}
+use Rattle.kc_value.specs.declared.summary.Summary.TheVariants.{Absent, Yes}
 use Rattle.kc_value.specs.declared.value.Value.{Value}
 use Rattle.kc_value.specs.declared.value.Value.TheVariants.{Tri as Level}
 use Rattle.kc_value.specs.Assignment.{as_tri}
-use Rattle.kc_value.specs.NodeValues.{tri_summary, summary_of, is_present, summary_tri, seen, held}
+use Rattle.kc_value.specs.NodeValues.{seen, held}
+use Rattle.kc_value.specs.Summaries.{summary_of, is_present, is_stored, summary_tri, whole_value}
+use Rattle.kc_value.proofs.SummaryLemmas.{said, present, whole}
 
--- ---- what is said of a value
--- it is the tristate value
-tri_said : (x : Tri) → summary_tri (tri_summary x) ≡ x
-tri_said TriNo = refl
-tri_said TriModule = refl
-tri_said TriYes = refl
+-- ---- what is seen of a value
+-- a value that is said is seen, whatever is stored
+said_seen : (s : Summary) (v w : Value) → s ≡ summary_of (Some v) → is_stored s ≡ false → seen s w ≡ Some v
+said_seen s v w e h =
+    ap (λ (b : Bool). if b then Some w else whole_value s) h
+    ∙ ap whole_value e
+    ∙ whole (Some v) (ap is_stored (sym e) ∙ h)
 
-said : (o : Option Value) → summary_tri (summary_of o) ≡ as_tri (unwrap_or o (Level TriNo))
-said None = refl
-said (Some v) = tri_said (as_tri v)
-
--- whether there is one
-tri_present : (x : Tri) → is_present (tri_summary x) ≡ true
-tri_present TriNo = refl
-tri_present TriModule = refl
-tri_present TriYes = refl
-
-present : (o : Option Value) → is_present (summary_of o) ≡ is_some o
-present None = refl
-present (Some v) = tri_present (as_tri v)
-
--- where it is said of a value, the value is seen
-tri_seen : (x : Tri) (v : Value) → seen (tri_summary x) v ≡ Some v
-tri_seen TriNo v = refl
-tri_seen TriModule v = refl
-tri_seen TriYes v = refl
+-- and one that is stored is seen, too
+seen_by : (v : Value) (b : Bool) → is_stored (summary_of (Some v)) ≡ b → seen (summary_of (Some v)) v ≡ Some v
+seen_by v true h = ap (λ (b : Bool). if b then Some v else whole_value (summary_of (Some v))) h
+seen_by v false h = said_seen (summary_of (Some v)) v v refl h
 
 is_seen : (v : Value) → seen (summary_of (Some v)) v ≡ Some v
-is_seen v = tri_seen (as_tri v) v
+is_seen v = seen_by v (is_stored (summary_of (Some v))) refl
 
 -- ---- places
 -- each that is seen is there
@@ -88,7 +75,7 @@ all_held ss vs s = ap (λ (xs : List Summary). held xs vs) s ∙ held_each vs
 pub all_said : (ss : List Summary) (vs : List Value) → ss ≡ map (λ v. summary_of (Some v)) vs → ss ≡ map summary_of (held ss vs)
 all_said ss vs s = s ∙ each_said vs ∙ ap (map summary_of) (sym (all_held ss vs s))
 
--- a place that is given a value
+-- a place that is given a value which is stored
 held_set : (ss : List Summary) (vs : List Value) (k : ℕ) (v : Value) → held (slice_set ss k (summary_of (Some v))) (slice_set vs k v) ≡ slice_set (held ss vs) k (Some v)
 unfolding held
 held_set [] vs k v = refl
@@ -96,8 +83,23 @@ held_set (s ∷ ss) [] k v = no_values (slice_set (s ∷ ss) k (summary_of (Some
 held_set (s ∷ ss) (w ∷ vs) zero v = ap (λ (o : Option Value). o ∷ held ss vs) (is_seen v)
 held_set (s ∷ ss) (w ∷ vs) (suc k) v = ap (λ (xs : List (Option Value)). seen s w ∷ xs) (held_set ss vs k v)
 
-pub value_held : (ss : List Summary) (vs : List Value) (k : ℕ) (v : Value) (s : Summary) → s ≡ summary_of (Some v) → held (slice_set ss k s) (slice_set vs k v) ≡ slice_set (held ss vs) k (Some v)
-value_held ss vs k v s e = ap (λ (x : Summary). held (slice_set ss k x) (slice_set vs k v)) e ∙ held_set ss vs k v
+-- and one that is given a value which is said
+held_said : (ss : List Summary) (vs : List Value) (k : ℕ) (v : Value) (s : Summary) → s ≡ summary_of (Some v) → is_stored s ≡ false → held (slice_set ss k s) vs ≡ slice_set (held ss vs) k (Some v)
+unfolding held
+held_said [] vs k v s e h = refl
+held_said (r ∷ ss) [] k v s e h = no_values (slice_set (r ∷ ss) k s)
+held_said (r ∷ ss) (w ∷ vs) zero v s e h = ap (λ (o : Option Value). o ∷ held ss vs) (said_seen s v w e h)
+held_said (r ∷ ss) (w ∷ vs) (suc k) v s e h = ap (λ (xs : List (Option Value)). seen r w ∷ xs) (held_said ss vs k v s e h)
+
+-- whichever of the two it is
+held_by : (ss : List Summary) (vs : List Value) (k : ℕ) (v : Value) (s : Summary) (b : Bool) → s ≡ summary_of (Some v) → is_stored s ≡ b
+    → held (slice_set ss k s) (if b then slice_set vs k v else vs) ≡ slice_set (held ss vs) k (Some v)
+held_by ss vs k v s true e h = ap (λ (x : Summary). held (slice_set ss k x) (slice_set vs k v)) e ∙ held_set ss vs k v
+held_by ss vs k v s false e h = held_said ss vs k v s e h
+
+pub value_held : (ss : List Summary) (vs ws : List Value) (k : ℕ) (v : Value) (s : Summary) (b : Bool) → s ≡ summary_of (Some v) → b ≡ is_stored s
+    → ws ≡ (if b then slice_set vs k v else vs) → held (slice_set ss k s) ws ≡ slice_set (held ss vs) k (Some v)
+value_held ss vs ws k v s b e h is = ap (held (slice_set ss k s)) is ∙ held_by ss vs k v s b e (sym h)
 
 -- and one from which it is removed
 pub held_removed : (ss : List Summary) (vs : List Value) (k : ℕ) → held (slice_set ss k Absent) vs ≡ slice_set (held ss vs) k None
@@ -110,10 +112,11 @@ held_removed (s ∷ ss) (w ∷ vs) (suc k) = ap (λ (xs : List (Option Value)). 
 pub said_set : (ss : List Summary) (xs : List (Option Value)) (k : ℕ) (o : Option Value) → ss ≡ map summary_of xs → slice_set ss k (summary_of o) ≡ map summary_of (slice_set xs k o)
 said_set ss xs k o is = ap (λ (ys : List Summary). slice_set ys k (summary_of o)) is ∙ sym (map-set summary_of xs k o)
 
-pub value_said : (ss : List Summary) (vs : List Value) (k : ℕ) (v : Value) (s : Summary) → ss ≡ map summary_of (held ss vs) → s ≡ summary_of (Some v)
-    → slice_set ss k s ≡ map summary_of (held (slice_set ss k s) (slice_set vs k v))
-value_said ss vs k v s is e =
-    ap (λ (x : Summary). slice_set ss k x) e ∙ said_set ss (held ss vs) k (Some v) is ∙ ap (map summary_of) (sym (value_held ss vs k v s e))
+-- what is said stays right
+pub still_said : (ss : List Summary) (vs ws : List Value) (k : ℕ) (v : Value) (s : Summary) → ss ≡ map summary_of (held ss vs) → s ≡ summary_of (Some v)
+    → held (slice_set ss k s) ws ≡ slice_set (held ss vs) k (Some v) → slice_set ss k s ≡ map summary_of (held (slice_set ss k s) ws)
+still_said ss vs ws k v s is e after =
+    ap (λ (x : Summary). slice_set ss k x) e ∙ said_set ss (held ss vs) k (Some v) is ∙ ap (map summary_of) (sym after)
 
 -- ---- one place
 said_at : (xs : List (Option Value)) (k : ℕ) → get_or (map summary_of xs) k Absent ≡ summary_of (get_or xs k None)
@@ -127,23 +130,23 @@ tri_at ss xs k is = ap (λ (ys : List Summary). summary_tri (get_or ys k Absent)
 pub present_at : (ss : List Summary) (xs : List (Option Value)) (k : ℕ) → ss ≡ map summary_of xs → is_present (get_or ss k Absent) ≡ is_some (get_or xs k None)
 present_at ss xs k is = ap (λ (ys : List Summary). is_present (get_or ys k Absent)) is ∙ ap is_present (said_at xs k) ∙ present (get_or xs k None)
 
--- a value that is seen is the one in the place
-seen_is : (s : Summary) (v : Value) → is_some (seen s v) ≡ true → Some v ≡ seen s v
-seen_is Absent v h = absurd (true≢false (sym h))
-seen_is No v h = refl
-seen_is Module v h = refl
-seen_is Yes v h = refl
-
-pub value_seen : (ss : List Summary) (vs : List Value) (k : ℕ) → is_some (get_or (held ss vs) k None) ≡ true → slice_get vs k ≡ get_or (held ss vs) k None
+-- a value that is stored is the one in the place
+stored_within : (ss : List Summary) (vs : List Value) (k : ℕ) → length ss ≤ length vs → is_stored (get_or ss k Absent) ≡ true → slice_get vs k ≡ get_or (held ss vs) k None
 unfolding held
-value_seen [] vs k h = absurd (true≢false (sym h))
-value_seen (s ∷ ss) [] k h = absurd (true≢false (sym h))
-value_seen (s ∷ ss) (v ∷ vs) zero h = seen_is s v h
-value_seen (s ∷ ss) (v ∷ vs) (suc k) h = value_seen ss vs k h
+stored_within [] vs k within h = absurd (true≢false (sym h))
+stored_within (s ∷ ss) [] k within h = absurd (omega (arith, within))
+stored_within (s ∷ ss) (v ∷ vs) zero within h = sym (ap (λ (b : Bool). if b then Some v else whole_value s) h)
+stored_within (s ∷ ss) (v ∷ vs) (suc k) within h = stored_within ss vs k (omega (arith, within)) h
 
-pub none_seen : (o : Option Value) → is_some o ≡ false → None ≡ o
-none_seen None h = refl
-none_seen (Some v) h = absurd (true≢false h)
+pub stored_at : (ss : List Summary) (vs : List Value) (k : ℕ) → ss ≡ map summary_of (held ss vs) → is_stored (get_or ss k Absent) ≡ true → slice_get vs k ≡ get_or (held ss vs) k None
+stored_at ss vs k is h =
+    stored_within ss vs k (omega (arith, ap length is, length-map (held ss vs) summary_of, (held_within ss vs).1)) h
+
+-- and one that is not is said
+pub whole_at : (ss : List Summary) (xs : List (Option Value)) (k : ℕ) → ss ≡ map summary_of xs → is_stored (get_or ss k Absent) ≡ false → whole_value (get_or ss k Absent) ≡ get_or xs k None
+whole_at ss xs k is h =
+    let at : get_or ss k Absent ≡ summary_of (get_or xs k None) = ap (λ (ys : List Summary). get_or ys k Absent) is ∙ said_at xs k in
+    ap whole_value at ∙ whole (get_or xs k None) (ap is_stored (sym at) ∙ h)
 
 -- ---- what is said of a place that the list may not have
 -- where it is said that there is no value, there is a place and nothing in it

@@ -19,9 +19,9 @@ use Rattle.kc_value.specs.declared.filling.Step.{Step}
 use Rattle.kc_value.specs.declared.value.Value.{Value}
 use Rattle.kc_value.specs.FillWalk.{ArePresent, HasValue, HaveValues, AllHaveValues, IsSettled, AreMarked, IsPassed}
 use Rattle.kc_value.specs.Kept.{IsKept, is_kept}
-use Rattle.kc_value.specs.NodeValues.{is_present, summary_of}
-use Rattle.kc_value.specs.declared.node_values.Summary.{Summary}
-use Rattle.kc_value.specs.declared.node_values.Summary.TheVariants.{Absent}
+use Rattle.kc_value.specs.Summaries.{is_present, summary_of}
+use Rattle.kc_value.specs.declared.summary.Summary.{Summary}
+use Rattle.kc_value.specs.declared.summary.Summary.TheVariants.{Absent}
 use Rattle.kc_value.proofs.NodeValueLemmas.{present_is_some}
 
 -- ---- lists of numbers

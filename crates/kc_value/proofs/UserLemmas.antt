@@ -1,14 +1,19 @@
 -- User values that fit their symbols still do once one is set or removed.
-use Rattle.std.proofs.Common.{◌≡◌, ◌<◌, ℕ, true, false, true≢false, not, ◌&&◌, Option, Some, None, is_some, length, replicate, get_or, set, slice_get, get_or-set_same, get_or-set_other, sym, ap, ◌∙◌, refl, subst, ⊎_elim, arith}
+use Rattle.std.proofs.Common.{◌≡◌, ◌<◌, ℕ, true, false, true≢false, not, ◌&&◌, if◌then◌else◌, Option, Some, None, is_some, length, replicate, get_or, set, slice_get, get_or-set_same, get_or-set_other, sym, ap, ◌∙◌, refl, subst, ⊎_elim, arith}
 use Rattle.std.specs.Option.{option_map_or}
 use Rattle.std.proofs.lemmas.Bool.{cases_eq, cases_lt}
 use Rattle.std.proofs.lemmas.List.{length-set, length-replicate, get_or-replicate, get_or_past}
 use Rattle.std.proofs.lemmas.Option.{slice_get_within}
 use Rattle.kc_statement.specs.declared.id.SymId.{SymId}
+use Rattle.kc_statement.specs.declared.tri.Tri.{Tri}
+use Rattle.kc_statement.specs.declared.tri.Tri.TheVariants.{No, Module, Yes}
+use Rattle.kc_statement.specs.Tristate.{is_no}
 use Rattle.kc_outline.specs.declared.id.ChoiceId.{ChoiceId}
 use Rattle.kc_outline.specs.TreeValue.{TreeValue, SymbolValue, kind_of}
 use Rattle.kc_tree.specs.Fits.{fits, fits_type}
 use Rattle.kc_tree.specs.declared.user_value.UserVal.{UserVal}
+use Rattle.kc_value.specs.Assignment.{Assignment}
+use Rattle.kc_value.specs.Rule.{symbol_rule}
 use Rattle.kc_value.specs.UserValues.{UserValues, IsUserFor, with_value, with_chosen, no_values}
 
 -- ---- lists of places
@@ -78,3 +83,11 @@ pub all_removed : (t : TreeValue) (u w : UserValues) → w.values ≡ replicate 
 all_removed t u w values chosen user =
     ap (λ x. record { values = x; chosen = w.chosen }) (values ∙ ap (λ n. replicate n None) user.values)
     ∙ ap (λ x. record { values = replicate (length t.symbols) None; chosen = x }) (chosen ∙ ap (λ n. replicate n None) user.chosen)
+
+-- ---- a symbol that is not visible
+-- what the user gave makes no difference to it
+pub unseen_given : (t : TreeValue) (a : Assignment) (s : SymId) (x : SymbolValue) (vis : Tri) (u : Option UserVal)
+    → symbol_rule t a s x vis (if is_no vis then None else u) ≡ symbol_rule t a s x vis u
+unseen_given t a s x No u = refl
+unseen_given t a s x Module u = refl
+unseen_given t a s x Yes u = refl

@@ -6,12 +6,12 @@ use Rattle.kc_tree.specs.declared.node.Node.{Node}
 use Rattle.kc_tree.specs.Nodes.{IsNodeOf, node_count}
 use Rattle.kc_tree.specs.Reached.{Leads}
 use Rattle.kc_tree.specs.Uses.{Uses}
-use Rattle.kc_value.specs.declared.node_values.Summary.{Summary}
-use Rattle.kc_value.specs.declared.node_values.Summary.TheVariants.{Yes}
+use Rattle.kc_value.specs.declared.summary.Summary.{Summary}
+use Rattle.kc_value.specs.declared.summary.Summary.TheVariants.{Yes}
 use Rattle.kc_value.specs.declared.value.Value.{Value}
 use Rattle.kc_value.specs.Assignment.{value_at}
 use Rattle.kc_value.specs.Kept.{IsKept, kept_count}
-use Rattle.kc_value.specs.NodeValues.{is_present}
+use Rattle.kc_value.specs.Summaries.{is_present}
 
 -- The values of some nodes are dropped and no others, and each node that had one comes to a list of nodes, which so
 -- grows by no more than the values become fewer.

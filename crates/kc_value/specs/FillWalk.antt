@@ -2,10 +2,10 @@
 -- A number of a row below n is that of a node, and one from n on that of a shared list of nodes (kc_graph, Shared).
 use Rattle.std.specs.Prelude.{◌≡◌, ℕ, ◌+◌, ◌<◌, ◌≤◌, Bool, true, false, List, Option, None, is_some, length, slice_index_or}
 use Rattle.kc_graph.specs.Graph.{row}
-use Rattle.kc_value.specs.declared.node_values.Summary.{Summary}
-use Rattle.kc_value.specs.declared.node_values.Summary.TheVariants.{Absent}
+use Rattle.kc_value.specs.declared.summary.Summary.{Summary}
+use Rattle.kc_value.specs.declared.summary.Summary.TheVariants.{Absent}
 use Rattle.kc_value.specs.declared.value.Value.{Value}
-use Rattle.kc_value.specs.NodeValues.{is_present}
+use Rattle.kc_value.specs.Summaries.{is_present}
 
 -- the node of a number has a value
 abbrev pub HasValue : List (Option Value) → ℕ → Type 0

@@ -18,6 +18,7 @@ pub mod Numerals
 pub mod Replay
 pub mod Rule
 pub mod Solution
+pub mod Summaries
 pub mod TextRule
 pub mod UserValues
 pub mod Without

@@ -198,12 +198,12 @@ pub(crate) fn prompt_tri(
     let Some(prompt) = definition.prompt() else {
         return Tri::No;
     };
-    let own = own_condition_tri(tree, prompt.condition.as_ref(), env);
-    if own.is_no() {
-        return Tri::No;
-    }
     let lines = conditions_tri(tree, definition.depends(), env);
     if lines.is_no() {
+        return Tri::No;
+    }
+    let own = own_condition_tri(tree, prompt.condition.as_ref(), env);
+    if own.is_no() {
         return Tri::No;
     }
     own.and(lines.and(blocks_prompt_tri(tree, definition.block(), known, env)))

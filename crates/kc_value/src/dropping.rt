@@ -5,15 +5,16 @@ ghost use Rattle.kc_graph.specs.Shared.{IsShared, stands_for, whole_row};
 ghost use Rattle.kc_tree.specs.declared.node.Node.{Node};
 ghost use Rattle.kc_tree.specs.Nodes.{IsNodeOf, node_at, node_count};
 ghost use Rattle.kc_value.specs.declared.value.Value.{Value};
-ghost use Rattle.kc_value.specs.declared.node_values.Summary.TheVariants.{Yes};
-ghost use Rattle.kc_value.specs.NodeValues.{is_present};
+ghost use Rattle.kc_value.specs.declared.summary.Summary.TheVariants.{Yes};
+ghost use Rattle.kc_value.specs.Summaries.{is_present};
 ghost use Rattle.kc_value.specs.Dirty.{Drops};
 ghost use Rattle.kc_value.specs.DropWalk.{AreAbsent, AreWalked, DropsAll, IsDropping};
 ghost use Rattle.kc_value.specs.Kept.{IsClosed, kept_count};
 
 use crate::kept_values::KeptValues;
 use crate::marks::{clear_marks, is_marked, mark};
-use crate::node_values::{NodeValues, Summary};
+use crate::node_values::NodeValues;
+use crate::summary::Summary;
 use kc_graph::Rows;
 use kc_tree::{Node, Tree};
 

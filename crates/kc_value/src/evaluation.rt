@@ -1,9 +1,12 @@
-ghost use Rattle.std.specs.Prelude.{◌≡◌, IfOk, if◌then◌else◌, is_ok};
+ghost use Rattle.std.specs.Prelude.{◌≡◌, IfOk, None, if◌then◌else◌, is_ok};
+ghost use Rattle.std.specs.Option.{option_copied};
+ghost use Rattle.kc_statement.specs.Tristate.{is_no};
 ghost use Rattle.kc_tree.specs.declared.node.Node.TheVariants.{Vis, Val, Mode, Sel};
 ghost use Rattle.kc_value.specs.Assignment.{assignment_of};
 ghost use Rattle.kc_value.specs.Counting.{raised};
 ghost use Rattle.kc_value.specs.KnownConditions.{AreRight};
 ghost use Rattle.kc_value.specs.Rule.{rule};
+ghost use Rattle.kc_value.specs.UserValues.{user_value};
 
 use crate::choice_value::{mode_value, selection_value};
 use crate::expr_value::node_tri;
@@ -13,7 +16,7 @@ use crate::node_values::NodeValues;
 use crate::symbol_value::{symbol_value, symbol_visibility};
 use crate::user::User;
 use crate::value::Value;
-use kc_tree::{ChoiceId, Node, SymId, Tree, Tri};
+use kc_tree::{ChoiceId, Node, SymId, Tree, Tri, UserVal};
 use std::alloc::{AllocError, Global};
 
 /// What the rule of a visibility gives.
@@ -34,8 +37,18 @@ fn visibility(
     }
 }
 
+/// What the user gave to a symbol that is visible; to one that is not it makes no difference, and is not read.
+fn given_to(user: &User, id: SymId, visibility: Tri) -> Option<&UserVal>
+    ensures { option_copied result ≡ (if is_no visibility then None else user_value user.now id) }
+{
+    if visibility.is_no() {
+        return None;
+    }
+    user.get(id)
+}
+
 /// What the rule of a value gives.
-#[tactic(auto, unfolding(crate::specs::Rule::rule))]
+#[tactic(auto, unfolding(crate::specs::Rule::rule), using(crate::proofs::UserLemmas::unseen_given))]
 fn value(
     alloc: Global,
     tree: &Tree,
@@ -57,7 +70,7 @@ fn value(
         id,
         symbol,
         visibility,
-        user.get(id),
+        given_to(user, id, visibility),
         known,
         env,
     )

@@ -24,6 +24,7 @@ mod numeral;
 mod resolver;
 mod shared_conditions;
 mod slots;
+mod summary;
 mod symbol_value;
 mod text_value;
 mod user;

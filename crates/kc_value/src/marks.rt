@@ -17,20 +17,13 @@ pub(crate) fn no_marks(alloc: Global, tree: &Tree, table: &Rows) -> Result<Vec<b
 }
 
 /// Whether a place is marked; one that is not there is not.
-pub(crate) fn has_mark(marks: &[bool], place: usize) -> bool
-    ensures { result ≡ slice_index_or marks.now place false }
-{
-    match marks.get(place) {
-        Some(mark) => *mark,
-        None => false,
-    }
-}
-
-/// The same, of a vector of marks.
 pub(crate) fn is_marked(marks: &Vec<bool>, place: usize) -> bool
     ensures { result ≡ slice_index_or marks.now.items place false }
 {
-    has_mark(marks.as_slice(), place)
+    match marks.as_slice().get(place) {
+        Some(mark) => *mark,
+        None => false,
+    }
 }
 
 /// Marks a place, if it is there.

@@ -1,81 +1,41 @@
 //! The values of nodes, by number.
 
-ghost use Rattle.std.specs.Prelude.{◌≡◌, ◌<◌, IfOk, None, Some, is_some, length, map, replicate, slice_get, slice_index_or, slice_set, unwrap_or};
+ghost use Rattle.std.specs.Prelude.{◌≡◌, ◌<◌, IfOk, None, Some, if◌then◌else◌, is_some, length, map, replicate, slice_get, slice_index_or, slice_set, unwrap_or};
 ghost use Rattle.std.specs.Option.{option_copied};
-ghost use Rattle.kc_value.specs.declared.node_values.Summary.TheVariants.{Absent};
+ghost use Rattle.kc_value.specs.declared.summary.Summary.TheVariants.{Absent};
 ghost use Rattle.kc_statement.specs.declared.tri.Tri.TheVariants.{No};
 ghost use Rattle.kc_value.specs.declared.value.Value.TheVariants.{Tri as Level};
 ghost use Rattle.kc_value.specs.Assignment.{as_tri};
-ghost use Rattle.kc_value.specs.NodeValues.{is_present, summary_of, summary_tri};
+ghost use Rattle.kc_value.specs.Summaries.{summary_of};
 
+use crate::summary::{SaidValues, Summary};
 use crate::value::Value;
 use kc_tree::Tri;
 use std::alloc::{AllocError, Global};
 use std::marker::Model;
 
-/// What a byte says of a node: that it has no value, or the tristate value that it has, n where its value is none.
-#[derive(Clone, Copy)]
-pub(crate) enum Summary {
-    Absent,
-    No,
-    Module,
-    Yes,
-}
-
-impl Summary {
-    /// What is said of a value.
-    fn of(value: &Value) -> Summary
-        ensures { result ≡ summary_of (Some value.now) }
-    {
-        match value.as_tri() {
-            Tri::No => Summary::No,
-            Tri::Module => Summary::Module,
-            Tri::Yes => Summary::Yes,
-        }
-    }
-
-    /// Whether there is a value.
-    pub(crate) fn is_present(self) -> bool
-        ensures { result ≡ is_present self }
-    {
-        match self {
-            Summary::Absent => false,
-            Summary::No | Summary::Module | Summary::Yes => true,
-        }
-    }
-
-    /// The tristate value, n where there is none.
-    fn tri(self) -> Tri
-        ensures { result ≡ summary_tri self }
-    {
-        match self {
-            Summary::Absent | Summary::No => Tri::No,
-            Summary::Module => Tri::Module,
-            Summary::Yes => Tri::Yes,
-        }
-    }
-}
-
 /// The values of nodes by number, with nothing for a node that has none. Contracts see the list of them.
 ///
-/// Beside each value stands a byte that says whether there is one, and its tristate value. Conditions and walks ask for
-/// nothing else, and they ask far more often than for a text: a byte is read and not a value. What stood in the place of
-/// a node that has no value any more is left there until the next value comes, and is not seen.
+/// A byte says of each node whether it has a value, and which one, but for texts and selections, which are stored beside.
+/// Conditions and walks ask for no more than the byte, and far more often than any asks for a text. What was stored of a
+/// node that has another value by now, or none, is left there until the next is stored, and is not seen.
 #[derive(Drop)]
 pub struct NodeValues {
     summaries: Vec<Summary>,
-    values: Vec<Value>,
+    stored: Vec<Value>,
+    said: SaidValues,
 }
 
 impl Model for NodeValues {
     ghost use Rattle.std.specs.Prelude.{◌≡◌, map};
-    ghost use Rattle.kc_value.specs.NodeValues.{Slots, held, summary_of};
+    ghost use Rattle.kc_value.specs.NodeValues.{Slots, held};
+    ghost use Rattle.kc_value.specs.Summaries.{summary_of};
 
     ghost Value = { Slots };
 
-    ghost view = { λ s. held s.summaries.items s.values.items };
+    ghost view = { λ s. held s.summaries.items s.stored.items };
 
-    ghost invariant = { λ s. s.summaries.items ≡ map summary_of (held s.summaries.items s.values.items) };
+    ghost invariant = { λ s. s.summaries.items ≡ map summary_of (held s.summaries.items s.stored.items) };
 }
 
 /// So many values that are not seen. The error comes where memory is refused.
@@ -124,14 +84,25 @@ fn stored_at(values: &[Value], number: usize) -> Option<&Value>
     values.get(number)
 }
 
+/// Stores a value in the place of a number, if it is one that is stored.
+fn store_if(stored: &mut Vec<Value>, number: usize, value: Value, is_stored: bool)
+    requires { number < length stored.old.items }
+    ensures { stored.new.items ≡ (if is_stored then slice_set stored.old.items number value else stored.old.items) }
+{
+    if is_stored {
+        stored[number] = value;
+    }
+}
+
 impl NodeValues {
     /// So many nodes without a value. The error comes where memory is refused.
     pub fn empty(alloc: Global, count: usize) -> Result<NodeValues, AllocError>
         ensures { IfOk result (λ s. s ≡ replicate count None) }
     {
         Ok(NodeValues {
-            values: unseen(alloc, count)?,
+            stored: unseen(alloc, count)?,
             summaries: nothing_said(alloc, count)?,
+            said: SaidValues::new(),
         })
     }
 
@@ -141,7 +112,8 @@ impl NodeValues {
     {
         Ok(NodeValues {
             summaries: summaries_of(alloc, values.as_slice())?,
-            values,
+            stored: values,
+            said: SaidValues::new(),
         })
     }
 
@@ -170,10 +142,11 @@ impl NodeValues {
     pub fn get(&self, number: usize) -> Option<&Value>
         ensures { option_copied result ≡ slice_index_or self.now number None }
     {
-        if self.has(number) {
-            stored_at(self.values.as_slice(), number)
+        let summary = summary_at(self.summaries.as_slice(), number);
+        if summary.is_stored() {
+            stored_at(self.stored.as_slice(), number)
         } else {
-            None
+            self.said.get(summary)
         }
     }
 
@@ -182,8 +155,9 @@ impl NodeValues {
         requires { number < length self.old }
         ensures { self.new ≡ slice_set self.old number (Some value) }
     {
-        self.summaries[number] = Summary::of(&value);
-        self.values[number] = value;
+        let summary = Summary::of(&value);
+        self.summaries[number] = summary;
+        store_if(&mut self.stored, number, value, summary.is_stored());
     }
 
     /// Drops the value of the node of a number.

@@ -1,5 +1,5 @@
 use Rattle.std.proofs.Common.{◌≡◌, ◌++◌, Some, drop, map}
-use Rattle.kc_value.specs.NodeValues.{summary_of}
+use Rattle.kc_value.specs.Summaries.{summary_of}
 use Rattle.kc_value.proofs.node_values.summaries_of.Given as goal
 
 -- what is there, with what is said of the values that are left, is the whole

@@ -1,7 +1,7 @@
 use Rattle.std.proofs.Common.{◌≡◌, List, Some, map, ap, ◌∙◌}
-use Rattle.kc_value.specs.declared.node_values.Summary.{Summary}
+use Rattle.kc_value.specs.declared.summary.Summary.{Summary}
 use Rattle.kc_value.specs.declared.value.Value.{Value}
-use Rattle.kc_value.specs.NodeValues.{summary_of}
+use Rattle.kc_value.specs.Summaries.{summary_of}
 use Rattle.kc_value.proofs.NodeValueLemmas.{all_held, all_said}
 use Rattle.kc_value.proofs.node_values.NodeValues.of.Goals as goal
 
