@@ -188,7 +188,8 @@ shape_step (Expr-F.Any es) = if nat_le 2 (length es.items) && list_all (stands_a
 abbrev pub shape : Expr → Shape
 shape = fold-Expr Shape shape_step
 
--- of the expressions with one formula, it is the one in the shape in which expressions are kept
+-- It has the shape in which expressions are kept. Two expressions of one formula that both have it are written alike, and
+-- differ by where they lie in memory alone; no law says so.
 abbrev pub has_shape : Expr → Bool
 has_shape e = stands_at expression (shape e)
 

@@ -8,7 +8,7 @@ use Rattle.kc_tree.specs.declared.node.Node.{Node}
 use Rattle.kc_tree.specs.declared.node.Node.TheVariants.{Vis, Val, Mode, Sel}
 use Rattle.kc_outline.specs.TreeValue.{TreeValue}
 use Rattle.kc_tree.specs.Nodes.{number_in, node_in, symbol_node, choice_node, number_of, node_at, node_count, IsNodeOf}
-use Rattle.kc_tree.specs.Nodes.{IsNumbered}
+use Rattle.kc_tree.specs.Nodes.{IsNumbered, AreNumbered}
 
 even_rest : (k : ℕ) → (2 * k) % 2 ≡ 0
 even_rest k = omega arith
@@ -125,6 +125,14 @@ at_below t k h =
 
 pub below_at : (t : TreeValue) (k : ℕ) → IsNodeOf t (node_at t k) → k < node_count t
 below_at t k h = subst (λ j. j < node_count t) (number_of-node_at t k) (number_below t (node_at t k) h)
+
+pub are_numbered : (t : TreeValue) → AreNumbered t
+are_numbered t = record {
+  below = λ n inside. number_below t n inside;
+  alone = λ n m inside among same. same_node t n m inside among same;
+  inside = λ k below. at_below t k below;
+  at = λ k below. number_of-node_at t k;
+}
 
 -- ---- lists
 module _ {A B : Type 0} where

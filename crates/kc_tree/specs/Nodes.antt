@@ -45,6 +45,14 @@ node_count t = 2 * (length t.symbols + length t.choices)
 abbrev pub all_nodes : TreeValue → List Node
 all_nodes t = map (node_at t) (range_with_len 0 (node_count t))
 
+-- The numbers of the nodes of a tree are one to one, from 0: each node has one below their count, no two nodes have the
+-- same, and each number below the count is that of a node.
+pub record AreNumbered (t : TreeValue) : Type 0 where
+  pub below : (n : Node) → IsNodeOf t n → number_of t n < node_count t
+  pub alone : (n m : Node) → IsNodeOf t n → IsNodeOf t m → number_of t n ≡ number_of t m → n ≡ m
+  pub inside : (k : ℕ) → k < node_count t → IsNodeOf t (node_at t k)
+  pub at : (k : ℕ) → k < node_count t → number_of t (node_at t k) ≡ k
+
 -- the name of the node's symbol, the prompt of its choice
 abbrev pub node_name : TreeValue → Node → List ℕ
 node_name t (Vis s) = name_of t s

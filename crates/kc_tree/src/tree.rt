@@ -1,6 +1,6 @@
 ghost use Rattle.std.specs.Prelude.{◌≡◌, ◌<◌, IfSome, IfOk, IfErr, length, Contains, ◌↔◌};
 ghost use Rattle.kc_outline.specs.TreeValue.{symbol_named, name_of, modules_symbol};
-ghost use Rattle.kc_tree.specs.Nodes.{all_nodes, node_at, node_count, number_of, IsNodeOf};
+ghost use Rattle.kc_tree.specs.Nodes.{all_nodes, node_at, node_count, number_of, AreNumbered, IsNodeOf};
 ghost use Rattle.kc_tree.specs.Uses.{Uses};
 ghost use Rattle.kc_tree.specs.Order.{IsOrder};
 ghost use Rattle.kc_tree.specs.Accepted.{IsAccepted, IsSharedTable};
@@ -192,9 +192,12 @@ impl Tree {
     }
 
     /// The number of a node, from 0: twice that of its symbol for a visibility, and one more for a value; the modes and
-    /// the selections of the choices follow, in the same way.
+    /// the selections of the choices follow, in the same way. The numbers of the nodes of the tree are one to one, and below
+    /// the count of nodes.
+    #[tactic(auto, using(crate::proofs::NodeNumbers::are_numbered))]
     pub fn number(&self, node: Node) -> usize
         ensures number { result ≡ number_of self.now node }
+        ensures numbered { AreNumbered self.now }
         ensures accepted { IsAccepted self.now }
     {
         node.number_in(self.outline.symbols().len())
