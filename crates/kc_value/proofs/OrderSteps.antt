@@ -13,7 +13,7 @@ use Rattle.kc_tree.specs.Uses.{Uses}
 use Rattle.kc_tree.proofs.NodeNumbers.{node_at-number_of, number_below}
 use Rattle.kc_value.specs.declared.value.Value.{Value}
 use Rattle.kc_value.specs.Kept.{KeptValue, IsKept, Fills}
-use Rattle.kc_value.proofs.KeptLaws.{fills_again, fills_wider, fills_nothing, kept_after}
+use Rattle.kc_value.specs.FillLaws.{fills_again, fills_wider, fills_nothing, kept_after}
 use Rattle.kc_value.proofs.PartLemmas.{Contains-from_take}
 
 -- each node of the tree is among all nodes

@@ -9,9 +9,11 @@ pub mod Defaults
 pub mod Dirty
 pub mod DropWalk
 pub mod ExprValue
+pub mod FillLaws
 pub mod FillWalk
 pub mod Fresh
 pub mod Kept
+pub mod KeptLaws
 pub mod KnownConditions
 pub mod NodeValues
 pub mod Numerals

@@ -4,9 +4,12 @@ ghost use Rattle.std.specs.Prelude.{◌≡◌, ◌↔◌, [], ◌∷◌, Some, N
 ghost use Rattle.kc_tree.specs.Nodes.{IsNodeOf, node_count, number_of};
 ghost use Rattle.kc_value.specs.Assignment.{assignment_of, value_at};
 ghost use Rattle.kc_value.specs.Counting.{raised};
-ghost use Rattle.kc_value.specs.Kept.{KeptValue, nothing_kept, is_kept, IsKept};
+ghost use Rattle.kc_value.specs.Kept.{KeptValue, nothing_kept, is_kept, AreKept, IsKept};
+ghost use Rattle.kc_value.specs.KeptLaws.{KeptLaws};
 ghost use Rattle.kc_value.specs.KnownConditions.{AreKnown};
 ghost use Rattle.kc_value.specs.Rule.{rule};
+ghost use Rattle.kc_value.specs.Solution.{solution, IsOnlySolution};
+ghost use Rattle.kc_value.specs.UserValues.{UserValues};
 
 use crate::evaluation::eval_over;
 use crate::known_conditions::KnownConditions;
@@ -43,11 +46,17 @@ impl Model for KeptValues {
 }
 
 impl KeptValues {
-    /// Nothing is kept, and there is room for a value for each node of the tree.
+    /// Nothing is kept, so that what is kept is right for any user values, and there is room for a value for each node of
+    /// the tree. The laws of what is kept of a tree hold, and so does that the tree has one solution, and no other, whatever
+    /// the call returns.
     ///
     /// The error comes where memory is refused for that room.
+    #[tactic(auto, using(crate::proofs::KeptLaws::nothing_right))]
     pub fn new(alloc: Global, tree: &Tree) -> Result<KeptValues, AllocError>
-        ensures { IfOk result (λ k. k ≡ nothing_kept tree.now) }
+        ensures nothing { IfOk result (λ k. k ≡ nothing_kept tree.now) }
+        ensures right { (u : UserValues) → AreKept tree.now u (nothing_kept tree.now).values }
+        ensures solved { (u : UserValues) → IsOnlySolution tree.now u (solution tree.now u) }
+        ensures laws { KeptLaws tree.now }
     {
         let count = tree.node_count();
         Ok(KeptValues {
