@@ -17,7 +17,7 @@ ghost use Rattle.kc_value.specs.Assignable.{same_tri, is_shown_with_some, assign
 ghost use Rattle.kc_value.specs.Assignment.{assignment_of};
 ghost use Rattle.kc_value.specs.KnownConditions.{AreRight, AreSharedBy};
 ghost use Rattle.kc_value.specs.Rule.{in_type, user_part};
-ghost use Rattle.kc_value.specs.Solution.{solution, AreSolved};
+ghost use Rattle.kc_value.specs.Solution.{solution, AreSolved, IsOnlySolution};
 ghost use Rattle.kc_value.specs.UserValues.{UserValues, IsUserFor};
 
 use crate::expr_value::node_tri;
@@ -138,7 +138,8 @@ fn one_value(alloc: Global, value: Tri) -> Result<Vec<Tri>, AllocError>
 /// The values that a user can give a symbol with an effect, in the order n, m, y (Kconfiglib,
 /// "assignable"): of a visible symbol those that it would show for some user value of its type, all else
 /// as it is, y alone of a visible member of a choice, and none of an invisible symbol and of a string, an int
-/// or a hex. The resolver is asked for the symbol's nodes alone.
+/// or a hex. The resolver is asked for the symbol's nodes alone. That the tree has one solution, and no other, holds
+/// whatever the call returns.
 ///
 /// The error comes where memory is refused.
 pub fn assignable<R: Resolver>(
@@ -149,6 +150,8 @@ pub fn assignable<R: Resolver>(
     requires { IsNodeOf (R.tree_of resolver.old) (Vis symbol) }
     ensures values { IfOk result
         (λ v. v.items ≡ assignable_values (R.tree_of resolver.old) (R.user_of resolver.old) symbol) }
+    ensures solved { IsOnlySolution (R.tree_of resolver.old) (R.user_of resolver.old)
+        (solution (R.tree_of resolver.old) (R.user_of resolver.old)) }
     ensures tree { R.tree_of resolver.new ≡ R.tree_of resolver.old }
     ensures user { R.user_of resolver.new ≡ R.user_of resolver.old }
     ensures grew { R.grew resolver.old resolver.new (Vis symbol ∷ Val symbol ∷ []) }
@@ -168,7 +171,7 @@ pub fn assignable<R: Resolver>(
 
 /// The values that a user can give a symbol with an effect, as [`assignable`] has them, over the values of all nodes, or
 /// of those that the value of the symbol is computed from. `conditions` is what these values give many nodes, as far as it
-/// is known.
+/// is known. That the tree has one solution, and no other, holds whatever the call returns.
 ///
 /// The error comes where memory is refused.
 pub fn assignable_among(
@@ -180,11 +183,12 @@ pub fn assignable_among(
 ) -> Result<Vec<Tri>, AllocError>
     requires inside { IsNodeOf tree.now (Vis symbol) }
     requires conditions { AreSharedBy tree.now values.now conditions.now }
-    ensures solved { (u : UserValues) → IsUserFor tree.now u → AreSolved tree.now u values.now
+    ensures values { (u : UserValues) → IsUserFor tree.now u → AreSolved tree.now u values.now
         → IfOk result (λ v. v.items ≡ assignable_values tree.now u symbol) }
     ensures used { (u : UserValues) → IsUserFor tree.now u
         → ((n : Node) → Uses tree.now (Val symbol) n → assignment_of tree.now values.now n ≡ solution tree.now u n)
         → IfOk result (λ v. v.items ≡ assignable_values tree.now u symbol) }
+    ensures solved { (u : UserValues) → IsOnlySolution tree.now u (solution tree.now u) }
 {
     if node_tri(tree, values, Node::Vis(symbol)).is_no() {
         return Ok(Vec::new(alloc));

@@ -6,7 +6,7 @@ ghost use Rattle.kc_tree.specs.Nodes.{IsNodeOf};
 ghost use Rattle.kc_value.specs.Assignment.{assignment_of};
 ghost use Rattle.kc_value.specs.ChangedValue.{same_user_value, same_member, same_value, changed_value, ChangesAreJustEnough};
 ghost use Rattle.kc_value.specs.KnownConditions.{AreSharedBy};
-ghost use Rattle.kc_value.specs.Solution.{AreSolved};
+ghost use Rattle.kc_value.specs.Solution.{solution, AreSolved, IsOnlySolution};
 ghost use Rattle.kc_value.specs.UserValues.{UserValues};
 ghost use Rattle.kc_value.specs.Without.{value_without, IsOwned};
 
@@ -102,7 +102,8 @@ fn value_without(
 ///
 /// User values that hold just these, of all symbols and choices, give each visibility, value and selection as it is,
 /// and each mode but that of an optional choice, which is n where it selects none. None of them can be left out: user
-/// values that give the same values and selections have one for each symbol and each choice that has one here.
+/// values that give the same values and selections have one for each symbol and each choice that has one here. That the
+/// tree has one solution, and no other, for any user values holds whatever the call returns.
 ///
 /// The error comes where memory is refused.
 #[tactic(auto, using(crate::proofs::ChangedLaws::just_enough), unfolding(crate::specs::ChangedValue::changed_value))]
@@ -118,6 +119,7 @@ pub fn changed_value(
     requires conditions { AreSharedBy tree.now values.now conditions.now }
     ensures value { (u : UserValues) → AreSolved tree.now u values.now
         → IfOk result (λ v. v ≡ changed_value tree.now u node) }
+    ensures solved { (u : UserValues) → IsOnlySolution tree.now u (solution tree.now u) }
     ensures laws { (u : UserValues) → ChangesAreJustEnough tree.now u }
 {
     let value = value_at(alloc, tree, values, node)?;

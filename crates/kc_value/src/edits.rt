@@ -11,7 +11,8 @@ ghost use Rattle.kc_value.specs.ChangedValue.{same_mark};
 ghost use Rattle.kc_value.specs.Dirty.{same_given, is_changed, changed_nodes, Drops, Edits};
 ghost use Rattle.kc_value.specs.DropWalk.{DropsAll};
 ghost use Rattle.kc_value.specs.Kept.{AreKept, IsClosed, kept_count};
-ghost use Rattle.kc_value.specs.UserValues.{IsUserFor, with_value, with_chosen};
+ghost use Rattle.kc_value.specs.Solution.{solution, IsOnlySolution};
+ghost use Rattle.kc_value.specs.UserValues.{UserValues, IsUserFor, with_value, with_chosen};
 ghost use Rattle.kc_value.specs.Without.{is_optional_choice};
 
 use crate::changed::{is_same_member, is_same_user_value};
@@ -119,7 +120,7 @@ impl KeptValues {
     }
 
     /// Drops what changes where a symbol is given a user value, or none, in place of the one that it has. This takes no
-    /// memory.
+    /// memory. The tree has one solution, and no other, for the user values before and for those afterwards.
     pub fn drop_for_value(
         &mut self,
         tree: &Tree,
@@ -132,13 +133,14 @@ impl KeptValues {
         requires kept { AreKept tree.now user.now self.old.values }
         ensures kept { AreKept tree.now (with_value user.now symbol (option_copied value.entry)) self.new.values }
         ensures edits { Edits tree.now user.now (with_value user.now symbol (option_copied value.entry)) self.old self.new }
+        ensures solved { (u : UserValues) → IsOnlySolution tree.now u (solution tree.now u) }
     {
         let changes = is_value_changed(tree, symbol, user.get(symbol), value);
         self.drop_if(tree, changes, Node::Val(symbol));
     }
 
     /// Drops what changes where a member of a choice is chosen, or none, in place of the one that is chosen. This takes
-    /// no memory.
+    /// no memory. The tree has one solution, and no other, for the user values before and for those afterwards.
     pub fn drop_for_chosen(
         &mut self,
         tree: &Tree,
@@ -151,6 +153,7 @@ impl KeptValues {
         requires kept { AreKept tree.now user.now self.old.values }
         ensures kept { AreKept tree.now (with_chosen user.now choice member) self.new.values }
         ensures edits { Edits tree.now user.now (with_chosen user.now choice member) self.old self.new }
+        ensures solved { (u : UserValues) → IsOnlySolution tree.now u (solution tree.now u) }
     {
         let chosen = user.chosen(choice);
         let mode_changes = is_mode_changed(tree, choice, chosen, member);
@@ -159,11 +162,13 @@ impl KeptValues {
         self.drop_if(tree, selection_changes, Node::Sel(choice));
     }
 
-    /// Drops what changes where all user values are replaced. This takes no memory.
+    /// Drops what changes where all user values are replaced. This takes no memory. The tree has one solution, and no
+    /// other, for the user values before and for those afterwards.
     pub fn drop_for_user(&mut self, tree: &Tree, user: &User, next: &User)
         requires kept { AreKept tree.now user.now self.old.values }
         ensures kept { AreKept tree.now next.now self.new.values }
         ensures edits { Edits tree.now user.now next.now self.old self.new }
+        ensures solved { (u : UserValues) → IsOnlySolution tree.now u (solution tree.now u) }
     {
         self.dropped.clear();
         clear_marks(&mut self.walked);

@@ -3,6 +3,7 @@
 ghost use Rattle.std.specs.Prelude.{◌≡◌, map};
 ghost use Rattle.std.specs.Option.{option_copied};
 ghost use Rattle.kc_statement.specs.Grammar.{formula, all_joined, any_joined};
+ghost use Rattle.kc_tree.specs.Accepted.{IsAccepted};
 ghost use Rattle.kc_value.specs.Assignment.{as_tri, value_at, assignment_of};
 ghost use Rattle.kc_value.specs.ExprValue.{symbol_tri, modules_value, term_tri, complements, formula_value, expr_value, conditions_value, own_condition};
 
@@ -20,7 +21,8 @@ pub(crate) fn value_of<'a>(tree: &Tree, env: &'a NodeValues, node: Node) -> Opti
 
 /// The tristate value of a node in a list by number, n where it has nothing.
 pub(crate) fn node_tri(tree: &Tree, env: &NodeValues, node: Node) -> Tri
-    ensures { result ≡ as_tri (assignment_of tree.now env.now node) }
+    ensures value { result ≡ as_tri (assignment_of tree.now env.now node) }
+    ensures accepted { IsAccepted tree.now }
 {
     env.tri(tree.number(node))
 }

@@ -13,6 +13,7 @@ ghost use Rattle.kc_value.specs.Summaries.{is_present};
 ghost use Rattle.kc_value.specs.FillWalk.{ArePresent, HaveValues, AllHaveValues, IsSettled, AreMarked, IsPassed};
 ghost use Rattle.kc_value.specs.Kept.{IsKept, AreKept, Fills};
 ghost use Rattle.kc_value.specs.KnownConditions.{AreKnown};
+ghost use Rattle.kc_value.specs.Solution.{solution, IsOnlySolution};
 
 use crate::kept_values::KeptValues;
 use crate::known_conditions::FoundConditions;
@@ -213,7 +214,8 @@ impl KeptValues {
     }
 
     /// Evaluates a node and all that it is computed from, itself and through others, as far as they are not kept, each
-    /// after all that it uses, and keeps the values. A node that is kept takes nothing: no evaluation and no memory.
+    /// after all that it uses, and keeps the values. A node that is kept takes nothing: no evaluation and no memory. That
+    /// the tree has one solution, and no other, holds whatever the call returns.
     ///
     /// The error comes where memory is refused; what was evaluated before is kept and counted then.
     #[tactic(auto, using(crate::proofs::StepLemmas::none_marked))]
@@ -230,6 +232,7 @@ impl KeptValues {
         ensures fills { Fills tree.now (node ∷ []) self.old self.new }
         ensures done { OnOk result (IsKept tree.now self.new.values node) }
         ensures known { IsKept tree.now self.old.values node → IsOk result }
+        ensures solved { IsOnlySolution tree.now user.now (solution tree.now user.now) }
     {
         if !self.is_kept(tree, node) {
             let table = tree.use_table();
@@ -241,7 +244,8 @@ impl KeptValues {
     }
 
     /// Evaluates so many nodes, from one number on, and all that they are computed from, as far as they are not kept. A
-    /// list that rows share is gone over once for all of them.
+    /// list that rows share is gone over once for all of them. That the tree has one solution, and no other, holds
+    /// whatever the call returns.
     ///
     /// The error comes where memory is refused; what was evaluated before is kept and counted then.
     pub fn fill_numbers(
@@ -257,6 +261,7 @@ impl KeptValues {
         ensures kept { AreKept tree.now user.now self.new.values }
         ensures fills { Fills tree.now (map (node_at tree.now) (range_with_len first count)) self.old self.new }
         ensures done { OnOk result ((n : Node) → Contains (map (node_at tree.now) (range_with_len first count)) n → IsKept tree.now self.new.values n) }
+        ensures solved { IsOnlySolution tree.now user.now (solution tree.now user.now) }
     {
         let table = tree.use_table();
         let mut marks = no_marks(alloc, tree, table)?;

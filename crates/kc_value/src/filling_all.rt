@@ -10,6 +10,7 @@ ghost use Rattle.kc_value.specs.Counting.{raised};
 ghost use Rattle.kc_value.specs.Kept.{is_kept, IsKept, AreKept, Fills};
 ghost use Rattle.kc_value.specs.KnownConditions.{AreKnown};
 ghost use Rattle.kc_value.specs.Rule.{rule};
+ghost use Rattle.kc_value.specs.Solution.{solution, IsOnlySolution};
 
 use crate::kept_values::KeptValues;
 use crate::known_conditions::FoundConditions;
@@ -75,7 +76,8 @@ impl KeptValues {
 
     /// Evaluates all nodes, as far as they are not kept, in the tree's order: each after all that it uses. So a pass
     /// over all nodes goes over no list of what a node uses, however long these lists are together, and the conditions of
-    /// a block are evaluated once and not for each symbol inside.
+    /// a block are evaluated once and not for each symbol inside. That the tree has one solution, and no other, holds
+    /// whatever the call returns.
     ///
     /// The error comes where memory is refused; what was evaluated before is kept and counted then.
     pub fn fill_all(&mut self, alloc: Global, tree: &Tree, user: &User) -> Result<(), AllocError>
@@ -83,9 +85,11 @@ impl KeptValues {
         ensures kept { AreKept tree.now user.now self.new.values }
         ensures fills { Fills tree.now (all_nodes tree.now) self.old self.new }
         ensures done { OnOk result ((n : Node) → IsNodeOf tree.now n → IsKept tree.now self.new.values n) }
+        ensures solved { IsOnlySolution tree.now user.now (solution tree.now user.now) }
     {
+        let order = tree.order();
         let mut found = FoundConditions::none(alloc, tree)?;
-        for node in tree.order() {
+        for node in order {
             self.fill_next(alloc, tree, user, &mut found, *node)?;
         }
         Ok(())

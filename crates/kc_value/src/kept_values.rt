@@ -1,6 +1,7 @@
 //! The values of nodes that are kept from one question to the next, and the count of evaluations.
 
 ghost use Rattle.std.specs.Prelude.{◌≡◌, ◌↔◌, [], ◌∷◌, Some, None, IfOk, OnOk, OnErr, IsOk, is_some, true, length, slice_index_or, slice_set, replicate};
+ghost use Rattle.kc_tree.specs.Accepted.{IsAccepted};
 ghost use Rattle.kc_tree.specs.Nodes.{IsNodeOf, node_count, number_of};
 ghost use Rattle.kc_value.specs.Assignment.{assignment_of, value_at};
 ghost use Rattle.kc_value.specs.Counting.{raised};
@@ -83,7 +84,8 @@ impl KeptValues {
 
     /// Whether the value of a node is kept.
     pub fn is_kept(&self, tree: &Tree, node: Node) -> bool
-        ensures { result ≡ is_kept tree.now self.now.values node }
+        ensures kept { result ≡ is_kept tree.now self.now.values node }
+        ensures accepted { IsAccepted tree.now }
     {
         self.values.has(tree.number(node))
     }

@@ -7,6 +7,7 @@ ghost use Rattle.kc_tree.specs.Nodes.{IsNodeOf};
 ghost use Rattle.kc_value.specs.Assignment.{assignment_of};
 ghost use Rattle.kc_value.specs.KnownConditions.{AreRight};
 ghost use Rattle.kc_value.specs.Rule.{rule};
+ghost use Rattle.kc_value.specs.Solution.{solution, IsOnlySolution};
 ghost use Rattle.kc_value.specs.UserValues.{UserValues};
 ghost use Rattle.kc_value.specs.Without.{user_without, value_without, selects_none, IsOwned};
 
@@ -70,7 +71,8 @@ pub(crate) fn selection_alone(tree: &Tree, choice: ChoiceId, env: &NodeValues) -
 
 /// The value that a symbol's value or a choice's selection would have without the user's own value for the symbol, or
 /// without a chosen member, all else as it is; an optional choice without a chosen member selects none. The resolver is
-/// asked for the node alone, and keeps tree and user values.
+/// asked for the node alone, and keeps tree and user values. That the tree has one solution, and no other, holds whatever
+/// the call returns.
 ///
 /// The error comes where memory is refused.
 pub fn without_user<R: Resolver>(
@@ -82,6 +84,8 @@ pub fn without_user<R: Resolver>(
     requires owned { IsOwned node }
     ensures value { IfOk result
         (λ v. v ≡ value_without (R.tree_of resolver.old) (R.user_of resolver.old) node) }
+    ensures solved { IsOnlySolution (R.tree_of resolver.old) (R.user_of resolver.old)
+        (solution (R.tree_of resolver.old) (R.user_of resolver.old)) }
     ensures accepted { IsAccepted (R.tree_of resolver.old) }
     ensures tree { R.tree_of resolver.new ≡ R.tree_of resolver.old }
     ensures user { R.user_of resolver.new ≡ R.user_of resolver.old }

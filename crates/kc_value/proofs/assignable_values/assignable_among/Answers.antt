@@ -10,36 +10,37 @@ use Rattle.kc_value.specs.Assignable.{is_shown_with_some, assignable_values}
 use Rattle.kc_value.specs.Solution.{solution}
 use Rattle.kc_value.proofs.AssignableLemmas.{solved_values, used_values, member_values, no_values}
 use Rattle.kc_value.proofs.KeptReading.{visibility_used}
+use Rattle.kc_value.proofs.SolutionLaws.{one_solution}
 use Rattle.kc_value.proofs.assignable_values.assignable_among.Goals as goal
 
-pub returns-then-is_no-clause-solved : goal.returns-then-is_no-clause-solved
+pub returns-then-is_no-clause-values : goal.returns-then-is_no-clause-values
 unfolding assignable_values
-returns-then-is_no-clause-solved c u sized solved =
+returns-then-is_no-clause-values c u sized solved =
     let t = c.args.tree.now in
     let s = c.args.symbol in
     let seen : is_no (as_tri (solution t u (Vis s))) ≡ true =
-    sym (ap (λ v. is_no (as_tri v)) (solved (Vis s) c.requires.inside)) ∙ sym (ap is_no c.node_tri.ensures) ∙ sym c.is_no.ensures ∙ c.if-is_no.true
+    sym (ap (λ v. is_no (as_tri v)) (solved (Vis s) c.requires.inside)) ∙ sym (ap is_no c.node_tri.ensures.value) ∙ sym c.is_no.ensures ∙ c.if-is_no.true
     in
     no_values t u s _ c.new.ensures.items seen
 
-pub returns-then-is_member-clause-solved : goal.returns-then-is_member-clause-solved
+pub returns-then-is_member-clause-values : goal.returns-then-is_member-clause-values
 unfolding assignable_values
-returns-then-is_member-clause-solved c u sized solved =
+returns-then-is_member-clause-values c u sized solved =
     let t = c.args.tree.now in
     let s = c.args.symbol in
     let seen : is_no (as_tri (solution t u (Vis s))) ≡ false =
-    sym (ap (λ v. is_no (as_tri v)) (solved (Vis s) c.requires.inside)) ∙ sym (ap is_no c.node_tri.ensures) ∙ sym c.is_no.ensures ∙ c.if-is_no.false
+    sym (ap (λ v. is_no (as_tri v)) (solved (Vis s) c.requires.inside)) ∙ sym (ap is_no c.node_tri.ensures.value) ∙ sym c.is_no.ensures ∙ c.if-is_no.false
     in
     let member : is_some (choice_of t s) ≡ true = sym c.is_member.ensures.member ∙ c.if-is_member.true in
     IfOk-weaker c.one_value.result (λ v. v.items ≡ Yes ∷ []) (λ v. v.items ≡ assignable_values t u s) (λ v is. member_values t u s v.items is seen member) c.one_value.ensures
 
-pub returns-clause-solved : goal.returns-clause-solved
+pub returns-clause-values : goal.returns-clause-values
 unfolding assignable_values
-returns-clause-solved c u sized solved =
+returns-clause-values c u sized solved =
     let t = c.args.tree.now in
     let s = c.args.symbol in
     let seen : is_no (as_tri (solution t u (Vis s))) ≡ false =
-    sym (ap (λ v. is_no (as_tri v)) (solved (Vis s) c.requires.inside)) ∙ sym (ap is_no c.node_tri.ensures) ∙ sym c.is_no.ensures ∙ c.if-is_no.false
+    sym (ap (λ v. is_no (as_tri v)) (solved (Vis s) c.requires.inside)) ∙ sym (ap is_no c.node_tri.ensures.value) ∙ sym c.is_no.ensures ∙ c.if-is_no.false
     in
     let alone : is_some (choice_of t s) ≡ false = sym c.is_member.ensures.member ∙ c.if-is_member.false in
     IfOk-weaker c.shown_values.result
@@ -54,7 +55,7 @@ returns-then-is_no-clause-used c u sized right =
     let t = c.args.tree.now in
     let s = c.args.symbol in
     let seen : is_no (as_tri (solution t u (Vis s))) ≡ true =
-    sym (ap (λ v. is_no (as_tri v)) (right (Vis s) (visibility_used t s c.requires.inside))) ∙ sym (ap is_no c.node_tri.ensures) ∙ sym c.is_no.ensures ∙ c.if-is_no.true
+    sym (ap (λ v. is_no (as_tri v)) (right (Vis s) (visibility_used t s c.requires.inside))) ∙ sym (ap is_no c.node_tri.ensures.value) ∙ sym c.is_no.ensures ∙ c.if-is_no.true
     in
     no_values t u s _ c.new.ensures.items seen
 
@@ -64,7 +65,7 @@ returns-then-is_member-clause-used c u sized right =
     let t = c.args.tree.now in
     let s = c.args.symbol in
     let seen : is_no (as_tri (solution t u (Vis s))) ≡ false =
-    sym (ap (λ v. is_no (as_tri v)) (right (Vis s) (visibility_used t s c.requires.inside))) ∙ sym (ap is_no c.node_tri.ensures) ∙ sym c.is_no.ensures ∙ c.if-is_no.false
+    sym (ap (λ v. is_no (as_tri v)) (right (Vis s) (visibility_used t s c.requires.inside))) ∙ sym (ap is_no c.node_tri.ensures.value) ∙ sym c.is_no.ensures ∙ c.if-is_no.false
     in
     let member : is_some (choice_of t s) ≡ true = sym c.is_member.ensures.member ∙ c.if-is_member.true in
     IfOk-weaker c.one_value.result (λ v. v.items ≡ Yes ∷ []) (λ v. v.items ≡ assignable_values t u s) (λ v is. member_values t u s v.items is seen member) c.one_value.ensures
@@ -75,7 +76,7 @@ returns-clause-used c u sized right =
     let t = c.args.tree.now in
     let s = c.args.symbol in
     let seen : is_no (as_tri (solution t u (Vis s))) ≡ false =
-    sym (ap (λ v. is_no (as_tri v)) (right (Vis s) (visibility_used t s c.requires.inside))) ∙ sym (ap is_no c.node_tri.ensures) ∙ sym c.is_no.ensures ∙ c.if-is_no.false
+    sym (ap (λ v. is_no (as_tri v)) (right (Vis s) (visibility_used t s c.requires.inside))) ∙ sym (ap is_no c.node_tri.ensures.value) ∙ sym c.is_no.ensures ∙ c.if-is_no.false
     in
     let alone : is_some (choice_of t s) ≡ false = sym c.is_member.ensures.member ∙ c.if-is_member.false in
     IfOk-weaker c.shown_values.result
@@ -83,3 +84,12 @@ returns-clause-used c u sized right =
     (λ v. v.items ≡ assignable_values t u s)
     (λ v is. used_values t u s c.args.values.now v.items right is seen alone)
     (c.shown_values.ensures u sized)
+
+pub returns-then-is_no-clause-solved : goal.returns-then-is_no-clause-solved
+returns-then-is_no-clause-solved c = λ u. one_solution c.args.tree.now u c.node_tri.ensures.accepted
+
+pub returns-then-is_member-clause-solved : goal.returns-then-is_member-clause-solved
+returns-then-is_member-clause-solved c = λ u. one_solution c.args.tree.now u c.node_tri.ensures.accepted
+
+pub returns-clause-solved : goal.returns-clause-solved
+returns-clause-solved c = λ u. one_solution c.args.tree.now u c.node_tri.ensures.accepted

@@ -24,7 +24,7 @@ returns c = λ u sized.
     let lines = c.line_values-lines in
     let with : (value shown : Tri) → shown ≡ in_type lines.result.has_modules (greatest (unwrap_or (user_part vis (Some (TriVal value))) (least (greatest lines.result.default lines.result.implied) lines.result.direct)) lines.result.selected)
     → shown ≡ as_tri (tri_rule t a c.in-Some.symbol.now (as_tri (a (Vis c.args.id))) (Some (TriVal value))) =
-    λ value shown is. subst (λ v. shown ≡ as_tri (tri_rule t a c.in-Some.symbol.now v (Some (TriVal value)))) c.node_tri-visibility.ensures
+    λ value shown is. subst (λ v. shown ≡ as_tri (tri_rule t a c.in-Some.symbol.now v (Some (TriVal value)))) c.node_tri-visibility.ensures.value
     (shown_by_lines t a c.in-Some.symbol.now lines.result vis value shown lines.ensures.default lines.ensures.implied lines.ensures.selected lines.ensures.direct lines.ensures.modules is)
     in
     collected t u (assignment_of t c.args.env.now) c.args.id sized c.in-Some.symbol.now c.requires.inside found c.requires.alone

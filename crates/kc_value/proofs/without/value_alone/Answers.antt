@@ -22,7 +22,7 @@ returns-in-Some c = λ u.
     ∙ slice_get-get_or c.symbols.result.now s.0 x place
     ∙ ap Some (sym c.in-Some.ensures.lookup.1)
     in
-    let last = ap (λ v. symbol_rule t a s x v None) c.node_tri-visibility.ensures ∙ without_found t u a s x found in
+    let last = ap (λ v. symbol_rule t a s x v None) c.node_tri-visibility.ensures.value ∙ without_found t u a s x found in
     IfOk-weaker c.symbol_value.result (λ v. v ≡ symbol_rule t a s x c.node_tri-visibility.result None) (λ v. v ≡ rule t (with_value u s None) a (Val s))
     (λ v is. is ∙ last) c.symbol_value.ensures
 

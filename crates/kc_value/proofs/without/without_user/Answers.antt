@@ -6,6 +6,8 @@ use Rattle.kc_value.specs.Assignment.{assignment_of}
 use Rattle.kc_value.specs.Rule.{rule}
 use Rattle.kc_value.specs.Without.{user_without, selects_none, value_without}
 use Rattle.kc_value.proofs.WithoutLemmas.{without_member, without_solution}
+use Rattle.kc_tree.specs.Accepted.{IsAccepted}
+use Rattle.kc_value.proofs.SolutionLaws.{one_solution}
 use Rattle.kc_value.proofs.without.without_user.Goals as goal
 
 pub returns-then-selects_none-clause-value : goal.returns-then-selects_none-clause-value
@@ -42,3 +44,15 @@ returns-in-Sel-clause-value g c =
     let is = c.selection_alone.ensures u in
     without_solution t _ now u _ n lent lent c.selection_alone.result refl refl tree refl some c.in_ok-env.ensures.values
     (subst (λ (m : Node). c.selection_alone.result ≡ rule now (user_without u m) (assignment_of now lent) m) (sym c.in-Sel.is) is)
+
+pub returns-then-selects_none-clause-solved : goal.returns-then-selects_none-clause-solved
+returns-then-selects_none-clause-solved g c = one_solution (g.R.Resolver.tree_of c.args.resolver.now) (g.R.Resolver.user_of c.args.resolver.now) (subst IsAccepted c.tree.ensures c.selects_none.ensures.accepted)
+
+pub returns-in_err-env-clause-solved : goal.returns-in_err-env-clause-solved
+returns-in_err-env-clause-solved g c = one_solution (g.R.Resolver.tree_of c.args.resolver.now) (g.R.Resolver.user_of c.args.resolver.now) (subst IsAccepted c.tree.ensures c.selects_none.ensures.accepted)
+
+pub returns-in-Val-clause-solved : goal.returns-in-Val-clause-solved
+returns-in-Val-clause-solved g c = one_solution (g.R.Resolver.tree_of c.args.resolver.now) (g.R.Resolver.user_of c.args.resolver.now) (subst IsAccepted c.tree.ensures c.selects_none.ensures.accepted)
+
+pub returns-in-Sel-clause-solved : goal.returns-in-Sel-clause-solved
+returns-in-Sel-clause-solved g c = one_solution (g.R.Resolver.tree_of c.args.resolver.now) (g.R.Resolver.user_of c.args.resolver.now) (subst IsAccepted c.tree.ensures c.selects_none.ensures.accepted)

@@ -4,6 +4,7 @@ use Rattle.kc_value.specs.UserValues.{with_chosen}
 use Rattle.kc_value.specs.Without.{is_optional_choice}
 use Rattle.kc_value.proofs.DirtyLaws.{kept_after}
 use Rattle.kc_value.proofs.EditLemmas.{chosen_edits}
+use Rattle.kc_value.proofs.SolutionLaws.{one_solution}
 use Rattle.kc_value.proofs.kept_values.KeptValues.drop_for_chosen.Goals as goal
 
 pub returns-clause-edits : goal.returns-clause-edits
@@ -24,3 +25,6 @@ returns-clause-kept c =
     let u = c.args.user.now in
     let w = with_chosen u c.args.choice c.args.member in
     kept_after t u w c.is_mode_changed-mode_changes.ensures.accepted c.args.self.now c.drop_if-2.new.self c.requires.kept (returns-clause-edits c) c.drop_if-2.ensures.closed
+
+pub returns-clause-solved : goal.returns-clause-solved
+returns-clause-solved c = λ u. one_solution c.args.tree.now u c.is_mode_changed-mode_changes.ensures.accepted

@@ -8,6 +8,7 @@ use Rattle.kc_value.proofs.DirtyLaws.{kept_after}
 use Rattle.kc_value.proofs.DropSteps.{drops_begun, listed_inside, walk_begun}
 use Rattle.kc_value.proofs.EditLemmas.{changed_edits, changed_inside}
 use Rattle.kc_value.proofs.KeptCounts.{kept_count-within}
+use Rattle.kc_value.proofs.SolutionLaws.{one_solution}
 use Rattle.kc_value.proofs.kept_values.KeptValues.drop_for_user.Goals as goal
 
 pub drop_changed-requires-clause-room : goal.drop_changed-requires-clause-room
@@ -62,3 +63,6 @@ pub returns-clause-kept : goal.returns-clause-kept
 returns-clause-kept c =
     kept_after c.args.tree.now c.args.user.now c.args.next.now c.drop_changed.ensures.accepted c.args.self.now (record { values = c.walk.new.values; evals = c.self.inside.meter })
     c.requires.kept (returns-clause-edits c) (walked c).0
+
+pub returns-clause-solved : goal.returns-clause-solved
+returns-clause-solved c = λ u. one_solution c.args.tree.now u c.drop_changed.ensures.accepted

@@ -5,6 +5,7 @@ use Rattle.kc_value.specs.Dirty.{same_given}
 use Rattle.kc_value.specs.UserValues.{with_value}
 use Rattle.kc_value.proofs.DirtyLaws.{kept_after}
 use Rattle.kc_value.proofs.EditLemmas.{value_edits}
+use Rattle.kc_value.proofs.SolutionLaws.{one_solution}
 use Rattle.kc_value.proofs.kept_values.KeptValues.drop_for_value.Goals as goal
 
 pub returns-clause-edits : goal.returns-clause-edits
@@ -23,3 +24,6 @@ returns-clause-kept c =
     let u = c.args.user.now in
     let w = with_value u c.args.symbol (option_copied c.args.value) in
     kept_after t u w c.is_value_changed-changes.ensures.accepted c.args.self.now c.drop_if.new.self c.requires.kept (returns-clause-edits c) c.drop_if.ensures.closed
+
+pub returns-clause-solved : goal.returns-clause-solved
+returns-clause-solved c = λ u. one_solution c.args.tree.now u c.is_value_changed-changes.ensures.accepted

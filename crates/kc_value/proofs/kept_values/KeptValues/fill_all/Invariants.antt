@@ -9,5 +9,5 @@ invariant-loop-node l = record {
   kept : AreKept l.tree l.user l.self.values;
   fills : Fills l.tree (all_nodes l.tree) l.fn.self l.self;
   known : AreKnown l.tree l.self.values l.found.depends.items l.found.visible.items l.found.own.items;
-  done : AreDone l.tree l.node-items l.node-index l.self.values;
+  done : AreDone l.tree l.order l.node-index l.self.values;
 }

@@ -22,5 +22,5 @@ returns-clause-fills c =
     let old = c.args.self.now in
     let n = c.args.node in
     one_more_filled t (n ∷ []) old old c.evaluate_next.new.self n (rule t c.args.user.now (assignment_of t old.values) n) c.requires.inside c.requires.kept.closed.whole
-    (n, (0, omega arith, refl), here) (sym c.is_kept.ensures ∙ c.if-is_kept.false) (nothing_added t (n ∷ []) old)
+    (n, (0, omega arith, refl), here) (sym c.is_kept.ensures.kept ∙ c.if-is_kept.false) (nothing_added t (n ∷ []) old)
     c.in_ok-evaluate_next.ensures.value c.in_ok-evaluate_next.ensures.counted

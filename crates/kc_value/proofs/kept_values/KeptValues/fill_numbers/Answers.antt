@@ -3,6 +3,7 @@ use Rattle.kc_tree.specs.declared.node.Node.{Node}
 use Rattle.kc_tree.specs.Nodes.{node_at}
 use Rattle.kc_value.specs.Kept.{Fills, IsKept}
 use Rattle.kc_value.proofs.NumberedSteps.{number_done, number_filled, numbers_done}
+use Rattle.kc_value.proofs.SolutionLaws.{one_solution}
 use Rattle.kc_value.proofs.kept_values.KeptValues.fill_numbers.Goals as goal
 
 pub returns-in_err-fill_over-clause-fills : goal.returns-in_err-fill_over-clause-fills
@@ -37,3 +38,15 @@ loop-number-preserved c =
 pub returns-clause-done : goal.returns-clause-done
 returns-clause-done c =
     numbers_done c.args.tree.now c.args.first c.args.count c.requires.inside c.loop-number.number c.loop-number.self.values c.loop-number-test.false c.loop-number.invariant.done
+
+pub returns-in_err-marks-clause-solved : goal.returns-in_err-marks-clause-solved
+returns-in_err-marks-clause-solved c = one_solution c.args.tree.now c.args.user.now c.use_table-table.ensures.accepted
+
+pub returns-in_err-found-clause-solved : goal.returns-in_err-found-clause-solved
+returns-in_err-found-clause-solved c = one_solution c.args.tree.now c.args.user.now c.use_table-table.ensures.accepted
+
+pub returns-in_err-fill_over-clause-solved : goal.returns-in_err-fill_over-clause-solved
+returns-in_err-fill_over-clause-solved c = one_solution c.args.tree.now c.args.user.now c.use_table-table.ensures.accepted
+
+pub returns-clause-solved : goal.returns-clause-solved
+returns-clause-solved c = one_solution c.args.tree.now c.args.user.now c.use_table-table.ensures.accepted
