@@ -15,13 +15,14 @@ use Rattle.kc_tree.specs.Accepted.{IsAccepted}
 use Rattle.kc_tree.specs.Fits.{fits}
 use Rattle.kc_tree.specs.Nodes.{IsNodeOf}
 use Rattle.kc_outline.specs.Grouped.{IsGrouped}
-use Rattle.kc_outline.specs.TreeValue.{TreeValue, SymbolValue, ChoiceValue}
+use Rattle.kc_outline.specs.TreeValue.{TreeValue, SymbolValue, ChoiceValue, choice_of}
 use Rattle.kc_statement.specs.Tristate.{is_no}
 use Rattle.kc_tree.specs.Uses.{mode_nodes, visibility_node, choice_default_nodes}
 use Rattle.kc_value.specs.declared.value.Value.{Value}
 use Rattle.kc_value.specs.declared.value.Value.TheVariants.{Tri as Level, Member}
 use Rattle.kc_value.specs.Assignment.{Assignment, as_tri, as_member}
 use Rattle.kc_value.specs.ChangedValue.{same_value, changed_value, HoldsValue, HoldsMember, HoldsChanges, is_mode, SameOwned, ChangesAreJustEnough}
+use Rattle.kc_value.specs.Dirty.{is_changed, same_given}
 use Rattle.kc_value.specs.UserValues.{UserValues, IsUserFor, user_value, chosen_in}
 use Rattle.kc_value.specs.ExprValue.{yes_if}
 use Rattle.kc_value.specs.Conditions.{choice_prompt_value}
@@ -30,7 +31,7 @@ use Rattle.kc_value.specs.Rule.{rule, visibility, symbol_rule}
 use Rattle.kc_value.specs.Solution.{applied, solution}
 use Rattle.kc_value.specs.Without.{user_without, is_optional_choice, value_without}
 use Rattle.kc_value.specs.Replay.{shown_in}
-use Rattle.kc_value.proofs.Agreement.{Agree, of_selection_agrees}
+use Rattle.kc_value.proofs.Agreement.{Agree, of_selection_agrees, rule_user}
 use Rattle.kc_value.proofs.ModeLaws.{IsNoMode, members_hold, defaults_hold, mode_past_modes, value_past_modes}
 use Rattle.kc_value.proofs.ReadNodes.{append_holds, agree_where}
 use Rattle.kc_value.proofs.EnoughLaws.{moved, moved_solves, selects_nothing}
@@ -320,9 +321,20 @@ module _ (t : TreeValue) (u : UserValues) (accepted : IsAccepted t) (s : SymId) 
   changed_text : (text : List ℕ) → option_and_then shown_in (changed_value t u (Val s)) ≡ Some (Text text) → user_value u s ≡ Some (Text text)
   changed_text text is = changed_by_rule (λ w. user_value u s ≡ Some w) (Text text) (rule_text t u (solution t u) s (slice_get t.symbols s.0) text) is
 
+-- no value of a member of a choice is changed, since its rule reads no user value
+member_unchanged : (t : TreeValue) (u : UserValues) → IsAccepted t → (s : SymId) → IsNodeOf t (Val s) → (c : ChoiceId) → choice_of t s ≡ Some c
+    → changed_value t u (Val s) ≡ None
+unfolding value_without
+member_unchanged t u accepted s node c e =
+    let w : UserValues = user_without u (Val s) in
+    let same : is_changed t u w (Val s) ≡ false = ap (λ o. not (is_some o) && not (same_given (user_value u s) (user_value w s))) e in
+    unchanged t u (Val s) ((one_solution t u accepted).solves (Val s) node ∙ rule_user t u w (solution t u) (Val s) same)
+
 -- what was changed is just enough
 pub just_enough : (t : TreeValue) (u : UserValues) → IsAccepted t → ChangesAreJustEnough t u
 just_enough t u accepted = let grouped = accepted.grouped in record {
+  solved = λ w. one_solution t w accepted;
+  members_not = member_unchanged t u accepted;
   fitting = λ user s node v is. changed_fits t u accepted s node user v is;
   texts = λ s node text is. changed_text t u accepted s node text is;
   enough = λ w held. changes_suffice t u w accepted grouped held;

@@ -3,7 +3,7 @@ use Rattle.std.specs.Prelude.{◌≡◌, ℕ, List, Bool, true, false, not, ◌&
 use Rattle.std.specs.Str.{bytes_eq}
 use Rattle.kc_statement.specs.declared.id.SymId.{SymId}
 use Rattle.kc_outline.specs.declared.id.ChoiceId.{ChoiceId}
-use Rattle.kc_outline.specs.TreeValue.{TreeValue}
+use Rattle.kc_outline.specs.TreeValue.{TreeValue, choice_of}
 use Rattle.kc_tree.specs.declared.user_value.UserVal.{UserVal}
 use Rattle.kc_tree.specs.declared.user_value.UserVal.TheVariants.{Tri as TriVal, Text}
 use Rattle.kc_tree.specs.declared.node.Node.{Node}
@@ -15,7 +15,7 @@ use Rattle.kc_value.specs.declared.value.Value.TheVariants.{Tri as Level, Shown,
 use Rattle.kc_value.specs.Assignable.{same_tri}
 use Rattle.kc_value.specs.Assignment.{as_member}
 use Rattle.kc_value.specs.Replay.{shown_in}
-use Rattle.kc_value.specs.Solution.{solution}
+use Rattle.kc_value.specs.Solution.{solution, IsOnlySolution}
 use Rattle.kc_value.specs.UserValues.{UserValues, IsUserFor, user_value, chosen_in}
 use Rattle.kc_value.specs.Without.{IsOwned, is_optional_choice, value_without}
 
@@ -78,6 +78,10 @@ SameOwned t u w = (n : Node) → IsNodeOf t n → IsOwned n → solution t w n �
 
 -- ---- what was changed is just enough for the solution
 pub record ChangesAreJustEnough (t : TreeValue) (u : UserValues) : Type 0 where
+  -- the tree has one solution, and no other, for any user values
+  pub solved : (w : UserValues) → IsOnlySolution t w (solution t w)
+  -- no value of a member of a choice is changed: the selection of its choice is
+  pub members_not : (s : SymId) → IsNodeOf t (Val s) → (c : ChoiceId) → choice_of t s ≡ Some c → changed_value t u (Val s) ≡ None
   -- a changed value is one that its symbol takes
   pub fitting : IsUserFor t u → (s : SymId) → IsNodeOf t (Val s) → (v : UserVal)
       → option_and_then shown_in (changed_value t u (Val s)) ≡ Some v → fits t s v ≡ true
