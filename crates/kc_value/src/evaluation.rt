@@ -1,17 +1,20 @@
-ghost use Rattle.std.specs.Prelude.{◌≡◌, IfOk, None, if◌then◌else◌, is_ok};
+ghost use Rattle.std.specs.Prelude.{◌≡◌, false, IfOk, None, if◌then◌else◌, is_ok};
 ghost use Rattle.std.specs.Option.{option_copied};
 ghost use Rattle.kc_statement.specs.Tristate.{is_no};
+ghost use Rattle.kc_tree.specs.declared.node.Node.{Node};
 ghost use Rattle.kc_tree.specs.declared.node.Node.TheVariants.{Vis, Val, Mode, Sel};
-ghost use Rattle.kc_value.specs.Assignment.{assignment_of};
+ghost use Rattle.kc_tree.specs.Uses.{Uses};
+ghost use Rattle.kc_value.specs.Assignment.{Assignment, assignment_of};
 ghost use Rattle.kc_value.specs.Counting.{raised};
+ghost use Rattle.kc_value.specs.Dirty.{is_changed};
 ghost use Rattle.kc_value.specs.KnownConditions.{AreRight};
 ghost use Rattle.kc_value.specs.Rule.{rule};
-ghost use Rattle.kc_value.specs.UserValues.{user_value};
+ghost use Rattle.kc_value.specs.UserValues.{UserValues, user_value};
 
 use crate::choice_value::{mode_value, selection_value};
 use crate::expr_value::node_tri;
+use crate::kept_values::Meter;
 use crate::known_conditions::KnownConditions;
-use crate::meter::Meter;
 use crate::node_values::NodeValues;
 use crate::symbol_value::{symbol_value, symbol_visibility};
 use crate::user::User;
@@ -130,7 +133,11 @@ fn apply_rule(
 /// attributes") over the values of the nodes that it uses, which stand in `env` by number. A node whose
 /// place in `env` is empty or missing counts as n.
 ///
+/// A rule looks only at the nodes that its node uses: where two assignments give these the same values, it gives the node
+/// the same. And it looks only at the user values that change its node: for others it gives the same.
+///
 /// The error comes where memory is refused for a text; the meter stays then.
+#[tactic(auto, using(crate::proofs::Agreement::rule_agrees, crate::proofs::Agreement::rule_user))]
 pub fn eval(
     alloc: Global,
     tree: &Tree,
@@ -141,6 +148,10 @@ pub fn eval(
 ) -> Result<Value, AllocError>
     ensures value { IfOk result (λ v. v ≡ rule tree.now user.now (assignment_of tree.now env.now) node) }
     ensures counted { meter.new ≡ (if is_ok result then raised meter.old 1 else meter.old) }
+    ensures agrees { (a b : Assignment) → ((m : Node) → Uses tree.now node m → a m ≡ b m)
+        → rule tree.now user.now a node ≡ rule tree.now user.now b node }
+    ensures user_enters { (w : UserValues) (a : Assignment) → is_changed tree.now user.now w node ≡ false
+        → rule tree.now user.now a node ≡ rule tree.now w a node }
 {
     let known = KnownConditions::none();
     eval_over(alloc, tree, user, known, env, node, meter)

@@ -1,4 +1,5 @@
-//! The values of nodes that are kept from one question to the next, and the count of evaluations.
+//! The values of nodes that are kept from one question to the next, and the count of evaluations. A meter is made here,
+//! with kept values, and nowhere else: so what is evaluated over them is counted by theirs.
 
 ghost use Rattle.std.specs.Prelude.{◌≡◌, ◌↔◌, [], ◌∷◌, Some, None, IfOk, OnOk, OnErr, IsOk, is_some, true, length, slice_index_or, slice_set, replicate};
 ghost use Rattle.kc_tree.specs.Accepted.{IsAccepted};
@@ -15,13 +16,49 @@ ghost use Rattle.kc_value.specs.UserValues.{UserValues};
 use crate::evaluation::eval_over;
 use crate::known_conditions::KnownConditions;
 use crate::marks::no_marks;
-use crate::meter::Meter;
 use crate::node_values::NodeValues;
 use crate::user::User;
 use crate::value::Value;
 use kc_tree::{Node, Tree};
 use std::alloc::{AllocError, Global};
 use std::marker::Model;
+
+/// A count of evaluations. Contracts see the number.
+#[derive(Debug, Drop)]
+pub struct Meter {
+    count: u64,
+}
+
+impl Model for Meter {
+    ghost use Rattle.std.specs.Prelude.{ℕ};
+
+    ghost Value = { ℕ };
+
+    ghost view = { λ m. m.count };
+}
+
+impl Meter {
+    /// A meter at 0.
+    fn new() -> Meter
+        ensures { result ≡ 0 }
+    {
+        Meter { count: 0 }
+    }
+
+    /// How many evaluations were counted.
+    pub fn count(&self) -> u64
+        ensures { result ≡ self.now }
+    {
+        self.count
+    }
+
+    /// One more evaluation; at 2^64 - 1 the count stays.
+    pub(crate) fn raise(&mut self)
+        ensures { self.new ≡ raised self.old 1 }
+    {
+        self.count = self.count.saturating_add(1);
+    }
+}
 
 /// The values that are kept of a tree's nodes, and how many evaluations there were. Contracts see a value or none for
 /// each node, by number, and the count.
@@ -80,6 +117,15 @@ impl KeptValues {
         ensures { result.now ≡ self.now.values }
     {
         &self.values
+    }
+
+    /// The values by number, with nothing for a node that is not kept, and the meter: with these, who asks can evaluate
+    /// nodes one at a time, by [`eval`](crate::eval).
+    pub fn into_parts(self) -> (NodeValues, Meter)
+        ensures values { result.0 ≡ self.values }
+        ensures evals { result.1 ≡ self.evals }
+    {
+        (self.values, self.meter)
     }
 
     /// Whether the value of a node is kept.
