@@ -19,7 +19,8 @@ use Rattle.kc_files.specs.ConfigLines.{is_feed, trimmed}
 use Rattle.kc_files.specs.LineForm.{is_word}
 use Rattle.kc_files.specs.LineReading.{HasReading}
 use Rattle.kc_files.specs.Quoting.{escaped}
-use Rattle.kc_files.specs.WrittenAssigns.{assign_line, has_feed, IsWritable}
+use Rattle.kc_files.specs.LineReading.{has_feed}
+use Rattle.kc_files.specs.WrittenAssigns.{assign_line, IsWritable}
 use Rattle.kc_files.proofs.LineEnds.{unfed_both, word_unfed, escaped_unfed, EndsWhole, ends_after, whole_of, int_whole, hex_numeral_whole}
 use Rattle.kc_files.proofs.LineFormLaws.{IsNamed, word_bytes}
 use Rattle.kc_files.proofs.SymbolNames.{named_back, name_formed}

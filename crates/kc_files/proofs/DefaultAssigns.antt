@@ -26,7 +26,8 @@ use Rattle.kc_files.specs.declared.assign.Assign.{Assign}
 use Rattle.kc_files.specs.ConfigText.{type_of, symbol_line}
 use Rattle.kc_files.specs.DefaultLoading.{default_assigns, HasNoFeeds}
 use Rattle.kc_files.specs.DefaultText.{is_changed_member, default_value, default_line, default_entry, default_text_of}
-use Rattle.kc_files.specs.WrittenAssigns.{assign_line, assigns_text, has_feed, IsWritable, AreApart}
+use Rattle.kc_files.specs.LineReading.{has_feed}
+use Rattle.kc_files.specs.WrittenAssigns.{assign_line, assigns_text, IsWritable, AreApart}
 use Rattle.kc_files.proofs.AssignLists.{given, each_given, given_apart}
 
 -- ---- the text

@@ -18,11 +18,14 @@ pub mod LineTexts
 pub mod LoadingLaws
 pub mod MarkLaws
 pub mod MenuPieces
+pub mod OneReadingLaws
 pub mod PassLaws
 pub mod ReadingExamples
 pub mod ReadingLaws
 pub mod SelectedMember
 pub mod SymbolNames
+pub mod UnfedLoading
+pub mod UnfedReading
 pub mod UnquotedSteps
 pub mod Utf8
 pub mod ValueLaws

@@ -15,6 +15,7 @@ pub mod ReadingSteps
 pub mod TextSteps
 pub mod LineReading
 pub mod ConfigReading
+pub mod OneReading
 pub mod Loading
 pub mod LineSteps
 pub mod LoadingSteps

@@ -1,10 +1,12 @@
 -- What a line of a `.config` gives a tree: this project's own.
-use Rattle.std.specs.Prelude.{◌≡◌, ◌⊎◌, ◌<◌, ℕ, true, List, length, Some, None}
+use Rattle.std.specs.Prelude.{◌≡◌, ◌⊎◌, ◌<◌, ℕ, Bool, true, false, List, length, Some, None}
+use Rattle.std.specs.List.{list_any}
 use Rattle.kc_statement.specs.declared.id.SymId.{SymId}
 use Rattle.kc_statement.specs.declared.symbol_type.SymbolType.{SymbolType}
 use Rattle.kc_statement.specs.declared.symbol_type.SymbolType.TheVariants as kind
 use Rattle.kc_outline.specs.TreeValue.{TreeValue, symbol_named}
 use Rattle.kc_tree.specs.declared.user_value.UserVal.{UserVal}
+use Rattle.kc_tree.specs.declared.user_value.UserVal.TheVariants.{Tri, Text}
 use Rattle.kc_tree.specs.Fits.{fits_type}
 use Rattle.kc_files.specs.declared.assign.Assign.{Assign}
 use Rattle.kc_files.specs.declared.warning.WarningKind.{WarningKind}
@@ -14,7 +16,7 @@ use Rattle.kc_files.specs.declared.line_form.LineForm.TheVariants as form
 use Rattle.kc_files.specs.declared.line_reading.Reading.{Reading}
 use Rattle.kc_files.specs.declared.line_reading.Reading.TheVariants as reading
 use Rattle.kc_files.specs.ConfigText.{type_of}
-use Rattle.kc_files.specs.ConfigLines.{trimmed}
+use Rattle.kc_files.specs.ConfigLines.{is_feed, trimmed}
 use Rattle.kc_files.specs.LineForm.{HasForm}
 use Rattle.kc_files.specs.ValueForm.{Gives, GivesNo}
 
@@ -29,6 +31,15 @@ warning_number warning.Repeated = 5
 -- an assignment for a tree: to a symbol of it, with a value of the symbol's type
 abbrev pub IsAssignFor : TreeValue → Assign → Type 0
 IsAssignFor t a = (a.symbol.0 < length t.symbols) × (fits_type (type_of t a.symbol) a.value ≡ true)
+
+-- a value with a line feed, which would end its line
+abbrev pub has_feed : UserVal → Bool
+has_feed (Tri v) = false
+has_feed (Text w) = list_any is_feed w
+
+-- the value of an assignment, if it is a text, has no line feed
+abbrev pub IsUnfed : Assign → Type 0
+IsUnfed a = has_feed a.value ≡ false
 
 -- the warning of a value that is none of a type
 abbrev pub bad_value : SymbolType → WarningKind

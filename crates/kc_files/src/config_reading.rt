@@ -2,7 +2,8 @@
 
 ghost use Rattle.std.specs.Prelude.{◌≡◌, ◌≤◌, ◌<◌, ◌↔◌, ℕ, List, [], All, Err, IfOk, OnOk, length};
 ghost use Rattle.kc_files.specs.ConfigReading.{IsConfigReading};
-ghost use Rattle.kc_files.specs.LineReading.{IsAssignFor};
+ghost use Rattle.kc_files.specs.LineReading.{IsAssignFor, IsUnfed};
+ghost use Rattle.kc_files.specs.OneReading.{assigns_in, warnings_in};
 ghost use Rattle.kc_files.specs.LineSteps.{empty_pass, with_warning, with_repeat, with_assign, with_reading, readings_in, IsInside, IsPass};
 
 use crate::assign::Assign;
@@ -130,7 +131,7 @@ fn pass_over(alloc: Global, tree: &Tree, prefix: &str, bytes: &[u8]) -> Result<P
 
 /// Reads a `.config`: the assignments that count, in the order of their lines, and the warnings, in the order of theirs
 /// (docs/FILES.md). A line that gives a symbol of the tree a value of its type is usable, and of a symbol's usable lines
-/// the last counts; members of choices are symbols like others here.
+/// the last counts; members of choices are symbols like others here. No value that is read has a line feed.
 ///
 /// # Errors
 ///
@@ -143,7 +144,10 @@ pub fn read_config(
     bytes: &[u8],
 ) -> Result<(Vec<Assign>, Vec<Warning>), ReadFault>
     ensures reading { IfOk result (λ r. IsConfigReading tree.now prefix.now bytes.now r.0.items r.1.items) }
+    ensures read { IfOk result (λ r. (r.0.items ≡ assigns_in tree.now prefix.now bytes.now)
+        × (r.1.items ≡ warnings_in tree.now prefix.now bytes.now)) }
     ensures fitting { IfOk result (λ r. All (IsAssignFor tree.now) r.0.items) }
+    ensures unfed { IfOk result (λ r. All IsUnfed r.0.items) }
     ensures only { IfOk result (λ r. (assigns : List Assign) (warnings : List Warning)
         → IsConfigReading tree.now prefix.now bytes.now assigns warnings
         → (assigns ≡ r.0.items) × (warnings ≡ r.1.items)) }

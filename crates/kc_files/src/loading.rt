@@ -3,7 +3,8 @@
 ghost use Rattle.std.specs.Prelude.{◌≡◌, All};
 ghost use Rattle.kc_outline.specs.TreeValue.{TreeValue};
 ghost use Rattle.kc_value.specs.UserValues.{IsUserFor, with_chosen};
-ghost use Rattle.kc_files.specs.LineReading.{IsAssignFor};
+ghost use Rattle.kc_files.specs.DefaultLoading.{HasNoFeeds};
+ghost use Rattle.kc_files.specs.LineReading.{IsAssignFor, IsUnfed};
 ghost use Rattle.kc_files.specs.Loading.{is_yes, user_after};
 ghost use Rattle.kc_files.specs.LoadingSteps.{with_loaded, left_by};
 
@@ -71,12 +72,13 @@ fn begin(user: &mut User, load: Load)
 
 /// Makes assignments the user values of a tree, in their order, which takes no memory: a symbol has the value of the last
 /// one to it, and a choice the member that the last one sets to y among its members. A member that is set to n leaves its
-/// choice as it is.
+/// choice as it is. Where no text of the user has a line feed, none has one after assignments without.
 pub fn apply(tree: &Tree, user: &mut User, assigns: Vec<Assign>, load: Load)
     requires user { IsUserFor tree.now user.old }
     requires assigns { All (IsAssignFor tree.now) assigns.items }
     ensures values { user.new ≡ user_after tree.now user.old load assigns.items }
     ensures user { IsUserFor tree.now user.new }
+    ensures unfed { HasNoFeeds user.old → All IsUnfed assigns.items → HasNoFeeds user.new }
 {
     begin(user, load);
     for assign in assigns {

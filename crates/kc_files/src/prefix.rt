@@ -1,5 +1,7 @@
-ghost use Rattle.std.specs.Prelude.{◌≡◌, ◌↔◌, false, IsTrue, IfOk};
+ghost use Rattle.std.specs.Prelude.{◌≡◌, ◌↔◌, ℕ, List, false, IsTrue, IfOk};
 ghost use Rattle.std.specs.List.{list_all};
+ghost use Rattle.kc_outline.specs.TreeValue.{TreeValue};
+ghost use Rattle.kc_files.specs.OneReading.{IsReadAs};
 ghost use Rattle.kc_files.specs.PrefixForm.{is_prefix_byte, is_prefix};
 
 use kc_text::Text;
@@ -79,10 +81,11 @@ impl Prefix {
         })
     }
 
-    /// The text of the prefix.
+    /// The text of the prefix. With it each text of a `.config` has one reading for a tree.
     pub fn as_str(&self) -> &str
         ensures text { result.now ≡ self.now }
         ensures valid { IsTrue (is_prefix self.now) }
+        ensures readings { (t : TreeValue) (text : List ℕ) → IsReadAs t self.now text }
     {
         self.text.as_str()
     }

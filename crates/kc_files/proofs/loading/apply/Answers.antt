@@ -1,10 +1,12 @@
-use Rattle.std.proofs.Common.{◌≡◌, ◌∙◌, length, sym, ap, arith}
+use Rattle.std.proofs.Common.{◌≡◌, ◌∙◌, length, sym, ap, subst, arith}
 use Rattle.std.specs.Vec.Iter.{into_iter_items}
 use Rattle.std.proofs.lemmas.List.{nil_from_length}
 use Rattle.std.proofs.lemmas.List.Elements.{All-rest}
+use Rattle.kc_files.specs.DefaultLoading.{HasNoFeeds}
 use Rattle.kc_files.specs.LineReading.{IsAssignFor}
 use Rattle.kc_files.specs.LoadingSteps.{loaded}
 use Rattle.kc_files.proofs.LoadingLaws.{loaded_is}
+use Rattle.kc_files.proofs.UnfedLoading.{after_unfed}
 use Rattle.kc_files.proofs.loading.apply.Goals as goal
 
 pub loop-assign-preserved : goal.loop-assign-preserved
@@ -27,3 +29,7 @@ returns-clause-values c =
     sym (ap (loaded t c.loop-assign.user) (nil_from_length left none))
     ∙ c.loop-assign.invariant.same
     ∙ loaded_is t c.args.user.now c.args.load c.args.assigns.items c.requires.user
+
+pub returns-clause-unfed : goal.returns-clause-unfed
+returns-clause-unfed c = λ user assigns.
+    subst HasNoFeeds (sym (returns-clause-values c)) (after_unfed c.args.tree.now c.args.user.now c.args.load c.args.assigns.items user assigns)
