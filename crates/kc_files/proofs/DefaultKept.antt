@@ -49,7 +49,7 @@ kept t u prefix accepted named just only user unfed utf8 = record {
   whole = subst (λ x. IsConfigReading t prefix x assigns []) (sym is) (written_reading t prefix accepted named assigns writable (apart t u) bodies)
 
   held : (w : UserValues) → IsLoadedFrom t prefix text w → HoldsChanges t u w
-  held w loaded = subst (HoldsChanges t u) (sym (loaded_by t prefix text assigns [] w named whole loaded)) (holds t u accepted only)
+  held w loaded = subst (HoldsChanges t u) (sym (loaded_by t prefix text assigns [] w named whole loaded)) (holds t u accepted just user only)
 
   without : (before after : List (List ℕ)) (line : List ℕ) → lines_in text ≡ before ++ line ∷ after → (w : UserValues)
       → IsLoadedFrom t prefix (text_of_lines (before ++ after)) w → SameOwned t u w → ⊥

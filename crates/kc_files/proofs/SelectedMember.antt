@@ -9,20 +9,18 @@ use Rattle.kc_statement.specs.Tristate.{is_no}
 use Rattle.kc_outline.specs.declared.id.ChoiceId.{ChoiceId}
 use Rattle.kc_outline.specs.declared.choice.ChoiceDefault.{ChoiceDefault}
 use Rattle.kc_outline.specs.Grouped.{IsGrouped}
-use Rattle.kc_outline.specs.TreeValue.{TreeValue, SymbolValue, ChoiceValue, choice_of}
+use Rattle.kc_outline.specs.TreeValue.{TreeValue, ChoiceValue, choice_of}
 use Rattle.kc_tree.specs.declared.node.Node.{Node}
-use Rattle.kc_tree.specs.declared.node.Node.TheVariants.{Vis, Val, Mode, Sel}
-use Rattle.kc_tree.specs.declared.user_value.UserVal.{UserVal}
+use Rattle.kc_tree.specs.declared.node.Node.TheVariants.{Mode, Sel}
 use Rattle.kc_value.specs.declared.value.Value.{Value}
 use Rattle.kc_value.specs.declared.value.Value.TheVariants.{Tri as Level, Member}
 use Rattle.kc_value.specs.Assignment.{Assignment, as_tri, as_member}
 use Rattle.kc_value.specs.ChangedValue.{same_value, changed_value}
-use Rattle.kc_value.specs.ChoiceRule.{is_visible, is_symbol, chosen_member, visible_if, default_member, selection, member_rule}
-use Rattle.kc_value.specs.Rule.{rule, symbol_rule, free_rule}
+use Rattle.kc_value.specs.ChoiceRule.{is_visible, is_symbol, chosen_member, visible_if, default_member, selection}
+use Rattle.kc_value.specs.Rule.{rule}
 use Rattle.kc_value.specs.Solution.{solution, IsSolution}
-use Rattle.kc_value.specs.UserValues.{UserValues, user_value, chosen_in, with_value}
+use Rattle.kc_value.specs.UserValues.{UserValues, chosen_in}
 use Rattle.kc_value.specs.Without.{value_without}
-use Rattle.kc_value.proofs.SameLaws.{same_is}
 
 -- ---- what is picked of a list
 find_holds : {X : Type 0} (P : X → Type 0) (test : X → Bool) (xs : List X) (x : X) → AllByRecursion P xs → find test xs ≡ Some x → P x
@@ -88,25 +86,6 @@ module _ (t : TreeValue) (u : UserValues) (solves : IsSolution t u (solution t u
       ap as_member (solves (Sel c) node ∙ ap (λ (o : Option ChoiceValue). option_map_or (λ y. Member (selection t (solution t u) c y (chosen_in u c))) o (Level No)) placed)
       in
       selection_in t grouped (solution t u) c x placed (chosen_in u c) m (sym by_rule ∙ e)
-
-  -- no value of a member is its user's
-  any_value : (s : SymId) (c : ChoiceId) (o : Option SymbolValue) (v w : Option UserVal) → option_and_then (λ x. x.choice) o ≡ Some c
-      → option_map_or (λ x. symbol_rule t (solution t u) s x (as_tri (solution t u (Vis s))) v) o (Level No)
-      ≡ option_map_or (λ x. symbol_rule t (solution t u) s x (as_tri (solution t u (Vis s))) w) o (Level No)
-  any_value s c None v w e = refl
-  any_value s c (Some x) v w e =
-      let a = solution t u in
-      let vis = as_tri (solution t u (Vis s)) in
-      ap (λ (k : Option ChoiceId). option_map_or (λ d. member_rule t a d s vis) k (free_rule t a x vis v)) e
-      ∙ sym (ap (λ (k : Option ChoiceId). option_map_or (λ d. member_rule t a d s vis) k (free_rule t a x vis w)) e)
-
-  pub member_unchanged : (s : SymId) (c : ChoiceId) → s.0 < length t.symbols → choice_of t s ≡ Some c → changed_value t u (Val s) ≡ None
-  unfolding changed_value value_without rule
-  member_unchanged s c node e =
-      let same : solution t u (Val s) ≡ value_without t u (Val s) =
-      solves (Val s) node ∙ any_value s c (slice_get t.symbols s.0) (user_value u s) (user_value (with_value u s None) s) e
-      in
-      ap (λ b. if b then None else Some (solution t u (Val s))) ((same_is (solution t u (Val s)) (value_without t u (Val s))).1 same)
 
 pub changed_is : (t : TreeValue) (u : UserValues) (n : Node) (v : Value) → changed_value t u n ≡ Some v → v ≡ solution t u n
 unfolding changed_value
