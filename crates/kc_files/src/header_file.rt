@@ -5,9 +5,9 @@ ghost use Rattle.std.specs.String.{string_bytes};
 ghost use Rattle.kc_outline.specs.Entries.{IsEntryOf};
 ghost use Rattle.kc_outline.specs.TreeValue.{name_of};
 ghost use Rattle.kc_tree.specs.Nodes.{all_nodes};
-ghost use Rattle.kc_value.specs.Assignment.{assignment_of};
-ghost use Rattle.kc_value.specs.Solution.{solution, AreSolved, IsOnlySolution};
-ghost use Rattle.kc_value.specs.UserValues.{UserValues};
+ghost use Rattle.kc_value.specs.Assignment.{Assignment, assignment_of};
+ghost use Rattle.kc_value.specs.Solution.{solution, IsOnlySolution};
+ghost use Rattle.kc_files.specs.DraftValue.{Agrees};
 ghost use Rattle.kc_files.specs.HeaderText.{has_hex_sign, missing_hex_sign, text_in_c, has_no_macro, macro_line, tri_macro, text_macro, symbol_macro, macro_of, entry_macro, header_text_of};
 
 use crate::prefix::Prefix;
@@ -165,8 +165,8 @@ fn push_entry(
     entry: Entry,
 ) -> Result<(), AllocError>
     requires { IsEntryOf tree.now entry }
-    ensures { (u : UserValues) → AreSolved tree.now u values.now → OnOk result (string_bytes out.new
-        ≡ string_bytes out.old ++ entry_macro tree.now prefix.now (solution tree.now u) entry) }
+    ensures { (a : Assignment) → Agrees tree.now values.now a → OnOk result (string_bytes out.new
+        ≡ string_bytes out.old ++ entry_macro tree.now prefix.now a entry) }
 {
     match entry {
         Entry::Symbol(symbol) => push_symbol(out, tree, prefix, values, symbol),
@@ -185,8 +185,8 @@ fn push_entries(
     prefix: &Prefix,
     values: &NodeValues,
 ) -> Result<(), AllocError>
-    ensures { (u : UserValues) → AreSolved tree.now u values.now → OnOk result (string_bytes out.new
-        ≡ string_bytes out.old ++ header_text_of tree.now prefix.now (solution tree.now u)) }
+    ensures { (a : Assignment) → Agrees tree.now values.now a → OnOk result (string_bytes out.new
+        ≡ string_bytes out.old ++ header_text_of tree.now prefix.now a) }
 {
     for entry in tree.entries() {
         push_entry(out, tree, prefix, values, *entry)?;
@@ -202,8 +202,8 @@ pub fn header_text_over(
     values: &NodeValues,
     prefix: &Prefix,
 ) -> Result<String, AllocError>
-    ensures { IfOk result (λ text. (u : UserValues) → AreSolved tree.now u values.now
-        → string_bytes text ≡ header_text_of tree.now prefix.now (solution tree.now u)) }
+    ensures { IfOk result (λ text. (a : Assignment) → Agrees tree.now values.now a
+        → string_bytes text ≡ header_text_of tree.now prefix.now a) }
 {
     let mut text = String::new(alloc);
     push_entries(&mut text, tree, prefix, values)?;
