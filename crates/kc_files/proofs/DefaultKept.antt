@@ -4,7 +4,6 @@ use Rattle.std.specs.Str.{IsUtf8}
 use Rattle.kc_outline.specs.TreeValue.{TreeValue}
 use Rattle.kc_tree.specs.Accepted.{IsAccepted}
 use Rattle.kc_value.specs.ChangedValue.{HoldsChanges, SameOwned, ChangesAreJustEnough}
-use Rattle.kc_value.specs.Solution.{solution, IsOnlySolution}
 use Rattle.kc_value.specs.UserValues.{UserValues, IsUserFor, no_values}
 use Rattle.kc_files.specs.declared.assign.Assign.{Assign}
 use Rattle.kc_files.specs.declared.loading.Load.TheVariants.{Replace}
@@ -21,10 +20,9 @@ use Rattle.kc_files.proofs.DefaultLoaded.{holds}
 use Rattle.kc_files.proofs.DefaultNeeded.{needed_one}
 use Rattle.kc_files.proofs.LineFormLaws.{IsNamed}
 
-pub kept : (t : TreeValue) (u : UserValues) (prefix : List ℕ) → IsAccepted t → IsNamed prefix → ChangesAreJustEnough t u → IsOnlySolution t u (solution t u)
-    → IsUserFor t u → HasNoFeeds u → IsUtf8 (default_text_of t u prefix)
+pub kept : (t : TreeValue) (u : UserValues) (prefix : List ℕ) → IsAccepted t → IsNamed prefix → ChangesAreJustEnough t u → IsUserFor t u → HasNoFeeds u → IsUtf8 (default_text_of t u prefix)
     → KeepsChanges t u prefix (default_text_of t u prefix)
-kept t u prefix accepted named just only user unfed utf8 = record {
+kept t u prefix accepted named just user unfed utf8 = record {
   read = whole;
   enough = λ w loaded n node h. just.enough w (held w loaded) n node h;
   modes = λ w loaded c node plain. just.modes w (held w loaded) c node plain;
@@ -49,7 +47,7 @@ kept t u prefix accepted named just only user unfed utf8 = record {
   whole = subst (λ x. IsConfigReading t prefix x assigns []) (sym is) (written_reading t prefix accepted named assigns writable (apart t u) bodies)
 
   held : (w : UserValues) → IsLoadedFrom t prefix text w → HoldsChanges t u w
-  held w loaded = subst (HoldsChanges t u) (sym (loaded_by t prefix text assigns [] w named whole loaded)) (holds t u accepted just user only)
+  held w loaded = subst (HoldsChanges t u) (sym (loaded_by t prefix text assigns [] w named whole loaded)) (holds t u accepted just)
 
   without : (before after : List (List ℕ)) (line : List ℕ) → lines_in text ≡ before ++ line ∷ after → (w : UserValues)
       → IsLoadedFrom t prefix (text_of_lines (before ++ after)) w → SameOwned t u w → ⊥

@@ -17,15 +17,14 @@ use Rattle.kc_value.specs.Assignment.{as_member}
 use Rattle.kc_value.specs.ChangedValue.{changed_value, HoldsValue, HoldsChanges, ChangesAreJustEnough}
 use Rattle.kc_value.specs.ChoiceRule.{is_symbol, selected_in}
 use Rattle.kc_value.specs.Replay.{shown_in}
-use Rattle.kc_value.specs.Solution.{solution, IsOnlySolution}
-use Rattle.kc_value.specs.UserValues.{UserValues, IsUserFor, user_value, chosen_in, no_values}
+use Rattle.kc_value.specs.Solution.{solution}
+use Rattle.kc_value.specs.UserValues.{UserValues, user_value, chosen_in, no_values}
 use Rattle.kc_files.specs.declared.assign.Assign.{Assign}
 use Rattle.kc_files.specs.declared.loading.Load.TheVariants.{Replace}
 use Rattle.kc_files.specs.DefaultLoading.{default_assigns}
 use Rattle.kc_files.specs.DefaultText.{is_changed_member, default_value}
 use Rattle.kc_files.specs.Loading.{last_of, value_for, is_yes, is_member_of, member_for, value_after, chosen_after, user_after}
 use Rattle.kc_files.proofs.AssignLists.{given, last_none, last_at, or_none}
-use Rattle.kc_files.proofs.DefaultChanges.{member_unchanged}
 use Rattle.kc_files.proofs.SelectedMember.{selected_is_member, changed_is}
 
 within_has : {X : Type 0} (xs : List X) (i : ℕ) → i < length xs → slice_get xs i ≡ None → ⊥
@@ -120,7 +119,7 @@ module _ (t : TreeValue) (u : UserValues) where
   unselected true z s = refl
   unselected false z s = refl
 
-  module _ (accepted : IsAccepted t) (just : ChangesAreJustEnough t u) (user : IsUserFor t u) (only : IsOnlySolution t u (solution t u)) where
+  module _ (accepted : IsAccepted t) (just : ChangesAreJustEnough t u) where
     member_last : (c : ChoiceId) → c.0 < length t.choices → last_of (member_for t c) (default_assigns t u) ≡ option_and_then as_member (changed_value t u (Sel c))
     member_last c inside = by_change (changed_value t u (Sel c)) refl
       where
@@ -154,7 +153,7 @@ module _ (t : TreeValue) (u : UserValues) where
             last_none (default_value t u) (member_for t c) 0 (length t.symbols)
             (λ s low high. given_by None (selected_is x placed ∙ e) (Some v) f s ∙ unselected (is_member_of t c s) true s)
         by_member v f x placed (Some m) e =
-            let in_it : choice_of t m ≡ Some c = selected_is_member t u only.solves accepted.grouped c x m inside placed e in
+            let in_it : choice_of t m ≡ Some c = selected_is_member t u (just.solved u).solves accepted.grouped c x m inside placed e in
             last_at (default_value t u) (member_for t c) m 0 (length t.symbols) (omega arith) (omega (arith, has_place m in_it))
             (λ s low high other.
             given_by (Some m) (selected_is x placed ∙ e) (Some v) f s
@@ -186,4 +185,4 @@ module _ (t : TreeValue) (u : UserValues) where
       by_choice s inside None e = free_value t (default_assigns t u) s inside e ∙ value_last s inside ∙ default_by s None e
       by_choice s inside (Some c) e =
           member_value t (default_assigns t u) s c inside e
-          ∙ sym (ap (option_and_then shown_in) (member_unchanged t u s c just user inside e))
+          ∙ sym (ap (option_and_then shown_in) (just.members_not s inside c e))

@@ -10,6 +10,7 @@ ghost use Rattle.kc_value.specs.ChangedValue.{changed_value, ChangesAreJustEnoug
 ghost use Rattle.kc_value.specs.KnownConditions.{AreSharedBy};
 ghost use Rattle.kc_value.specs.Replay.{shown_in};
 ghost use Rattle.kc_value.specs.Solution.{solution, AreSolved, IsOnlySolution};
+ghost use Rattle.kc_value.specs.UserValues.{UserValues};
 ghost use Rattle.kc_files.specs.DefaultLoading.{HasNoFeeds, KeepsChanges};
 ghost use Rattle.kc_files.specs.DefaultText.{is_changed_member, default_value, default_line, default_entry, default_text_of};
 
@@ -213,7 +214,9 @@ fn push_entries(
 ///
 /// Where no text of the user has a line feed, the text is read back without a warning. Loaded in the place of all user
 /// values, it gives each visibility, value and selection as it is, and each mode but that of an optional choice, which
-/// is n where the choice selects none; and with any one of its lines left out, some value or selection is another.
+/// is n where the choice selects none; and with any one of its lines left out, some value or selection is another. That
+/// the tree has one solution, and no other, for any user values holds whatever the call returns.
+#[tactic(auto, using(crate::proofs::DefaultChanges::one_solution))]
 pub fn defconfig_text<R: Resolver>(
     alloc: Global,
     resolver: &mut R,
@@ -221,8 +224,7 @@ pub fn defconfig_text<R: Resolver>(
 ) -> Result<String, AllocError>
     ensures text { IfOk result (λ text. string_bytes text
         ≡ default_text_of (R.tree_of resolver.old) (R.user_of resolver.old) prefix.now) }
-    ensures solved { IsOnlySolution (R.tree_of resolver.old) (R.user_of resolver.old)
-        (solution (R.tree_of resolver.old) (R.user_of resolver.old)) }
+    ensures solved { (u : UserValues) → IsOnlySolution (R.tree_of resolver.old) u (solution (R.tree_of resolver.old) u) }
     ensures keeps { HasNoFeeds (R.user_of resolver.old) → IfOk result (λ text.
         KeepsChanges (R.tree_of resolver.old) (R.user_of resolver.old) prefix.now (string_bytes text)) }
     ensures tree { R.tree_of resolver.new ≡ R.tree_of resolver.old }

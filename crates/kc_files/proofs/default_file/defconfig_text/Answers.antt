@@ -39,4 +39,4 @@ returns-clause-keeps g c = λ unfed.
     let is : string_bytes c.push_entries.new.out ≡ default_text_of t u prefix = returns-clause-text g c in
     let utf8 : IsUtf8 (default_text_of t u prefix) = subst IsUtf8 is (IsUtf8-string_bytes c.push_entries.new.out) in
     subst (KeepsChanges t u prefix) (sym is)
-    (kept t u prefix accepted (prefix_bytes prefix c.as_str.ensures.valid) all.changes all.solved fitting unfed utf8)
+    (kept t u prefix accepted (prefix_bytes prefix c.as_str.ensures.valid) all.changes fitting unfed utf8)
