@@ -1,4 +1,5 @@
 //! Where the bytes of files come from.
+ghost use Rattle.kc_program.specs.Cuts.{IsCut};
 
 use kc_tree::Seed;
 use std::alloc::Global;
@@ -6,6 +7,7 @@ use std::fs;
 use std::io::{self, ErrorKind, Read};
 use std::random::RandomSource;
 use std::rt::Files;
+use std::str::from_utf8;
 
 /// The most bytes that are expected of a file: more are never accepted.
 const MOST_EXPECTED: u64 = 16_777_216;
@@ -13,7 +15,7 @@ const MOST_EXPECTED: u64 = 16_777_216;
 /// How many bytes of a `.config` are read: more than are accepted, so that one that is too long is found so.
 const MOST_CONFIG: u64 = MOST_EXPECTED + 1;
 
-/// How many bytes of another file are read: more than are accepted, also without the last character.
+/// How many bytes of another file are read: more than are accepted, also where the last character is cut off.
 const MOST_READ: u64 = MOST_EXPECTED + 8;
 
 /// The most bytes of a character in UTF-8.
@@ -29,6 +31,12 @@ pub enum FolderFault {
 }
 
 impl From<io::Error> for FolderFault {
+    ghost use Rattle.std.specs.Prelude.{◌≡◌};
+    ghost use Rattle.std.specs.IoError.{error_kind};
+    ghost use Rattle.kc_program.specs.FolderFaults.{folder_fault};
+
+    ghost from_gives = { λ error fault. fault ≡ folder_fault (error_kind error) };
+
     fn from(error: io::Error) -> FolderFault {
         match error.kind() {
             ErrorKind::OutOfMemory => FolderFault::NoMemory,
@@ -91,22 +99,26 @@ impl<R: Files> SystemFolder<'_, R> {
             file.read_to_end(&mut bytes)?;
         }
         if bytes.len() as u64 == MOST_READ {
-            bytes.truncate(before_last_character(bytes.as_slice()));
+            bytes.truncate(whole_characters(bytes.as_slice()));
         }
         Ok(bytes)
     }
 }
 
-/// How many bytes stand before the last character, of which some may not be there. All of them where none begins at the
-/// end: they are no text.
-fn before_last_character(bytes: &[u8]) -> usize {
-    for back in 1..=MOST_OF_CHARACTER {
-        let start = bytes.len().saturating_sub(back);
-        if bytes.get(start).is_some_and(|byte| byte & 0xC0 != 0x80) {
-            return start;
-        }
+/// How many of the first bytes of a file are whole characters, where the last may be cut. All of the bytes where they
+/// begin no text.
+fn whole_characters(bytes: &[u8]) -> usize
+    ensures { IsCut bytes.now result }
+{
+    let Err(fault) = from_utf8(bytes) else {
+        return bytes.len();
+    };
+    let whole = fault.valid_up_to();
+    if bytes.len() - whole < MOST_OF_CHARACTER {
+        whole
+    } else {
+        bytes.len()
     }
-    bytes.len()
 }
 
 impl<R: Files + RandomSource> Folder for SystemFolder<'_, R> {

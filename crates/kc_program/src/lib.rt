@@ -15,6 +15,7 @@ mod unread_words;
 mod variables;
 
 pub use folder::{Folder, FolderFault, SystemFolder};
+pub use kc_tree::Seed;
 pub use messages::Status;
 pub use running::program;
 pub use unread_words::answer_unread;

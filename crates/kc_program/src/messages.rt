@@ -1,6 +1,7 @@
 //! How the program ended, and what it says of warnings and faults on standard error.
 ghost use Rattle.std.specs.Prelude.{◌≡◌};
 ghost use Rattle.kc_program.specs.Endings.{code_of};
+ghost use Rattle.kc_program.specs.FaultNumbers.{fault_number};
 
 use crate::explanations::Wording;
 use kc_files::Warning;
@@ -139,7 +140,9 @@ fn write_tree_fault<E: Write>(
 }
 
 /// The number of a fault of the lines or of the tree.
-fn number_of(fault: &TreeFault) -> Option<u8> {
+fn number_of(fault: &TreeFault) -> Option<u8>
+    ensures { result ≡ fault_number fault.now }
+{
     match fault {
         TreeFault::Line { problem, .. } => Some(problem.number()),
         TreeFault::Symbol { problem, .. } => Some(problem.number()),

@@ -1,6 +1,6 @@
 //! From the files of a folder to a session: each file is read as it is wanted, or ahead of that.
 
-ghost use Rattle.std.specs.Prelude.{◌≡◌, MatchOption};
+ghost use Rattle.std.specs.Prelude.{◌≡◌, IfOk, MatchOption, MatchResult};
 ghost use Rattle.std.specs.Str.{IsUtf8};
 ghost use Rattle.std.specs.String.{string_bytes};
 
@@ -319,7 +319,9 @@ fn fault_of(alloc: Global, fault: OpenFault, config: &ConfigFile) -> Fault {
 }
 
 /// The text of the file of a path, by what reading it gave.
-fn text_of(alloc: Global, path: &str, read: Result<Vec<u8>, FolderFault>) -> Result<String, Fault> {
+fn text_of(alloc: Global, path: &str, read: Result<Vec<u8>, FolderFault>) -> Result<String, Fault>
+    ensures text { IfOk result (λ text. MatchResult read (λ bytes. string_bytes text ≡ bytes.items) (λ _. ⊥)) }
+{
     match read {
         Ok(bytes) => match utf8_text(bytes) {
             Some(text) => Ok(text),
