@@ -43,6 +43,6 @@ fn a_file_without_end_is_cut(rt: HostRuntime) -> Result<(), Fail> {
     let config = folder.read_config(rt.alloc(), "/dev/zero")?;
     assert_eq!(rt; config.len(), 16_777_217);
     let bytes = folder.read_bytes(rt.alloc(), "/dev/zero")?;
-    assert_eq!(rt; bytes.len(), 16_777_223);
+    assert_eq!(rt; bytes.len(), 16_777_224);
     Ok(())
 }
