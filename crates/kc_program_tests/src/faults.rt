@@ -1,9 +1,12 @@
 //! What is written to standard error, and the status after it.
 use crate::running::{
-    FailingReader, FailingWriter, MemoryFolder, run_in, run_program, run_session, want,
+    FailingFlush, FailingReader, FailingWriter, MemoryFolder, run_in, run_program, run_session,
+    want,
 };
 use kc_program::{Folder, FolderFault, program};
-use std::alloc::Global;
+use std::alloc::{AllocError, Global};
+use std::io::Write;
+use std::process::Abort;
 use std::test::Fail;
 
 const SESSION: [&str; 4] = ["kconf", "session", "Kconfig", "-"];
@@ -29,17 +32,68 @@ fn faults_of_a_kconfig_are_reported(rt: HostRuntime) {
     }
 }
 
+// Texts with a fault, each with what is reported of it with `--explain`. A ` / ` is a line end.
+const EXPLAINED: &str =
+    r#"config A / bool "a" / depends on ((((((((((((((((((((((((((((((((((((((((((((((((((((((((((((((((( => kconf: Kconfig:3: K01: a limit is passed, of bytes, files, depth, references or symbols
+default y @ => kconf: Kconfig:1: K02: a character that is not allowed here
+config A / bool "a => kconf: Kconfig:2: K03: a quote that its line does not close
+frob => kconf: Kconfig:1: K04: a line that begins with no known word
+config A / bool "a" / default => kconf: Kconfig:3: K05: a line that does not have the form of its statement
+default y => kconf: Kconfig:1: K06: an attribute that the nearest statement does not take, or without a statement
+endmenu => kconf: Kconfig:1: K07: a block closed wrongly, or not closed in its file
+source "Kconfig" => kconf: Kconfig:1: K09: a file that sources itself, directly or through others
+default "$ARCH" => kconf: Kconfig:1: K10: a dollar that begins no reference to a variable, or a function: docs/TREES.md says what to do
+A = $(B) / B = x $(A) / default $(A) => kconf: Kconfig:3: K11: a variable that its own expansion needs
+config A / prompt "a" => kconf: K12 A: a symbol without a type
+config A / bool "a" / config A / def_tristate m => kconf: K13 A: a symbol with two types
+config A / bool "a" / prompt "b" => kconf: K14 A: two prompts in one definition
+config N / int "n" / default 1x => kconf: K15 N: a default or a range that does not fit the type
+config B / bool "b" / select N / config N / int "n" => kconf: K16 N: a select or an imply in, or of, a string, an int or a hex
+choice / config A / bool "a" / endchoice => kconf: Kconfig:1: K17: a choice, or a member of one, at fault
+config MODULES / tristate "Modules" => kconf: K18 MODULES: MODULES that is no bool, or modules in another symbol
+config A / bool "a" / default A => kconf: K19: a dependency loop, in which each of these uses the next and the last the first / kconf: on A
+config A / bool Network => kconf: Kconfig:2: K20: a word or a form of Kconfig that is unsupported
+"#;
+
+// A text with a line end in place of each ` / `, and behind it.
+fn lines_of(alloc: Global, text: &str) -> Result<String, AllocError> {
+    let mut lines = String::new(alloc);
+    for line in text.split(" / ") {
+        lines.push_str(line)?;
+        lines.push('\n')?;
+    }
+    Ok(lines)
+}
+
+#[test]
+fn each_fault_is_explained(rt: HostRuntime) -> Result<(), Fail> {
+    let words = ["kconf", "olddefconfig", "Kconfig", "-", "--explain"];
+    for row in EXPLAINED.lines() {
+        let (text, errors) = row.split_once(" => ").unwrap_or((row, ""));
+        let kconfig = lines_of(rt.alloc(), text)?;
+        let errors = lines_of(rt.alloc(), errors)?;
+        let files = [("Kconfig", kconfig.as_str().as_bytes())];
+        let outcome = run_program(rt.alloc(), words.as_slice(), files.as_slice(), b"");
+        want(&rt, &outcome, 1, "", errors.as_str(), row);
+    }
+    Ok(())
+}
+
 #[test]
 fn a_loop_is_reported_by_its_nodes(rt: HostRuntime) -> Result<(), Fail> {
-    let kconfig = b"config A\nbool\ndepends on B\nconfig B\nbool\ndepends on A\n";
+    let kconfig =
+        b"config A\nbool\ndepends on B\nconfig B\nbool\ndepends on C\nconfig C\nbool\ndepends on A\n";
     let outcome = run_session(rt.alloc(), kconfig, b"config\n");
     assert_eq!(rt; outcome.status, 1);
     assert_eq!(rt; outcome.output.as_slice(), b"".as_slice());
     let errors = std::str::from_utf8(outcome.errors.as_slice())?;
-    // The loop from either node on.
-    let from_a = "kconf: K19\nkconf: on A\nkconf: on B\n";
-    let from_b = "kconf: K19\nkconf: on B\nkconf: on A\n";
-    assert!(rt; errors == from_a || errors == from_b, "{errors}");
+    // The loop from each of its nodes on.
+    let loops = [
+        "kconf: K19\nkconf: on A\nkconf: on B\nkconf: on C\n",
+        "kconf: K19\nkconf: on B\nkconf: on C\nkconf: on A\n",
+        "kconf: K19\nkconf: on C\nkconf: on A\nkconf: on B\n",
+    ];
+    assert!(rt; loops.contains(&errors), "{errors}");
     Ok(())
 }
 
@@ -83,33 +137,47 @@ impl Folder for NoMemoryFolder {
 
 #[test]
 fn refused_memory_is_reported(rt: HostRuntime) {
-    let outcome = run_in(
-        rt.alloc(),
-        SESSION.as_slice(),
-        &NoMemoryFolder {},
-        b"config\n",
+    // Of the top file, and of CONFIG.
+    for config in ["-", ".config"] {
+        let words = ["kconf", "session", "Kconfig", config];
+        let outcome = run_in(
+            rt.alloc(),
+            words.as_slice(),
+            &NoMemoryFolder {},
+            b"config\n",
+        );
+        want(&rt, &outcome, 1, "", "kconf: memory\n", config);
+    }
+}
+
+// Runs the program on words, the files and a command, with an output that fails, and wants that to be reported.
+fn wants_cannot_write<W: Write>(rt: &impl Abort, alloc: Global, words: &[&str], output: &mut W) {
+    let folder = MemoryFolder {
+        files: FILES.as_slice(),
+    };
+    let mut errors = Vec::new(alloc);
+    let mut input = b"config\n".as_slice();
+    let status = program(alloc, words, &folder, &mut input, output, &mut errors);
+    assert_eq!(rt;
+        errors.as_slice(),
+        b"kconf: cannot write\n".as_slice(),
+        "at {words:?}"
     );
-    want(&rt, &outcome, 1, "", "kconf: memory\n", "memory");
+    assert_eq!(rt; status, 1, "at {words:?}");
 }
 
 #[test]
 fn a_failing_output_is_reported(rt: HostRuntime) {
-    let folder = MemoryFolder {
-        files: FILES.as_slice(),
-    };
-    let help = ["kconf", "--help"];
-    for words in [SESSION.as_slice(), help.as_slice()] {
-        let mut errors = Vec::new(rt.alloc());
-        let status = program(
-            rt.alloc(),
-            words,
-            &folder,
-            &mut b"config\n".as_slice(),
-            &mut FailingWriter {},
-            &mut errors,
-        );
-        assert_eq!(rt; status, 1);
-        assert_eq!(rt; errors.as_slice(), b"kconf: cannot write\n".as_slice());
+    let rows = [
+        SESSION.as_slice(),
+        ["kconf", "--help"].as_slice(),
+        ["kconf", "session", "--help"].as_slice(),
+        ["kconf", "olddefconfig", "Kconfig", "-"].as_slice(),
+        ["kconf", "allyesconfig", "Kconfig"].as_slice(),
+    ];
+    for words in rows {
+        wants_cannot_write(&rt, rt.alloc(), words, &mut FailingWriter {});
+        wants_cannot_write(&rt, rt.alloc(), words, &mut FailingFlush {});
     }
 }
 

@@ -1,6 +1,6 @@
 //! The files that a Kconfig sources, and those that it only names.
 use crate::running::{MemoryFolder, Outcome, run_in, run_program, want};
-use kc_program::{Folder, FolderFault};
+use kc_program::{Folder, FolderFault, Seed};
 use std::alloc::{AllocError, Global};
 use std::cell::Cell;
 use std::process::Abort;
@@ -159,12 +159,13 @@ fn files_that_are_only_named_need_not_be_there(rt: HostRuntime) {
     }
 }
 
-// Counts the reads of files in memory. Those that are read ahead may be refused.
+// Counts the reads of files in memory, and how often the seed is asked for. Reading ahead may be refused.
 #[derive(Drop)]
 struct CountingFolder<'a> {
     files: MemoryFolder<'a>,
     refusal: Option<FolderFault>,
     reads: Cell<usize>,
+    seeds: Cell<usize>,
 }
 
 impl Folder for CountingFolder<'_> {
@@ -179,40 +180,89 @@ impl Folder for CountingFolder<'_> {
             Some(fault) => Err(fault),
         }
     }
+
+    fn seed(&self) -> Seed {
+        self.seeds.set(self.seeds.get().wrapping_add(1));
+        Seed::fixed()
+    }
+}
+
+// Wants so many reads of a top file, of the files b, c and d that it may want, and of a CONFIG.
+fn wants_reads<'a>(
+    rt: &impl Abort,
+    alloc: Global,
+    texts: (&'a str, &'a str, &'a str),
+    refusal: Option<FolderFault>,
+    want: usize,
+) {
+    let (top, b, c) = texts;
+    let files = [
+        ("Kconfig", top.as_bytes()),
+        ("b", b.as_bytes()),
+        ("c", c.as_bytes()),
+        ("d", b"".as_slice()),
+        (".config", b"CONFIG_A=y\n".as_slice()),
+    ];
+    let folder = CountingFolder {
+        files: MemoryFolder {
+            files: files.as_slice(),
+        },
+        refusal,
+        reads: Cell::new(0),
+        seeds: Cell::new(0),
+    };
+    let words = ["kconf", "session", "Kconfig", ".config"];
+    let outcome = run_in(alloc, words.as_slice(), &folder, b"config\n");
+    assert_eq!(rt; outcome.errors.as_slice(), b"".as_slice());
+    assert_eq!(rt; outcome.output.as_slice(), b"CONFIG_A=y\nok\n".as_slice());
+    assert_eq!(rt; folder.reads.get(), want, "at {top:?}, {refusal:?}");
+    assert_eq!(rt; folder.seeds.get(), 1);
 }
 
 #[test]
-fn each_file_is_read_as_it_is_wanted(rt: HostRuntime) -> Result<(), Fail> {
-    let top =
-        b"config A\nbool \"a\"\nhelp\n source \"d\"\nsource \"$(NAME)b\"\nsource \"c\"\nsource \"b\"\n".as_slice();
-    let files = [
-        ("Kconfig", top),
-        ("b", b"source \"c\"\n".as_slice()),
-        ("c", b"# source \"d\"\n".as_slice()),
-        ("d", b"".as_slice()),
+fn each_file_is_read_as_it_is_wanted(rt: HostRuntime) {
+    // Each with the reads where all may be read ahead, where it can't be, and where its memory is refused, so that all
+    // starts again, with the texts that were wanted before. A path with a backslash is read as it is wanted alone.
+    let rows = [
+        // A help text names d, and b is named twice.
+        (
+            (
+                "config A\nbool \"a\"\nhelp\n source \"d\"\nsource \"$(NAME)b\"\nsource \"c\"\nsource \"b\"\n",
+                "source \"c\"\n",
+                "# source \"d\"\n",
+            ),
+            [5, 4, 4],
+        ),
+        // In the second start b is wanted first, and in the third again.
+        (
+            (
+                "config A\nbool \"a\"\nhelp\n source \"d\"\nsource \"\\b\"\n",
+                "source \"c\"\n",
+                "",
+            ),
+            [5, 4, 4],
+        ),
+        // After it was wanted b is named.
+        (
+            (
+                "config A\nbool \"a\"\nsource \"\\b\"\nsource \"\\c\"\n",
+                "",
+                "source \"b\"\n",
+            ),
+            [4, 4, 4],
+        ),
     ];
-    for (refusal, want) in [
-        (None, 4),
-        (Some(FolderFault::CannotRead), 3),
-        // All starts again, with the text of the top file.
-        (Some(FolderFault::NoMemory), 3),
-    ] {
-        let folder = CountingFolder {
-            files: MemoryFolder {
-                files: files.as_slice(),
-            },
-            refusal,
-            reads: Cell::new(0),
-        };
-        let outcome = run_in(rt.alloc(), SESSION.as_slice(), &folder, b"config\n");
-        assert_eq!(rt; outcome.errors.as_slice(), b"".as_slice());
-        assert_eq!(rt;
-            outcome.output.as_slice(),
-            b"# CONFIG_A is not set\nok\n".as_slice()
+    for (texts, [all, unread, refused]) in rows {
+        wants_reads(&rt, rt.alloc(), texts, None, all);
+        wants_reads(
+            &rt,
+            rt.alloc(),
+            texts,
+            Some(FolderFault::CannotRead),
+            unread,
         );
-        assert_eq!(rt; folder.reads.get(), want);
+        wants_reads(&rt, rt.alloc(), texts, Some(FolderFault::NoMemory), refused);
     }
-    Ok(())
 }
 
 // A top file, and an empty file at each other path.

@@ -50,6 +50,20 @@ impl Write for FailingWriter {
     }
 }
 
+// Takes each write, and fails at each flush.
+#[derive(Drop)]
+pub(crate) struct FailingFlush {}
+
+impl Write for FailingFlush {
+    fn write(&mut self, buf: &[u8]) -> io::Result<usize> {
+        Ok(buf.len())
+    }
+
+    fn flush(&mut self) -> io::Result<()> {
+        Err(Error::from(ErrorKind::Other))
+    }
+}
+
 // How a run of the program ended, and what it wrote.
 #[derive(Drop)]
 pub(crate) struct Outcome {

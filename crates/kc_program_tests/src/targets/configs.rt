@@ -74,6 +74,32 @@ fn lines_that_are_no_text_are_warned_of(rt: HostRuntime) {
 }
 
 #[test]
+fn each_warning_is_written(rt: HostRuntime) -> Result<(), Fail> {
+    let mut config = String::new(rt.alloc());
+    let mut warnings = String::new(rt.alloc());
+    for line in 1..=2_000 {
+        config.push_str("frob\n")?;
+        let warning = format!(in rt.alloc(); "kconf: .config:{line}: warning 4\n")?;
+        warnings.push_str(warning.as_str())?;
+    }
+    let files = [
+        ("Kconfig", KCONFIG),
+        (".config", config.as_str().as_bytes()),
+    ];
+    let words = ["kconf", "olddefconfig", "Kconfig", ".config"];
+    let outcome = run_program(rt.alloc(), words.as_slice(), files.as_slice(), b"");
+    want(
+        &rt,
+        &outcome,
+        0,
+        "# CONFIG_A is not set\n",
+        warnings.as_str(),
+        "many",
+    );
+    Ok(())
+}
+
+#[test]
 fn a_target_that_cannot_be_written_is_reported(rt: HostRuntime) {
     let files = [("Kconfig", KCONFIG), (".config", b"frob\n".as_slice())];
     let folder = MemoryFolder {
