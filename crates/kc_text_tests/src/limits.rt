@@ -140,6 +140,27 @@ fn keeps_the_limit_of_followed_references(rt: HostRuntime) -> Result<(), Fail> {
     Ok(())
 }
 
+#[test]
+fn keeps_the_limit_of_references_of_a_token(rt: HostRuntime) -> Result<(), Fail> {
+    let alloc = rt.alloc();
+    // A use of V follows 256 references, 255 of them of a name without definition.
+    let empty = repeated(alloc, "$(U)", 255)?;
+    let uses = repeated(alloc, "$(V)", 256)?;
+    let table = [
+        ("default \"", "\"", "[2 default \"\"][3 end]"),
+        ("default \"", "$(U)\"", "K01 K:2"),
+        ("default ", "$(U)", "K01 K:2"),
+        // Each token counts for itself.
+        ("default \"", "\" \"$(U)\"", "[2 default \"\" \"\"][3 end]"),
+    ];
+    for (before, behind, want) in table {
+        let text = format!(in alloc; "V = {empty}\n{before}{uses}{behind}")?;
+        let found = shown(alloc, text.as_str())?;
+        assert_eq!(rt; found.as_str(), want, "at {before}..{behind}");
+    }
+    Ok(())
+}
+
 /// A text of 64 variables, each a reference of the next and the last this text, and a use of the first.
 fn chain_to(alloc: Global, last: &str) -> Result<String, AllocError> {
     let mut text = String::new(alloc);
