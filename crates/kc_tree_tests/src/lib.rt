@@ -22,4 +22,6 @@ mod numerals;
 #[cfg(test)]
 mod parsing;
 #[cfg(test)]
+mod sharing;
+#[cfg(test)]
 mod showing;
