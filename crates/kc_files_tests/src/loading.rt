@@ -167,6 +167,38 @@ fn a_config_has_at_most_16_mebibytes(rt: HostRuntime) -> Result<(), Fail> {
     Ok(())
 }
 
+/// The most assignments or warnings that a file of a few lines takes room for.
+const MOST_ROOM: usize = 64;
+
+/// How many assignments and warnings a file gives, and whether they take little room or much.
+fn show_room(alloc: Global, tree: &Tree, config: &[u8]) -> Result<String, Fail> {
+    let (assigns, warnings) = read_config(alloc, tree, &prefix(alloc)?, config)?;
+    let is_little = assigns.capacity() <= MOST_ROOM && warnings.capacity() <= MOST_ROOM;
+    let (assigns, warnings) = (assigns.len(), warnings.len());
+    let room = if is_little { "little" } else { "much" };
+    Ok(format!(in alloc; "{assigns} {warnings} {room}")?)
+}
+
+#[test]
+fn a_short_config_takes_little_memory(rt: HostRuntime) -> Result<(), Fail> {
+    for (config, want) in [
+        (b"".as_slice(), "0 0 little"),
+        (
+            b"CONFIG_A=y\nCONFIG_U=y\nCONFIG_A=m\n".as_slice(),
+            "1 2 little",
+        ),
+    ] {
+        let kconfig = "config A\nbool \"a\"\n";
+        let found = shown(
+            rt.alloc(),
+            kconfig,
+            |alloc, tree| show_room(alloc, tree, config),
+        )?;
+        assert_eq!(rt; found.as_str(), want, "at {config:?}");
+    }
+    Ok(())
+}
+
 /// User values of a first file, and after a second is merged, and after it replaces them.
 fn show_both(alloc: Global, tree: &Tree, first: &[u8], second: &[u8]) -> Result<String, Fail> {
     let prefix = prefix(alloc)?;

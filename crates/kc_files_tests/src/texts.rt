@@ -1,4 +1,4 @@
-//! The header and the new list.
+//! The `.config` behind a header, the C header and the new list.
 use crate::trees::{load, prefix, shown};
 use kc_files::{Prefix, config_text, header_text, new_text};
 use kc_tables::{rows, three_fields};
@@ -114,6 +114,38 @@ fn a_config_is_moved_to_another_prefix(rt: HostRuntime) -> Result<(), Fail> {
             |alloc, tree| show_moved(alloc, tree, new_prefix),
         )?;
         assert_eq!(rt; found.as_str(), want, "at {new_prefix:?}");
+    }
+    Ok(())
+}
+
+/// The `.config` behind a header, with the default values.
+fn show_config(alloc: Global, tree: &Tree, header: &str) -> Result<String, Fail> {
+    let user = User::empty(alloc, tree)?;
+    let mut resolver = Fresh::new(alloc, tree, &user);
+    Ok(config_text(alloc, &mut resolver, &prefix(alloc)?, header)?)
+}
+
+/// Kconfigs and headers with the `.config`.
+const CONFIGS: &str = r#"
+ | # Made by a tool.\n | # Made by a tool.\n
+config A\nbool "a"\n | #\n# Automatically generated file; DO NOT EDIT.\n#\n | #\n# Automatically generated file; DO NOT EDIT.\n#\n# CONFIG_A is not set\n
+// A title has its empty line behind a header as well, and a header is taken as it is.
+menu "M"\nconfig A\nbool "a"\nendmenu\nconfig C\nbool "c"\n | # x\n | # x\n\n#\n# M\n#\n# CONFIG_A is not set\n# end of M\n\n# CONFIG_C is not set\n
+config A\nbool "a"\n | # "é\\ | # "é\\# CONFIG_A is not set\n
+"#;
+
+#[test]
+fn a_config_begins_with_its_header(rt: HostRuntime) -> Result<(), Fail> {
+    let alloc = rt.alloc();
+    for row in rows(alloc, CONFIGS)? {
+        let (kconfig, header, want) = three_fields(alloc, row)?;
+        let header = header.as_str();
+        let found = shown(
+            alloc,
+            kconfig.as_str(),
+            |alloc, tree| show_config(alloc, tree, header),
+        )?;
+        assert_eq!(rt; found.as_str(), want.as_str(), "at {row}");
     }
     Ok(())
 }
