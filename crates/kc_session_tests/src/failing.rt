@@ -5,6 +5,35 @@ use std::io::{self, Error, ErrorKind, Read, Write};
 /// The number of a call that is never made.
 pub(crate) const NEVER: u64 = u64::MAX;
 
+/// How a call fails.
+#[derive(Clone, Copy, Debug)]
+pub(crate) enum Failure {
+    /// It is interrupted.
+    Interrupted,
+    /// It has another error.
+    Other,
+    /// A write takes no byte. A read or a flush has an error.
+    NoByte,
+}
+
+impl Failure {
+    /// The error of a read or a flush.
+    fn error(self) -> Error {
+        match self {
+            Failure::Interrupted => Error::from(ErrorKind::Interrupted),
+            Failure::Other | Failure::NoByte => Error::from(ErrorKind::Other),
+        }
+    }
+
+    /// What a write answers.
+    fn of_write(self) -> io::Result<usize> {
+        match self {
+            Failure::Interrupted | Failure::Other => Err(self.error()),
+            Failure::NoByte => Ok(0),
+        }
+    }
+}
+
 /// Gives its bytes in pieces, and fails at one call.
 #[derive(Drop)]
 pub(crate) struct FailingReader<'a> {
@@ -16,6 +45,8 @@ pub(crate) struct FailingReader<'a> {
     pub(crate) calls: u64,
     /// The number of the call that fails, from 0.
     fails_at: u64,
+    /// How it fails.
+    failure: Failure,
 }
 
 impl<'a> FailingReader<'a> {
@@ -25,7 +56,14 @@ impl<'a> FailingReader<'a> {
             piece,
             calls: 0,
             fails_at,
+            failure: Failure::Interrupted,
         }
+    }
+
+    /// The same with another failure.
+    pub(crate) fn with(mut self, failure: Failure) -> Self {
+        self.failure = failure;
+        self
     }
 }
 
@@ -34,7 +72,7 @@ impl Read for FailingReader<'_> {
         let call = self.calls;
         self.calls = call.saturating_add(1);
         if call == self.fails_at {
-            return Err(Error::from(ErrorKind::Interrupted));
+            return Err(self.failure.error());
         }
         let count = self.piece.min(self.rest.len()).min(buf.len());
         let (now, later) = self.rest.split_at(count);
@@ -59,6 +97,8 @@ pub(crate) struct FailingWriter {
     write_fails_at: u64,
     /// The number of the flush that fails, from 0.
     flush_fails_at: u64,
+    /// How they fail.
+    failure: Failure,
 }
 
 impl FailingWriter {
@@ -75,7 +115,14 @@ impl FailingWriter {
             flushes: 0,
             write_fails_at,
             flush_fails_at,
+            failure: Failure::Interrupted,
         }
+    }
+
+    /// The same with another failure.
+    pub(crate) fn with(mut self, failure: Failure) -> Self {
+        self.failure = failure;
+        self
     }
 }
 
@@ -84,7 +131,7 @@ impl Write for FailingWriter {
         let call = self.writes;
         self.writes = call.saturating_add(1);
         if call == self.write_fails_at {
-            return Err(Error::from(ErrorKind::Interrupted));
+            return self.failure.of_write();
         }
         let count = self.piece.min(buf.len());
         self.taken.extend_from_slice(&buf[..count])?;
@@ -95,7 +142,7 @@ impl Write for FailingWriter {
         let call = self.flushes;
         self.flushes = call.saturating_add(1);
         if call == self.flush_fails_at {
-            return Err(Error::from(ErrorKind::Other));
+            return Err(self.failure.error());
         }
         Ok(())
     }

@@ -1,5 +1,5 @@
 //! Whole streams, where each call fails in turn.
-use crate::failing::{FailingReader, FailingWriter, NEVER};
+use crate::failing::{FailingReader, FailingWriter, Failure, NEVER};
 use crate::serving::{serve, want};
 use kc_session::IoFault;
 use kc_tables::{rows, two_fields};
@@ -52,16 +52,24 @@ fn lines_in(text: &str, count: usize) -> usize {
     text.bytes().take(count).filter(|b| *b == b'\n').count()
 }
 
+/// Fails each read in turn.
+fn fail_each_read(alloc: Global, failure: Failure) -> Result<(), Fail> {
+    let stream = all_commands(alloc)?;
+    for call in 0..stream.len() {
+        let reader = FailingReader::new(stream.as_bytes(), 1, call as u64).with(failure);
+        let writer = FailingWriter::new(alloc, 7, NEVER, NEVER);
+        let served = serve(alloc, TWO_BOOLS, reader, writer, "")?;
+        let replies = first_replies(alloc, lines_in(stream.as_str(), call))?;
+        let read = Err(IoFault::Read);
+        want(alloc, &served, read, replies.as_str(), "", call)?;
+    }
+    Ok(())
+}
+
 #[test]
 fn a_failed_read_leaves_the_replies_to_whole_lines(rt: HostRuntime) -> Result<(), Fail> {
-    let stream = all_commands(rt.alloc())?;
-    for call in 0..stream.len() {
-        let reader = FailingReader::new(stream.as_bytes(), 1, call as u64);
-        let writer = FailingWriter::new(rt.alloc(), 7, NEVER, NEVER);
-        let served = serve(rt.alloc(), TWO_BOOLS, reader, writer, "")?;
-        let replies = first_replies(rt.alloc(), lines_in(stream.as_str(), call))?;
-        let read = Err(IoFault::Read);
-        want(rt.alloc(), &served, read, replies.as_str(), "", call)?;
+    for failure in [Failure::Interrupted, Failure::Other] {
+        fail_each_read(rt.alloc(), failure)?;
     }
     Ok(())
 }
@@ -80,23 +88,25 @@ fn a_read_that_fails_within_a_body_loads_nothing(rt: HostRuntime) -> Result<(), 
     Ok(())
 }
 
-#[test]
-fn a_failed_write_leaves_a_beginning(rt: HostRuntime) -> Result<(), Fail> {
-    let stream = all_commands(rt.alloc())?;
-    let whole = first_replies(rt.alloc(), COUNT)?;
+/// Fails each write in turn.
+fn fail_each_write(alloc: Global, failure: Failure) -> Result<(), Fail> {
+    let stream = all_commands(alloc)?;
+    let whole = first_replies(alloc, COUNT)?;
     for call in 0..whole.len() {
         let reader = FailingReader::new(stream.as_bytes(), 100, NEVER);
-        let writer = FailingWriter::new(rt.alloc(), 1, call as u64, NEVER);
-        let served = serve(rt.alloc(), TWO_BOOLS, reader, writer, "")?;
+        let writer = FailingWriter::new(alloc, 1, call as u64, NEVER).with(failure);
+        let served = serve(alloc, TWO_BOOLS, reader, writer, "")?;
         let beginning = std::str::from_utf8(&whole.as_bytes()[..call])?;
-        want(
-            rt.alloc(),
-            &served,
-            Err(IoFault::Write),
-            beginning,
-            "",
-            call,
-        )?;
+        let write = Err(IoFault::Write);
+        want(alloc, &served, write, beginning, "", call)?;
+    }
+    Ok(())
+}
+
+#[test]
+fn a_failed_write_leaves_a_beginning(rt: HostRuntime) -> Result<(), Fail> {
+    for failure in [Failure::Interrupted, Failure::Other, Failure::NoByte] {
+        fail_each_write(rt.alloc(), failure)?;
     }
     Ok(())
 }
@@ -120,16 +130,24 @@ fn a_failed_write_leaves_the_effect_of_its_command(rt: HostRuntime) -> Result<()
     Ok(())
 }
 
-#[test]
-fn a_failed_flush_leaves_whole_replies(rt: HostRuntime) -> Result<(), Fail> {
-    let stream = all_commands(rt.alloc())?;
+/// Fails each flush in turn.
+fn fail_each_flush(alloc: Global, failure: Failure) -> Result<(), Fail> {
+    let stream = all_commands(alloc)?;
     for call in 0..COUNT {
         let reader = FailingReader::new(stream.as_bytes(), 100, NEVER);
-        let writer = FailingWriter::new(rt.alloc(), 100, NEVER, call as u64);
-        let served = serve(rt.alloc(), TWO_BOOLS, reader, writer, "")?;
-        let replies = first_replies(rt.alloc(), call + 1)?;
+        let writer = FailingWriter::new(alloc, 100, NEVER, call as u64).with(failure);
+        let served = serve(alloc, TWO_BOOLS, reader, writer, "")?;
+        let replies = first_replies(alloc, call + 1)?;
         let write = Err(IoFault::Write);
-        want(rt.alloc(), &served, write, replies.as_str(), "", call)?;
+        want(alloc, &served, write, replies.as_str(), "", call)?;
+    }
+    Ok(())
+}
+
+#[test]
+fn a_failed_flush_leaves_whole_replies(rt: HostRuntime) -> Result<(), Fail> {
+    for failure in [Failure::Interrupted, Failure::Other] {
+        fail_each_flush(rt.alloc(), failure)?;
     }
     Ok(())
 }
