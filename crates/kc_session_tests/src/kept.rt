@@ -80,6 +80,55 @@ config N
     default 5
 "#;
 
+/// A tristate, and the symbol that says whether modules are built.
+const MODULE: &str = r#"
+config MODULES
+    bool "modules"
+    modules
+    default y
+config T
+    tristate "t"
+"#;
+
+/// A tristate that another selects, where modules are always built.
+const SELECTED: &str = r#"
+config MODULES
+    def_bool y
+    modules
+config S
+    tristate "s"
+    select T
+config T
+    tristate "t" if m
+    default y
+"#;
+
+/// The same where the user says whether modules are built.
+const SELECTED_IN_MODULES: &str = r#"
+config MODULES
+    bool "modules"
+    modules
+    default y
+config S
+    tristate "s"
+    select T
+config T
+    tristate "t" if m
+    default y
+"#;
+
+/// An int and a hex, each with a default past its range.
+const NUMBERS: &str = r#"
+config N
+    int "n"
+    default 9
+    range 1 5
+config H
+    hex "h"
+    default 0x20
+    range 0x0 0x1f
+"#;
+
 /// Commands, and the count of evaluations after each.
 const OF_TWO: &str = r#"
 show A | 2
@@ -197,6 +246,28 @@ fn a_chain_is_evaluated_without_repeats(rt: HostRuntime) -> Result<(), Fail> {
     )
 }
 
+/// Symbols of which each is visible only where the one before is y. A value is then computed from its visibility alone, so
+/// that all nodes are in one chain.
+fn chain_of_prompts(alloc: Global, count: u32) -> Result<String, Fail> {
+    let mut text = String::from_str(alloc, "config S0\n\tbool \"s\"\n")?;
+    for number in 1..count {
+        let before = number - 1;
+        let entry = format!(in alloc; "config S{number}\n\tbool \"s\" if S{before}\n")?;
+        text.push_str(entry.as_str())?;
+    }
+    Ok(text)
+}
+
+#[test]
+fn a_chain_has_as_many_nodes_as_a_tree(rt: HostRuntime) -> Result<(), Fail> {
+    let kconfig = chain_of_prompts(rt.alloc(), 65_535)?;
+    counts_of(
+        rt.alloc(),
+        kconfig.as_str(),
+        "show S65534 | 131070\nshow S0 | 131070\n",
+    )
+}
+
 /// Commands, and whether the visibility and the value of A and those of B are kept after each.
 const KEPT_OF_TWO: &str = r#"
 frob | nnnn
@@ -270,6 +341,18 @@ set N 9\n | within
 set LOW 10\n | past the other bound
 set N x\n | refused
 unset LOW\n | the default
+set S m\n | it selects a module
+set T m\n | a module
+set MODULES n\n | no modules
+set T y\n | no module
+set S y\n | nor what selects it
+set MODULES y\n | modules again
+unset MODULES\n | the default
+set N 7\n | past a range
+set N 3\n | within
+set H 1F\n | within, as spelt
+set H 20\n | past a range
+unset H\n | the default
 load 3\nCONFIG_A=y\nCONFIG_S=m\nCONFIG_N=8\n | a file
 load 3\nCONFIG_A=y\nCONFIG_S=m\nCONFIG_N=8\n | the same again
 merge 2\nCONFIG_Q=y\nCONFIG_LOW=4\n | more
@@ -336,7 +419,11 @@ fn replies_are_those_of_a_session_that_kept_nothing(rt: HostRuntime) -> Result<(
         (FOUR, 15),
         (CHOICE, 12),
         (OPTIONAL, 10),
-        (REVERSE, 15),
+        (REVERSE, 24),
+        (MODULE, 12),
+        (SELECTED, 17),
+        (SELECTED_IN_MODULES, 17),
+        (NUMBERS, 12),
     ] {
         let count = accepted_in(rt.alloc(), kconfig)?;
         assert_eq!(rt; count, accepted, "in {kconfig}");
