@@ -5,6 +5,8 @@
 #![tactic(auto)]
 
 #[cfg(test)]
+mod calls;
+#[cfg(test)]
 mod failing;
 #[cfg(test)]
 mod failures;
@@ -12,6 +14,8 @@ mod failures;
 mod kept;
 #[cfg(test)]
 mod lines;
+#[cfg(test)]
+mod long_lists;
 #[cfg(test)]
 mod opening;
 #[cfg(test)]
