@@ -9,7 +9,8 @@ use kc_session::Session;
 use kc_tables::{rows, three_fields, two_fields};
 use kc_tree::{ChoiceId, Node, SymId, Tree, Tri};
 use kc_value::{
-    Fresh, NodeValues, Resolver, Value, all_values, assignable, tri, tri_letter, without_user,
+    Fresh, KeptValues, Meter, NodeValues, Resolver, User, Value, all_values, assignable, eval, tri,
+    tri_letter, without_user,
 };
 use std::alloc::Global;
 use std::test::Fail;
@@ -243,6 +244,78 @@ fn conditions_have_values(rt: HostRuntime) -> Result<(), Fail> {
             alloc,
             kconfig.as_str(),
             |alloc, session| compare_conditions(alloc, session, want.as_str()),
+        )?;
+    }
+    Ok(())
+}
+
+/// The value of a node: its text, whether the `.config` has a line for it, and the member that is selected.
+fn show_value(alloc: Global, tree: &Tree, value: Option<&Value>) -> Result<String, Fail> {
+    let Some(value) = value else {
+        return Ok(String::from_str(alloc, "none")?);
+    };
+    let (text, is_written) = (value.as_text(), value.is_written());
+    let member = member_name(tree, value);
+    Ok(format!(in alloc; "{text} {is_written} {member}")?)
+}
+
+/// The nodes whose rules give other values over these than they have among them.
+fn nodes_at_odds(
+    alloc: Global,
+    tree: &Tree,
+    user: &User,
+    values: &NodeValues,
+    meter: &mut Meter,
+) -> Result<usize, Fail> {
+    let mut count: usize = 0;
+    for node in tree.nodes() {
+        let given = eval(alloc, tree, user, values, node, meter)?;
+        let given = show_value(alloc, tree, Some(&given))?;
+        let had = show_value(alloc, tree, values.get(tree.number(node)))?;
+        if given.as_str() != had.as_str() {
+            count = count.saturating_add(1);
+        }
+    }
+    Ok(count)
+}
+
+/// The nodes at odds over all values of a resolver, and how many evaluations were counted.
+fn show_rules<R: Resolver>(alloc: Global, resolver: &mut R) -> Result<String, Fail> {
+    let values = all_values(alloc, resolver)?;
+    let (_, mut meter) = KeptValues::new(alloc, resolver.tree())?.into_parts();
+    let (tree, user) = (resolver.tree(), resolver.user());
+    let at_odds = nodes_at_odds(alloc, tree, user, &values, &mut meter)?;
+    let counted = meter.count() == tree.node_count() as u64;
+    Ok(format!(in alloc; "{at_odds} {counted}")?)
+}
+
+/// The same over a resolver that keeps nothing.
+fn show_fresh_rules(alloc: Global, session: &Session) -> Result<String, Fail> {
+    let mut resolver = Fresh::new(alloc, session.tree(), session.user());
+    show_rules(alloc, &mut resolver)
+}
+
+/// Wants the rule of each node to give its value, over the values of a resolver that keeps nothing and over those of the
+/// session, after commands.
+fn compare_rules(alloc: Global, session: &mut Session, commands: &str) -> Result<(), Fail> {
+    let _ = replies_in(alloc, session, commands)?;
+    let fresh = show_fresh_rules(alloc, session)?;
+    let kept = show_rules(alloc, session)?;
+    if fresh.as_str() == "0 true" && kept.as_str() == "0 true" {
+        return Ok(());
+    }
+    Err(Fail::new(format!(in alloc; "{fresh}, {kept}")?))
+}
+
+#[test]
+fn values_are_what_their_rules_give(rt: HostRuntime) -> Result<(), Fail> {
+    let alloc = rt.alloc();
+    for row in rows(alloc, ANSWERS)? {
+        let (kconfig, commands, _) = three_fields(alloc, row)?;
+        in_session(
+            alloc,
+            kconfig.as_str(),
+            |alloc, session| compare_rules(alloc, session, commands.as_str()),
         )?;
     }
     Ok(())

@@ -3,7 +3,7 @@ use bumpalo::Bump;
 use kc_tables::{rows, three_fields};
 use kc_text::{Line, Sources, Vars, logical_lines};
 use kc_tree::{Node, Tree};
-use kc_value::{Fresh, Meter, NodeValues, Resolver, User, eval, tri_letter};
+use kc_value::{Fresh, KeptValues, NodeValues, Resolver, User, eval, tri_letter};
 use std::alloc::Global;
 use std::test::Fail;
 
@@ -89,7 +89,7 @@ fn show_rule(alloc: Global, tree: &Tree) -> Result<String, Fail> {
     let symbol = tree.find("R").ok_or("no symbol R")?;
     let user = User::empty(alloc, tree)?;
     let none = NodeValues::empty(alloc, 0)?;
-    let mut meter = Meter::new();
+    let (_, mut meter) = KeptValues::new(alloc, tree)?.into_parts();
     let value = eval(alloc, tree, &user, &none, Node::Val(symbol), &mut meter)?;
     let (text, is_written, count) = (value.as_text(), value.is_written(), meter.count());
     Ok(format!(in alloc; "{text} {is_written} {count}")?)
