@@ -1,5 +1,6 @@
 //! Runs of the program as a person sees them: the words, the files, what is written where, and the status.
 mod configs;
+mod default_files;
 mod faults;
 mod outputs;
 mod sessions;

@@ -1,0 +1,175 @@
+//! Default files as `savedefconfig` writes them. From each of them `olddefconfig` makes the `.config` that it makes from the
+//! file that it came from.
+use super::section;
+use crate::running::{run_program, want};
+use std::alloc::Global;
+use std::process::Abort;
+
+/// A block has a title, a Kconfig and a `.config`, and then the default file of these and the new `.config` of either file.
+const DEFAULT_FILES: &str = r#"
+=== A selected tristate that would be y
+--- Kconfig
+config MODULES
+    def_bool y
+    modules
+config S
+    tristate "s"
+    select T
+config T
+    tristate "t" if m
+    default y
+--- .config
+CONFIG_S=m
+# CONFIG_T is not set
+--- default
+CONFIG_S=m
+CONFIG_T=m
+--- new
+CONFIG_MODULES=y
+CONFIG_S=m
+CONFIG_T=m
+--- end
+
+=== A chosen member, and the symbol that it depends on
+--- Kconfig
+config D
+    bool "d"
+choice
+    prompt "ch"
+    default B
+config A
+    bool "a"
+config B
+    bool "b"
+config C
+    bool "c" if D
+endchoice
+--- .config
+CONFIG_C=y
+CONFIG_D=y
+--- default
+CONFIG_D=y
+CONFIG_C=y
+--- new
+CONFIG_D=y
+# CONFIG_A is not set
+# CONFIG_B is not set
+CONFIG_C=y
+--- end
+
+=== A value past its range
+--- Kconfig
+config N
+    int "n"
+    default 9
+    range 1 5
+config H
+    hex "h"
+    default 0x20
+    range 0x0 0x1f
+--- .config
+CONFIG_N=7
+--- default
+--- new
+CONFIG_N=5
+CONFIG_H=0x1f
+--- end
+
+=== A value within its range
+--- Kconfig
+config N
+    int "n"
+    default 9
+    range 1 5
+config H
+    hex "h"
+    default 0x20
+    range 0x0 0x1f
+--- .config
+CONFIG_N=3
+--- default
+CONFIG_N=3
+--- new
+CONFIG_N=3
+CONFIG_H=0x1f
+--- end
+
+=== A text in quotes
+--- Kconfig
+config S
+    string "s"
+--- .config
+CONFIG_S="a\"b\\c"
+--- default
+CONFIG_S="a\"b\\c"
+--- new
+CONFIG_S="a\"b\\c"
+--- end
+
+=== A member of an optional choice
+--- Kconfig
+choice
+    prompt "c"
+    optional
+config P
+    bool "p"
+config Q
+    bool "q"
+endchoice
+--- .config
+CONFIG_P=y
+--- default
+CONFIG_P=y
+--- new
+CONFIG_P=y
+# CONFIG_Q is not set
+--- end
+
+=== A symbol that is not visible any more
+--- Kconfig
+config A
+    bool "a"
+    default y
+config B
+    bool "b"
+    depends on A
+--- .config
+CONFIG_B=y
+# CONFIG_A is not set
+--- default
+# CONFIG_A is not set
+--- new
+# CONFIG_A is not set
+--- end
+"#;
+
+/// Wants a target to write this output for the Kconfig of a block and a `.config`.
+fn target_writes(
+    rt: &impl Abort,
+    alloc: Global,
+    block: &str,
+    target: &str,
+    config: &str,
+    output: &str,
+) {
+    let files = [
+        ("Kconfig", section(block, "Kconfig").as_bytes()),
+        (".config", config.as_bytes()),
+    ];
+    let words = ["kconf", target, "Kconfig", ".config"];
+    let outcome = run_program(alloc, words.as_slice(), files.as_slice(), b"");
+    want(rt, &outcome, 0, output, "", block);
+}
+
+#[test]
+fn a_default_file_gives_the_same_config(rt: HostRuntime) {
+    let alloc = rt.alloc();
+    for block in DEFAULT_FILES.split("=== ").skip(1) {
+        let config = section(block, ".config");
+        let default_file = section(block, "default");
+        let new = section(block, "new");
+        target_writes(&rt, alloc, block, "savedefconfig", config, default_file);
+        target_writes(&rt, alloc, block, "olddefconfig", config, new);
+        target_writes(&rt, alloc, block, "olddefconfig", default_file, new);
+    }
+}
