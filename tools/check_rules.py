@@ -1,10 +1,11 @@
 #!/usr/bin/env python3
-"""Checks that docs/RULES.md names what is there, and that docs/EDITS.md lists the edits of the gate.
+"""Checks that docs/RULES.md names what is there, that docs/EDITS.md lists the edits of the gate, and that kc_files and
+kc_session rest on the contracts of other crates, not on their proofs.
 
     tools/check_rules.py
 
 It is run by hand, after a change of a rule: of a heading in docs/, of a definition, a function, a test, a file of
-cases or an edit. docs/RULES.md says at its beginning what the cells of a row hold. A line is written for each mistake,
+cases, an edit or a proof. docs/RULES.md says at its beginning what the cells of a row hold. A line is written for each mistake,
 and the status is 1 where there is one:
 
 - a row without its five cells, or a cell that names nothing;
@@ -14,7 +15,8 @@ and the status is 1 where there is one:
   not define;
 - a number from K01 to K20 without a row;
 - a file of crates/kc_cases/data that no row names;
-- an edit of crates/NAME/must-fail that docs/EDITS.md does not list below NAME, and one listed there that is not there.
+- an edit of crates/NAME/must-fail that docs/EDITS.md does not list below NAME, and one listed there that is not there;
+- a line of kc_files or kc_session that names the proofs/ of another crate.
 """
 
 import re
@@ -30,6 +32,9 @@ DATA = CRATES / "kc_cases" / "data"
 
 COLUMNS = ("Rule", "Document", "Definition", "Code", "Cases")
 NUMBERS = [f"K{number:02}" for number in range(1, 21)]
+
+# These use the crates below as any other program may: by their public contracts alone.
+RESTING_ON_CONTRACTS = ("kc_files", "kc_session")
 
 
 def text_of(path: Path) -> str:
@@ -212,9 +217,32 @@ def edit_mistakes(text: str) -> Iterator[str]:
     yield from (f"docs/EDITS.md: it lists {edit}, which is not there" for edit in sorted(listed - there))
 
 
+# ------------------------------------------------------------------------------------------------ proofs
+
+
+def cited_crates(line: str) -> Set[str]:
+    """The crates of the repository whose proofs/ a line names: in an import or in the words after `using`."""
+    return set(re.findall(r"\b(kc_\w+)(?:\.|::)proofs\b", line))
+
+
+def sources_of(crate: Path) -> Iterator[Path]:
+    """The files of src/, specs/ and proofs/ of a crate."""
+    for folder, ending in (("src", "rt"), ("specs", "antt"), ("proofs", "antt")):
+        yield from sorted((crate / folder).rglob(f"*.{ending}"))
+
+
+def proof_mistakes(crate: str) -> Iterator[str]:
+    for path in sources_of(CRATES / crate):
+        for number, line in enumerate(text_of(path).split("\n"), start=1):
+            others = sorted(cited_crates(line) - {crate})
+            yield from (f"{shown(path)}:{number}: it names the proofs of {other}" for other in others)
+
+
 def main() -> int:
     rows = list(rows_of(text_of(DOCS / "RULES.md")))
     mistakes = [*mistakes_of(rows), *edit_mistakes(text_of(DOCS / "EDITS.md"))]
+    for crate in RESTING_ON_CONTRACTS:
+        mistakes += proof_mistakes(crate)
     print("\n".join(mistakes) if mistakes else f"{len(rows)} rules")
     return 1 if mistakes else 0
 
