@@ -4,7 +4,7 @@
 #     tools/check_man.sh
 #
 # It is run by hand, after a change of the page or of the command line, and needs groff. What groff warns of is printed,
-# and each word of crates/kconf/src that the page lacks; the status is 1 where there is one.
+# and each word of crates/kc_program/src that the page lacks; the status is 1 where there is one.
 set -eu
 root=$(dirname "$0")/..
 page=$root/docs/kconf.1
