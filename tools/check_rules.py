@@ -16,6 +16,7 @@ mistake, and the status is 1 where there is one:
 - a number from K01 to K20 without a row;
 - a file of crates/kc_cases/data that no row names;
 - an edit of crates/NAME/must-fail that docs/EDITS.md does not list below NAME, and one listed there that is not there;
+- an edit, of the gate or by hand, with a text to be replaced that does not occur once in its file;
 - a line of kc_files or kc_session that names the proofs/ of another crate.
 """
 
@@ -23,7 +24,7 @@ import re
 import sys
 from dataclasses import dataclass
 from pathlib import Path
-from typing import Callable, Iterator, List, Set
+from typing import Callable, Dict, Iterator, List, Set
 
 ROOT = Path(__file__).resolve().parent.parent
 DOCS = ROOT / "docs"
@@ -217,6 +218,29 @@ def edit_mistakes(text: str) -> Iterator[str]:
     yield from (f"docs/EDITS.md: it lists {edit}, which is not there" for edit in sorted(listed - there))
 
 
+def stale_texts(edit: Path) -> Iterator[str]:
+    """The texts of an edit that do not occur once where they are to be replaced."""
+    crate, file, old = CRATES / edit.relative_to(CRATES).parts[0], "", ""
+    texts: Dict[str, str] = {}
+    for line in text_of(edit).split("\n"):
+        word, _, rest = line.partition(": ")
+        if word == "file":
+            file = rest.strip()
+            texts.setdefault(file, text_of(crate / file))
+        elif word == "old":
+            old = rest
+            if texts[file].count(old) != 1:
+                yield old
+        elif word == "new":
+            texts[file] = texts[file].replace(old, rest, 1)
+
+
+def stale_mistakes() -> Iterator[str]:
+    edits = sorted([*CRATES.glob("*/must-fail/*.edit"), *CRATES.glob("*/must-fail/by-hand/*.md")])
+    for edit in edits:
+        yield from (f"{shown(edit)}: {old!r} does not occur once" for old in stale_texts(edit))
+
+
 # ------------------------------------------------------------------------------------------------ proofs
 
 
@@ -240,7 +264,7 @@ def proof_mistakes(crate: str) -> Iterator[str]:
 
 def main() -> int:
     rows = list(rows_of(text_of(DOCS / "RULES.md")))
-    mistakes = [*mistakes_of(rows), *edit_mistakes(text_of(DOCS / "EDITS.md"))]
+    mistakes = [*mistakes_of(rows), *edit_mistakes(text_of(DOCS / "EDITS.md")), *stale_mistakes()]
     for crate in RESTING_ON_CONTRACTS:
         mistakes += proof_mistakes(crate)
     print("\n".join(mistakes) if mistakes else f"{len(rows)} rules")
