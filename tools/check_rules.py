@@ -17,7 +17,8 @@ mistake, and the status is 1 where there is one:
 - a file of crates/kc_cases/data that no row names;
 - an edit of crates/NAME/must-fail that docs/EDITS.md does not list below NAME, and one listed there that is not there;
 - an edit, of the gate or by hand, with a text to be replaced that does not occur once in its file;
-- a line of kc_files or kc_session that names the proofs/ of another crate.
+- a line of kc_files or kc_session that names the proofs/ of another crate;
+- a row of the table of crates in docs/PERFORMANCE.md with another count of functions or of edits than the crate has.
 """
 
 import re
@@ -262,9 +263,35 @@ def proof_mistakes(crate: str) -> Iterator[str]:
             yield from (f"{shown(path)}:{number}: it names the proofs of {other}" for other in others)
 
 
+# ------------------------------------------------------------------------------------------------ counts
+
+
+def function_count(crate: str) -> int:
+    """How many functions are written in src/ of a crate."""
+    function = re.compile(r"^\s*(?:pub(?:\(\w+\))? )?(?:const )?fn ", re.MULTILINE)
+    return sum(len(function.findall(text_of(path))) for path in (CRATES / crate / "src").rglob("*.rt"))
+
+
+def edit_count(crate: str) -> int:
+    return len(list((CRATES / crate / "must-fail").glob("*.edit")))
+
+
+def count_mistakes(text: str) -> Iterator[str]:
+    """The mistakes in the table of crates: crates, their functions, minutes, and the edits that the gate tries."""
+    for line in re.findall(r"^\| k\w+[^|]*\| \d.*$", text, re.MULTILINE):
+        crates, functions, *_, edits = cells_of(line)
+        wanted = ", ".join(str(function_count(crate)) for crate in crates.split(", "))
+        if functions != wanted:
+            yield f"docs/PERFORMANCE.md: the functions of {crates} are {wanted}"
+        wanted_edits = sum(edit_count(crate) for crate in crates.split(", "))
+        if (re.match(r"\d+", edits) or ["0"])[0] != str(wanted_edits):
+            yield f"docs/PERFORMANCE.md: the edits of {crates} are {wanted_edits}"
+
+
 def main() -> int:
     rows = list(rows_of(text_of(DOCS / "RULES.md")))
     mistakes = [*mistakes_of(rows), *edit_mistakes(text_of(DOCS / "EDITS.md")), *stale_mistakes()]
+    mistakes += count_mistakes(text_of(DOCS / "PERFORMANCE.md"))
     for crate in RESTING_ON_CONTRACTS:
         mistakes += proof_mistakes(crate)
     print("\n".join(mistakes) if mistakes else f"{len(rows)} rules")
