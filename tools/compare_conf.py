@@ -12,6 +12,8 @@ take none. For each target and kind of difference the number of differing lines 
 is 1 where a line differs and no kind explains it, else 0. docs/TREES.md says what the kinds are.
 """
 
+from __future__ import annotations
+
 import argparse
 import os
 import random

@@ -12,6 +12,8 @@ kind differs from kconf; a tree is unexplained where Kconfiglib with all rules s
 tree is unexplained, else 0.
 """
 
+from __future__ import annotations
+
 import argparse
 import enum
 import functools

@@ -11,13 +11,15 @@ example has no entry, an entry has no example, or the cases are not those of the
 and the line. With --write it writes the cases.
 """
 
+from __future__ import annotations
+
 import argparse
 import re
 import sys
 from dataclasses import dataclass, field
 from itertools import product
 from pathlib import Path
-from typing import Callable, Iterator
+from typing import Callable, Iterator, Optional, Union
 
 ROOT = Path(__file__).resolve().parent.parent
 DATA = ROOT / "crates" / "kc_cases" / "data"
@@ -286,7 +288,7 @@ class Pairs:
 
 
 # What makes the cases of a row of a table, from its line, its cells and the example before the table.
-RowCases = Callable[[Example, int, list[str], Example | None], Iterator[Case]]
+RowCases = Callable[[Example, int, list[str], Optional[Example]], Iterator[Case]]
 
 
 @dataclass(frozen=True)
@@ -301,7 +303,7 @@ class Rows:
             yield from self.cases_of_row(example, example.line + 2 + number, cells, previous)
 
 
-Entry = Without | Opened | Shown | Written | Faults | Repeated | Pairs | Rows
+Entry = Union[Without, Opened, Shown, Written, Faults, Repeated, Pairs, Rows]
 
 
 def replies_of(example: Example) -> tuple[str, str]:

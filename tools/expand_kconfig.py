@@ -134,7 +134,8 @@ class Expander:
     def matches(self, path: str) -> list[str]:
         if (self.root / path).is_file() or not glob.has_magic(path):
             return [path] if (self.root / path).is_file() else []
-        return sorted(glob.glob(path, root_dir=self.root))
+        found = glob.glob(f"{glob.escape(str(self.root))}/{path}")
+        return sorted(str(Path(name).relative_to(self.root)) for name in found)
 
     def source_of_matches(self, path: str, found: list[str], place: Place) -> str:
         """A `source` line of a file that sources what a pattern matches, as Kconfiglib reads it."""

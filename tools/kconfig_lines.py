@@ -1,5 +1,7 @@
 """Logical lines of a Kconfig file, their tokens, and how tokens are written so that kconf reads them."""
 
+from __future__ import annotations
+
 import re
 from dataclasses import dataclass
 from typing import Iterator

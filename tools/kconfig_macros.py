@@ -4,6 +4,8 @@ Where that document leaves something open, it is as in Kconfiglib 14: how often 
 of digits is an argument, that a variable on the left of an assignment may have references.
 """
 
+from __future__ import annotations
+
 import os
 import re
 import subprocess

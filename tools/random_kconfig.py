@@ -4,6 +4,8 @@ A tree has units: symbols, and choices with their members. Each unit names only 
 tree has a loop; the order in the file is another one, so a symbol may be named before its definition.
 """
 
+from __future__ import annotations
+
 from dataclasses import dataclass, field
 from random import Random
 
