@@ -1,20 +1,18 @@
 -- What is kept once the nodes of symbols or of choices were asked, one after the other.
 use Rattle.std.proofs.Common.{◌≡◌, ℕ, zero, suc, ◌+◌, ◌-◌, ◌*◌, ◌<◌, ◌≤◌, List, [], ◌∷◌, Option, Result, Ok, Err, OnOk, map, length, get_or, refl, sym, ◌∙◌, subst, arith}
 use Rattle.std.specs.List.{Contains, range_with_len}
-use Rattle.std.proofs.lemmas.List.FromFn.{get_or-range_with_len, length-range_with_len}
+use Rattle.std.proofs.lemmas.List.FromFn.{get_or-map-range_with_len, length-map-range_with_len}
 use Rattle.kc_statement.specs.declared.id.SymId.{SymId}
 use Rattle.kc_outline.specs.declared.id.ChoiceId.{ChoiceId}
 use Rattle.kc_outline.specs.TreeValue.{TreeValue}
 use Rattle.kc_tree.specs.declared.node.Node.{Node}
 use Rattle.kc_tree.specs.declared.node.Node.TheVariants.{Vis, Val, Sel}
-use Rattle.kc_tree.specs.Nodes.{IsNodeOf, all_nodes, node_at, node_count, number_of}
-use Rattle.kc_tree.proofs.NodeNumbers.{Contains-at, Contains-from_at, at_below, node_in-number_in, number_below}
+use Rattle.kc_tree.specs.Nodes.{AreNumbered, IsNodeOf, all_nodes, node_at, node_count, number_of}
 use Rattle.kc_value.specs.declared.value.Value.{Value}
 use Rattle.kc_value.specs.Assignment.{assignment_of}
 use Rattle.kc_value.specs.Kept.{IsKept}
 use Rattle.kc_value.specs.Solution.{AreSolved, solution}
-use Rattle.kc_value.proofs.KeptLaws.{fills_again, fills_nothing, fills_wider, kept_after, visibility_kept}
-use Rattle.kc_value.proofs.KeptReading.{kept_right}
+use Rattle.kc_value.specs.FillLaws.{fills_again, fills_nothing, fills_wider, kept_after}
 use Rattle.kc_session.specs.Keeping.{choice_nodes, symbol_nodes}
 use Rattle.kc_session.specs.KeptResolver.{AreAllKept, Asked, IsResolving, ResolverState}
 
@@ -22,21 +20,22 @@ use Rattle.kc_session.specs.KeptResolver.{AreAllKept, Asked, IsResolving, Resolv
 abbrev numbered : TreeValue → ℕ → ℕ → List Node
 numbered t low count = map (node_at t) (range_with_len low count)
 
-in_numbered : (t : TreeValue) (low count : ℕ) (n : Node) → IsNodeOf t n → low ≤ number_of t n → number_of t n < low + count → Contains (numbered t low count) n
-in_numbered t low count n inside from below =
-    let k : ℕ = number_of t n in
-    let at : k - low < count = omega (arith, from, below) in
-    let here : Contains (range_with_len low count) k = (k - low, omega (arith, at, length-range_with_len low count), get_or-range_with_len low count (k - low) k at ∙ omega (arith, from)) in
-    Contains-at (length t.symbols) (range_with_len low count) n (node_in-number_in t n inside) here
+at_number : (t : TreeValue) → AreNumbered t → (n : Node) → IsNodeOf t n → node_at t (number_of t n) ≡ n
+at_number t is n inside =
+    let below : number_of t n < node_count t = is.below n inside in
+    is.alone (node_at t (number_of t n)) n (is.inside (number_of t n) below) inside (is.at (number_of t n) below)
 
-from_numbered : (t : TreeValue) (low count : ℕ) (n : Node) → low + count ≤ node_count t → Contains (numbered t low count) n
-    → IsNodeOf t n × (low ≤ number_of t n) × (number_of t n < low + count)
-from_numbered t low count n few h =
-    let r = Contains-from_at (length t.symbols) (range_with_len low count) n h in
-    let at : r.1.0 < count = omega (arith, r.1.1, length-range_with_len low count) in
-    let is : low + r.1.0 ≡ number_of t n = sym (get_or-range_with_len low count r.1.0 (number_of t n) at) ∙ r.1.2 in
-    let below : number_of t n < low + count = omega (arith, at, is) in
-    (subst (IsNodeOf t) r.0 (at_below t (number_of t n) (omega (arith, below, few))), omega (arith, is), below)
+in_numbered : (t : TreeValue) → AreNumbered t → (low count : ℕ) (n : Node) → IsNodeOf t n → low ≤ number_of t n → number_of t n < low + count
+    → Contains (numbered t low count) n
+in_numbered t is low count n inside from below =
+    let at : number_of t n - low < count = omega (arith, from, below) in
+    (number_of t n - low, omega (arith, at, length-map-range_with_len (node_at t) low count), get_or-map-range_with_len (node_at t) low count (number_of t n - low) (number_of t n) n at (omega (arith, from)) ∙ at_number t is n inside)
+
+from_numbered : (t : TreeValue) → AreNumbered t → (low count : ℕ) (n : Node) → low + count ≤ node_count t → Contains (numbered t low count) n → IsNodeOf t n
+from_numbered t is low count n few h =
+    let within : h.0 < count = omega (arith, h.1, length-map-range_with_len (node_at t) low count) in
+    let same : node_at t (low + h.0) ≡ n = sym (get_or-map-range_with_len (node_at t) low count h.0 (low + h.0) n within refl) ∙ h.2 in
+    subst (IsNodeOf t) same (is.inside (low + h.0) (omega (arith, within, few)))
 
 -- ---- asking some of the nodes once more
 pub asked_again : (p q : List Node) (old mid new : ResolverState) → ((n : Node) → Contains q n → Contains p n) → Asked p old mid → Asked q mid new → Asked p old new
@@ -61,16 +60,17 @@ asked_nothing p r = record {
 }
 
 -- ---- symbols
-symbol_in : (t : TreeValue) (s : SymId) → s.0 < length t.symbols → Contains (symbol_nodes t) (Val s)
-symbol_in t s inside = in_numbered t 0 (2 * length t.symbols) (Val s) inside (omega arith) (omega (arith, inside))
+symbol_in : (t : TreeValue) → AreNumbered t → (s : SymId) → s.0 < length t.symbols → Contains (symbol_nodes t) (Val s)
+symbol_in t is s inside = in_numbered t is 0 (2 * length t.symbols) (Val s) inside (omega arith) (omega (arith, inside))
 
 -- ---- choices
-choice_in : (t : TreeValue) (c : ChoiceId) → c.0 < length t.choices → Contains (choice_nodes t) (Sel c)
-choice_in t c inside = in_numbered t (2 * length t.symbols) (2 * length t.choices) (Sel c) inside (omega arith) (omega (arith, inside))
+choice_in : (t : TreeValue) → AreNumbered t → (c : ChoiceId) → c.0 < length t.choices → Contains (choice_nodes t) (Sel c)
+choice_in t is c inside = in_numbered t is (2 * length t.symbols) (2 * length t.choices) (Sel c) inside (omega arith) (omega (arith, inside))
 
 -- ---- all nodes
-pub all_kept : (t s : TreeValue) (kept : List (Option Value)) → s ≡ t → ((n : Node) → IsNodeOf s n → IsKept s kept n) → (n : Node) → Contains (all_nodes t) n → IsKept s kept n
-all_kept t s kept same all n c = all n (subst (λ x. IsNodeOf x n) (sym same) (from_numbered t 0 (node_count t) n (omega arith) c).0)
+pub all_kept : (t s : TreeValue) (kept : List (Option Value)) → AreNumbered t → s ≡ t → ((n : Node) → IsNodeOf s n → IsKept s kept n) → (n : Node) → Contains (all_nodes t) n
+    → IsKept s kept n
+all_kept t s kept is same all n c = all n (subst (λ x. IsNodeOf x n) (sym same) (from_numbered t is 0 (node_count t) n (omega arith) c))
 
 -- the nodes of some numbers, by another equal tree
 pub numbers_kept : (s : TreeValue) (kept : List (Option Value)) (first count : ℕ) (nodes : List Node) → nodes ≡ numbered s first count
@@ -81,23 +81,23 @@ numbers_kept s kept first count nodes same all n c = all n (subst (λ xs. Contai
 pub all_twice : (old mid new : ResolverState) → Asked (all_nodes old.tree) old mid → Asked (all_nodes mid.tree) mid new → Asked (all_nodes old.tree) old new
 all_twice old mid new f g = asked_again (all_nodes old.tree) (all_nodes mid.tree) old mid new (λ n c. subst (λ x. Contains (all_nodes x) n) f.tree c) f g
 
-pub all_stay : (old mid new : ResolverState) → Asked (all_nodes old.tree) old mid → AreAllKept (all_nodes old.tree) mid → Asked (all_nodes mid.tree) mid new → AreAllKept (all_nodes old.tree) new
-all_stay old mid new f kept g n c =
-    let inside : IsNodeOf mid.tree n = subst (λ x. IsNodeOf x n) (sym f.tree) (from_numbered old.tree 0 (node_count old.tree) n (omega arith) c).0 in
+pub all_stay : (old mid new : ResolverState) → AreNumbered old.tree → Asked (all_nodes old.tree) old mid → AreAllKept (all_nodes old.tree) mid → Asked (all_nodes mid.tree) mid new → AreAllKept (all_nodes old.tree) new
+all_stay old mid new is f kept g n c =
+    let inside : IsNodeOf mid.tree n = subst (λ x. IsNodeOf x n) (sym f.tree) (from_numbered old.tree is 0 (node_count old.tree) n (omega arith) c) in
     kept_after mid.tree new.tree (all_nodes mid.tree) mid.kept new.kept n g.tree inside (kept n c) g.fills
 
 -- ---- what a text is made from is kept
-pub symbols_there : (old new : ResolverState) (t : TreeValue) (kept : List (Option Value)) → t ≡ new.tree → kept ≡ new.kept.values → Asked (symbol_nodes old.tree) old new
+pub symbols_there : (old new : ResolverState) (t : TreeValue) (kept : List (Option Value)) → AreNumbered old.tree → t ≡ new.tree → kept ≡ new.kept.values → Asked (symbol_nodes old.tree) old new
     → AreAllKept (symbol_nodes old.tree) new → (s : SymId) → IsNodeOf t (Val s) → IsKept t kept (Val s)
-symbols_there old new t kept is_t is_kept f all s inside =
+symbols_there old new t kept is is_t is_kept f all s inside =
     let within : s.0 < length old.tree.symbols = subst (λ x. s.0 < length x.symbols) (is_t ∙ f.tree) inside in
-    subst (λ x. IsKept x kept (Val s)) (sym is_t) (subst (λ k. IsKept new.tree k (Val s)) (sym is_kept) (all (Val s) (symbol_in old.tree s within)))
+    subst (λ x. IsKept x kept (Val s)) (sym is_t) (subst (λ k. IsKept new.tree k (Val s)) (sym is_kept) (all (Val s) (symbol_in old.tree is s within)))
 
-pub choices_there : (old new : ResolverState) (t : TreeValue) (kept : List (Option Value)) → t ≡ new.tree → kept ≡ new.kept.values → Asked (choice_nodes old.tree) old new
+pub choices_there : (old new : ResolverState) (t : TreeValue) (kept : List (Option Value)) → AreNumbered old.tree → t ≡ new.tree → kept ≡ new.kept.values → Asked (choice_nodes old.tree) old new
     → AreAllKept (choice_nodes old.tree) new → (c : ChoiceId) → IsNodeOf t (Sel c) → IsKept t kept (Sel c)
-choices_there old new t kept is_t is_kept f all c inside =
+choices_there old new t kept is is_t is_kept f all c inside =
     let within : c.0 < length old.tree.choices = subst (λ x. c.0 < length x.choices) (is_t ∙ f.tree) inside in
-    subst (λ x. IsKept x kept (Sel c)) (sym is_t) (subst (λ k. IsKept new.tree k (Sel c)) (sym is_kept) (all (Sel c) (choice_in old.tree c within)))
+    subst (λ x. IsKept x kept (Sel c)) (sym is_t) (subst (λ k. IsKept new.tree k (Sel c)) (sym is_kept) (all (Sel c) (choice_in old.tree is c within)))
 
 -- the values of all nodes are those of the solution
 pub all_solved : (old new : ResolverState) (t : TreeValue) (kept : List (Option Value)) → t ≡ new.tree → kept ≡ new.kept.values → Asked (all_nodes old.tree) old new
@@ -105,9 +105,10 @@ pub all_solved : (old new : ResolverState) (t : TreeValue) (kept : List (Option 
 all_solved old new t kept is_t is_kept f all sound n inside =
     let within : IsNodeOf new.tree n = subst (λ x. IsNodeOf x n) is_t inside in
     let before : IsNodeOf old.tree n = subst (λ x. IsNodeOf x n) f.tree within in
-    let here : Contains (all_nodes old.tree) n = in_numbered old.tree 0 (node_count old.tree) n before (omega arith) (omega (arith, number_below old.tree n before)) in
+    let numbers : AreNumbered old.tree = subst AreNumbered f.tree sound.laws.numbered in
+    let here : Contains (all_nodes old.tree) n = in_numbered old.tree numbers 0 (node_count old.tree) n before (omega arith) (omega (arith, numbers.below n before)) in
     (λ i. assignment_of (is_t i) (is_kept i) n)
-    ∙ kept_right new.tree new.user new.kept.values sound.kept n within (all n here)
+    ∙ sound.laws.right new.user new.kept.values sound.kept n within (all n here)
     ∙ (λ i. solution (sym is_t i) (f.user i) n)
 
 -- ---- where a call is done
@@ -132,6 +133,6 @@ shown_kept s old new inside f own sound n h = go h.0 h.1 h.2
     value = subst (λ x. IsKept x new.kept.values (Val s)) (sym f.tree) own
 
     go : (k : ℕ) → k < 2 → get_or (Vis s ∷ Val s ∷ []) k n ≡ n → IsKept new.tree new.kept.values n
-    go zero within is = subst (λ x. IsKept new.tree new.kept.values x) is (visibility_kept new.tree new.kept.values s sound.kept.closed (subst (λ x. s.0 < length x.symbols) (sym f.tree) inside) value)
+    go zero within is = subst (λ x. IsKept new.tree new.kept.values x) is (sound.laws.visibility_kept new.kept.values s sound.kept.closed (subst (λ x. s.0 < length x.symbols) (sym f.tree) inside) value)
     go (suc zero) within is = subst (λ x. IsKept new.tree new.kept.values x) is value
     go (suc (suc k)) within is = absurd (omega (arith, within))

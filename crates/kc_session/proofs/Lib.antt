@@ -3,11 +3,12 @@ pub mod Appending
 pub mod AskedLaws
 pub mod BodyHolding
 pub mod BodyLines
-pub mod BodyMeaning
 pub mod Cutting
+pub mod DecimalDigits
 pub mod EvaluationLaws
 mod Examples
 mod ReplyExamples
+pub mod Feeds
 pub mod Holding
 pub mod LineLists
 pub mod Lines

@@ -16,12 +16,13 @@ use Rattle.kc_session.specs.declared.command.Refusal.{Refusal}
 use Rattle.kc_session.specs.declared.command.Refusal.TheVariants.{UnknownCommand, UndefinedSymbol, BadValue, BadMemberValue, BadLineCount, TooLong, NoMemory}
 use Rattle.kc_session.specs.declared.command.Reply.{Reply}
 use Rattle.kc_session.specs.declared.command.Reply.TheVariants.{Done, Refused}
-use Rattle.kc_value.proofs.KeptLaws.{edits_nothing}
+use Rattle.kc_value.specs.Dirty.{Edits}
 use Rattle.kc_session.specs.KeptResolver.{Edited, ResolverState}
 use Rattle.kc_session.specs.Session.{SessionValue, with_user}
 use Rattle.kc_session.specs.Values.{value_of}
 use Rattle.kc_session.specs.Effect.{Outcome, IsOutcome, IsApplied, perform, keeps_text, refuse, give_value, set_member, set_value, set_symbol, set_outcome, loaded, load_outcome}
-use Rattle.kc_session.specs.Bodies.{fits_body, assigns_in, warnings_text_of, IsReadRefusal}
+use Rattle.kc_files.specs.OneReading.{assigns_in}
+use Rattle.kc_session.specs.Bodies.{fits_body, warnings_text_of, IsReadRefusal}
 use Rattle.kc_files.specs.declared.assign.Assign.{Assign}
 use Rattle.kc_files.specs.declared.loading.Load.{Load}
 use Rattle.kc_files.specs.Loading.{user_after}
@@ -136,10 +137,11 @@ chosen_outside t u c m sized out =
     ap (λ x. record { values = u.values; chosen = x }) (set_past u.chosen c.0 m (omega (arith, sized.chosen, out)))
 
 -- .. so that nothing is dropped
-pub edited_outside : (r : ResolverState) (c : ChoiceId) (m : Option SymId) → IsUserFor r.tree r.user → length r.tree.choices ≤ c.0 → Edited r (with_chosen r.user c m) r
-edited_outside r c m sized out =
+pub edited_outside : (r : ResolverState) (c : ChoiceId) (m : Option SymId) → IsUserFor r.tree r.user → length r.tree.choices ≤ c.0 → Edits r.tree r.user r.user r.kept r.kept
+    → Edited r (with_chosen r.user c m) r
+edited_outside r c m sized out stays =
     subst (λ u. Edited r u r) (sym (chosen_outside r.tree r.user c m sized out))
-    (record { tree = refl; user_is = refl; edits = edits_nothing r.tree r.user r.kept })
+    (record { tree = refl; user_is = refl; edits = stays })
 
 -- all places are empty
 pub all_taken : (t : TreeValue) (old new : UserValues) → IsUserFor t old → new.values ≡ replicate (length old.values) None

@@ -1,12 +1,10 @@
 -- This project's own command stream: the body of a load, a `.config`.
-use Rattle.std.specs.Prelude.{◌≡◌, ℕ, ◌&&◌, nat_le, Bool, true, false, List, [], ◌++◌, length, filter_map, codes, decimal}
+use Rattle.std.specs.Prelude.{◌≡◌, ℕ, ◌&&◌, nat_le, Bool, true, false, List, ◌++◌, length, codes, decimal}
 use Rattle.std.specs.List.{flat_map, list_all}
 use Rattle.kc_outline.specs.TreeValue.{TreeValue}
-use Rattle.kc_files.specs.declared.assign.Assign.{Assign}
 use Rattle.kc_files.specs.declared.warning.Warning.{Warning}
-use Rattle.kc_files.specs.ConfigReading.{usable, counting, warnings_from}
 use Rattle.kc_files.specs.LineReading.{warning_number}
-use Rattle.kc_files.specs.LineSteps.{readings_in}
+use Rattle.kc_files.specs.OneReading.{warnings_in}
 use Rattle.kc_session.specs.declared.command.Refusal.{Refusal}
 use Rattle.kc_session.specs.declared.command.Refusal.TheVariants.{TooLong, NoMemory}
 use Rattle.kc_session.specs.Stream.{lines_of, fits_line}
@@ -18,13 +16,6 @@ body_limit = 16_777_216
 -- neither the body is too long nor a line of it
 unfoldable pub fits_body : List ℕ → Bool
 fits_body body = nat_le (length body) body_limit && list_all fits_line (lines_of body)
-
--- The assignments that count, and the warnings. `IsReadAs` says that these are what the body means, and nothing else.
-unfoldable pub assigns_in : TreeValue → List ℕ → List ℕ → List Assign
-assigns_in t prefix body = counting (filter_map usable (readings_in t prefix body))
-
-unfoldable pub warnings_in : TreeValue → List ℕ → List ℕ → List Warning
-warnings_in t prefix body = warnings_from [] 1 (readings_in t prefix body)
 
 -- the line about a warning
 abbrev pub warning_line : Warning → List ℕ

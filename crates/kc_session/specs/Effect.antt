@@ -25,7 +25,8 @@ use Rattle.kc_session.specs.declared.command.Refusal.TheVariants.{UnknownCommand
 use Rattle.kc_session.specs.declared.command.Reply.{Reply}
 use Rattle.kc_session.specs.declared.command.Reply.TheVariants.{Done, Refused}
 use Rattle.kc_session.specs.AllValues.{all_given}
-use Rattle.kc_session.specs.Bodies.{fits_body, assigns_in, warnings_text_of}
+use Rattle.kc_files.specs.OneReading.{assigns_in}
+use Rattle.kc_session.specs.Bodies.{fits_body, warnings_text_of}
 use Rattle.kc_session.specs.Session.{SessionValue, with_user}
 use Rattle.kc_session.specs.ShowLine.{show_line_of, list_text_of}
 use Rattle.kc_session.specs.ChoiceLine.{choices_text_of}

@@ -4,6 +4,7 @@ use Rattle.kc_outline.specs.TreeValue.{TreeValue}
 use Rattle.kc_tree.specs.declared.node.Node.{Node}
 use Rattle.kc_value.specs.Dirty.{Edits}
 use Rattle.kc_value.specs.Kept.{AreKept, IsKept, KeptValue, Fills, nothing_kept}
+use Rattle.kc_value.specs.KeptLaws.{KeptLaws}
 use Rattle.kc_value.specs.UserValues.{UserValues, IsUserFor}
 
 -- the tree, the user values, and the values of nodes that are kept
@@ -16,10 +17,11 @@ pub record ResolverState : Type 0 where
 abbrev pub new_resolver : TreeValue → UserValues → ResolverState
 new_resolver t u = record { tree = t; user = u; kept = nothing_kept t }
 
--- the user values are those of a user of the tree, and what is kept is right
+-- the user values are those of a user of the tree, and what is kept is right, by the laws of what is kept
 pub record IsResolving (r : ResolverState) : Type 0 where
   pub user : IsUserFor r.tree r.user
   pub kept : AreKept r.tree r.user r.kept.values
+  pub laws : KeptLaws r.tree
 
 -- asked for some nodes, it keeps more: those that it evaluated
 pub record Asked (nodes : List Node) (old new : ResolverState) : Type 0 where

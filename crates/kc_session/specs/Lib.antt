@@ -2,6 +2,7 @@ pub mod AllValues
 pub mod AllValueSteps
 pub mod Bodies
 pub mod Commands
+pub mod DefaultReply
 pub mod Effect
 pub mod EvaluationBound
 pub mod Held

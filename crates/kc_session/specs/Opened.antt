@@ -13,7 +13,8 @@ use Rattle.kc_outline.specs.TreeValue.{TreeValue}
 use Rattle.kc_value.specs.UserValues.{UserValues, no_values}
 use Rattle.kc_files.specs.Loading.{user_after}
 use Rattle.kc_files.specs.declared.loading.Load.TheVariants.{Replace}
-use Rattle.kc_session.specs.Bodies.{fits_body, assigns_in}
+use Rattle.kc_files.specs.OneReading.{assigns_in}
+use Rattle.kc_session.specs.Bodies.{fits_body}
 use Rattle.kc_session.specs.Session.{SessionValue}
 
 -- the user values that a `.config` gives a tree without any

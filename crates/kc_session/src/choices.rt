@@ -6,6 +6,7 @@ ghost use Rattle.kc_tree.specs.declared.node.Node.TheVariants.{Mode, Sel};
 ghost use Rattle.kc_tree.specs.Nodes.{IsNodeOf};
 ghost use Rattle.kc_outline.specs.TreeValue.{choice_title};
 ghost use Rattle.kc_value.specs.Kept.{IsKept, AreKept};
+ghost use Rattle.kc_value.specs.KeptLaws.{KeptLaws};
 ghost use Rattle.kc_files.specs.Quoting.{quoted};
 ghost use Rattle.kc_session.specs.ChoiceLine.{choice_line_of, choices_text_of, member_text};
 
@@ -62,6 +63,7 @@ fn choice_line(
 ) -> Result<String, AllocError>
     requires inside { IsNodeOf tree.now (Mode choice) }
     requires kept { AreKept tree.now user.now values.now }
+    requires laws { KeptLaws tree.now }
     requires asked { IsKept tree.now values.now (Sel choice) }
     ensures { IfOk result (λ text. string_bytes text ≡ choice_line_of tree.now user.now choice) }
 {
@@ -96,6 +98,7 @@ pub(crate) fn choices_text(
     values: &NodeValues,
 ) -> Result<String, AllocError>
     requires kept { AreKept tree.now user.now values.now }
+    requires laws { KeptLaws tree.now }
     requires asked { (c : ChoiceId) → IsNodeOf tree.now (Sel c) → IsKept tree.now values.now (Sel c) }
     ensures { IfOk result (λ text. string_bytes text ≡ choices_text_of tree.now user.now) }
 {

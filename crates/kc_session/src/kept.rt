@@ -1,6 +1,5 @@
 //! What the texts read of kept values.
 ghost use Rattle.std.specs.Prelude.{◌≡◌};
-ghost use Rattle.kc_tree.specs.Accepted.{IsAccepted};
 ghost use Rattle.kc_tree.specs.Nodes.{IsNodeOf};
 ghost use Rattle.kc_value.specs.Kept.{IsKept, AreKept};
 ghost use Rattle.kc_value.specs.Solution.{solution};
@@ -13,8 +12,7 @@ use kc_value::{NodeValues, Value};
 pub(crate) fn kept_value<'a>(tree: &Tree, values: &'a NodeValues, node: Node) -> &'a Value
     requires inside { IsNodeOf tree.now node }
     requires kept { IsKept tree.now values.now node }
-    ensures value { (u : UserValues) → AreKept tree.now u values.now → result.now ≡ solution tree.now u node }
-    ensures accepted { IsAccepted tree.now }
+    ensures { (u : UserValues) → AreKept tree.now u values.now → result.now ≡ solution tree.now u node }
 {
     match values.get(tree.number(node)) {
         Some(value) => value,

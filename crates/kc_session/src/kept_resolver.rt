@@ -4,7 +4,9 @@ ghost use Rattle.std.specs.Prelude.{◌≡◌, [], ◌∷◌, IfOk, IfErr, OnOk,
 ghost use Rattle.kc_session.specs.Keeping.{symbol_nodes, choice_nodes};
 ghost use Rattle.kc_session.specs.KeptResolver.{new_resolver, AreAllKept, Asked, IsResolving};
 ghost use Rattle.kc_tree.specs.Nodes.{IsNodeOf, all_nodes};
-ghost use Rattle.kc_value.specs.Kept.{is_kept, nothing_kept, IsKept};
+ghost use Rattle.kc_value.specs.Dirty.{Edits};
+ghost use Rattle.kc_value.specs.Kept.{is_kept, nothing_kept, AreKept, IsKept};
+ghost use Rattle.kc_value.specs.KeptLaws.{KeptLaws};
 ghost use Rattle.kc_value.specs.Solution.{solution, IsOnlySolution};
 ghost use Rattle.kc_value.specs.UserValues.{UserValues, IsUserFor, no_values};
 
@@ -41,12 +43,11 @@ impl Model for KeptResolver {
 }
 
 impl KeptResolver {
-    /// A tree without user values. Nothing is kept yet. Whatever the user values are later, the tree has one solution.
+    /// A tree without user values. Nothing is kept yet.
     ///
     /// The error comes where memory is refused, with the tree.
     pub(crate) fn new(alloc: Global, tree: Tree) -> Result<KeptResolver, (Tree, AllocError)>
         ensures ok { IfOk result (λ r. r ≡ new_resolver tree (no_values tree)) }
-        ensures solved { OnOk result ((u : UserValues) → IsOnlySolution tree u (solution tree u)) }
         ensures err { IfErr result (λ e. e.0 ≡ tree) }
     {
         match User::empty(alloc, &tree) {
@@ -83,10 +84,24 @@ impl KeptResolver {
     fn parts(alloc: Global, tree: &Tree) -> Result<(User, KeptValues), AllocError>
         ensures next { IfOk result (λ r. r.0 ≡ no_values tree.now) }
         ensures kept { IfOk result (λ r. r.1 ≡ nothing_kept tree.now) }
+        ensures right { (u : UserValues) → AreKept tree.now u (nothing_kept tree.now).values }
+        ensures laws { KeptLaws tree.now }
         ensures solved { (u : UserValues) → IsOnlySolution tree.now u (solution tree.now u) }
     {
-        let next = User::empty(alloc, tree)?;
-        Ok((next, KeptValues::new(alloc, tree)?))
+        let kept = KeptValues::new(alloc, tree)?;
+        Ok((User::empty(alloc, tree)?, kept))
+    }
+
+    /// What is true of a resolver, whatever was done before: what is kept is right, and whatever the user values are, the
+    /// tree has one solution, and no other. Besides, the laws of what is kept; by one of them an edit that changes no user
+    /// value drops nothing.
+    pub(crate) fn facts(&self)
+        ensures right { AreKept self.now.tree self.now.user self.now.kept.values }
+        ensures solved { (u : UserValues) → IsOnlySolution self.now.tree u (solution self.now.tree u) }
+        ensures laws { KeptLaws self.now.tree }
+        ensures stays { Edits self.now.tree self.now.user self.now.user self.now.kept self.now.kept }
+    {
+        let _ = self.kept.values();
     }
 
     /// How many evaluations there were.
@@ -128,6 +143,7 @@ impl KeptResolver {
         ensures asked { Asked (node ∷ []) self.old self.new }
         ensures done { OnOk result (IsKept self.old.tree self.new.kept.values node) }
         ensures known { IsKept self.old.tree self.old.kept.values node → IsOk result }
+        ensures laws { KeptLaws self.old.tree }
         ensures sound { IsResolving self.new }
         ensures solved { IsOnlySolution self.old.tree self.old.user (solution self.old.tree self.old.user) }
     {
@@ -140,6 +156,7 @@ impl KeptResolver {
     pub(crate) fn fill_symbols(&mut self) -> Result<(), AllocError>
         ensures asked { Asked (symbol_nodes self.old.tree) self.old self.new }
         ensures done { OnOk result (AreAllKept (symbol_nodes self.old.tree) self.new) }
+        ensures laws { KeptLaws self.old.tree }
     {
         let count = 2 * self.tree.symbols().len();
         self.kept
@@ -152,6 +169,7 @@ impl KeptResolver {
     pub(crate) fn fill_choices(&mut self) -> Result<(), AllocError>
         ensures asked { Asked (choice_nodes self.old.tree) self.old self.new }
         ensures done { OnOk result (AreAllKept (choice_nodes self.old.tree) self.new) }
+        ensures laws { KeptLaws self.old.tree }
     {
         let first = 2 * self.tree.symbols().len();
         let count = 2 * self.tree.choices().len();
@@ -165,6 +183,7 @@ impl KeptResolver {
     pub(crate) fn fill_all(&mut self) -> Result<(), AllocError>
         ensures asked { Asked (all_nodes self.old.tree) self.old self.new }
         ensures done { OnOk result (AreAllKept (all_nodes self.old.tree) self.new) }
+        ensures laws { KeptLaws self.old.tree }
     {
         self.kept.fill_all(self.alloc, &self.tree, &self.user)
     }
@@ -175,7 +194,7 @@ impl Resolver for KeptResolver {
     ghost use Rattle.std.specs.Io.BufRead.{Rests};
     ghost use Rattle.std.proofs.Common.{refl, ◌∙◌};
     ghost use Rattle.kc_session.specs.contracts.kept_resolver.KeptResolver.{the_row};
-    ghost use Rattle.kc_value.proofs.KeptLaws.{fills_nothing, fills_then, fills_wider, kept_after};
+    ghost use Rattle.kc_value.specs.FillLaws.{fills_nothing, fills_then, fills_wider, kept_after};
 
     ghost tree_of = { λ r. r.tree };
 

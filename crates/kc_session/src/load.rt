@@ -1,8 +1,9 @@
 //! What the body of a load gives a tree.
 ghost use Rattle.std.specs.Prelude.{◌≡◌, ◌++◌, All, IfOk, IfErr, OnOk, true};
 ghost use Rattle.std.specs.String.{string_bytes};
-ghost use Rattle.kc_files.specs.LineReading.{IsAssignFor};
-ghost use Rattle.kc_session.specs.Bodies.{fits_body, assigns_in, warnings_in, warning_line, warnings_text, IsReadRefusal};
+ghost use Rattle.kc_files.specs.LineReading.{IsAssignFor, IsUnfed};
+ghost use Rattle.kc_files.specs.OneReading.{assigns_in, warnings_in};
+ghost use Rattle.kc_session.specs.Bodies.{fits_body, warning_line, warnings_text, IsReadRefusal};
 
 use crate::body::fits_body;
 use crate::command::Refusal;
@@ -10,7 +11,7 @@ use kc_files::{Assign, Prefix, Warning, read_config};
 use kc_tree::Tree;
 use std::alloc::{AllocError, Global};
 
-/// The assignments of a body that count, and its warnings.
+/// The assignments of a body that count, and its warnings. No value that is read has a line feed.
 ///
 /// # Errors
 ///
@@ -24,6 +25,7 @@ pub(crate) fn read_body(
     ensures fits { IfOk result (λ r. fits_body body.now ≡ true) }
     ensures assigns { IfOk result (λ r. r.0.items ≡ assigns_in tree.now prefix.now body.now) }
     ensures fitting { IfOk result (λ r. All (IsAssignFor tree.now) r.0.items) }
+    ensures unfed { IfOk result (λ r. All IsUnfed r.0.items) }
     ensures warnings { IfOk result (λ r. r.1.items ≡ warnings_in tree.now prefix.now body.now) }
     ensures refusal { IfErr result (IsReadRefusal body.now) }
 {

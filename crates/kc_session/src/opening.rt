@@ -1,13 +1,16 @@
 //! From the texts of a Kconfig to a session.
-ghost use Rattle.std.specs.Prelude.{◌≡◌, All, IfOk, IfErr, OnOk, Ok, Err, true};
+ghost use Rattle.std.specs.Prelude.{◌≡◌, ℕ, List, All, IfOk, IfErr, OnOk, Ok, Err, true};
 ghost use Rattle.kc_text.specs.Expansion.{texts_in};
 ghost use Rattle.kc_text.specs.Reading.{logical_lines_of};
 ghost use Rattle.kc_tree.specs.Parsed.{IsTreeOf, IsFaultOf};
 ghost use Rattle.kc_value.specs.Solution.{solution, IsOnlySolution};
 ghost use Rattle.kc_value.specs.Kept.{nothing_kept};
 ghost use Rattle.kc_value.specs.UserValues.{UserValues, IsUserFor};
-ghost use Rattle.kc_files.specs.LineReading.{IsAssignFor};
-ghost use Rattle.kc_session.specs.Bodies.{fits_body, assigns_in, warnings_in};
+ghost use Rattle.kc_files.specs.DefaultLoading.{HasNoFeeds};
+ghost use Rattle.kc_files.specs.LineReading.{IsAssignFor, IsUnfed};
+ghost use Rattle.kc_files.specs.OneReading.{assigns_in, warnings_in, IsReadAs};
+ghost use Rattle.kc_session.specs.Bodies.{fits_body};
+ghost use Rattle.kc_session.specs.Keeping.{KeepsRight};
 ghost use Rattle.kc_session.specs.Opened.{IsOpened, IsOpenFault, IsTextFaultOf, IsTreeFaultOf, IsConfigFault, user_of_config};
 
 use crate::command::Refusal;
@@ -74,6 +77,7 @@ fn read_assigns(
     ensures fits { OnOk result (fits_body config.now ≡ true) }
     ensures assigns { IfOk result (λ r. r.0.items ≡ assigns_in tree.now prefix.now config.now) }
     ensures fitting { IfOk result (λ r. All (IsAssignFor tree.now) r.0.items) }
+    ensures unfed { IfOk result (λ r. All IsUnfed r.0.items) }
     ensures warnings { IfOk result (λ r. r.1.items ≡ warnings_in tree.now prefix.now config.now) }
     ensures fault { IfErr result (IsConfigFault config.now) }
 {
@@ -84,8 +88,7 @@ fn read_assigns(
     }
 }
 
-/// The user values that a `.config` gives a tree, and its warnings. Whatever they are later, the tree has one solution,
-/// and no other.
+/// The user values that a `.config` gives a tree, and its warnings.
 fn read_user(
     alloc: Global,
     tree: &Tree,
@@ -95,8 +98,8 @@ fn read_user(
     ensures fits { OnOk result (fits_body config.now ≡ true) }
     ensures values { IfOk result (λ r. r.0 ≡ user_of_config tree.now prefix.now config.now) }
     ensures user { IfOk result (λ r. IsUserFor tree.now r.0) }
+    ensures unfed { IfOk result (λ r. HasNoFeeds r.0) }
     ensures warnings { IfOk result (λ r. r.1.items ≡ warnings_in tree.now prefix.now config.now) }
-    ensures solved { OnOk result ((u : UserValues) → IsOnlySolution tree.now u (solution tree.now u)) }
     ensures fault { IfErr result (IsConfigFault config.now) }
 {
     let (assigns, warnings) = read_assigns(alloc, tree, prefix, config)?;
@@ -109,7 +112,8 @@ fn read_user(
 
 /// The session of the Kconfig that begins with the top file, with the user values of a `.config`, and its warnings in
 /// the order of its lines: as after a `load` of it, and without any where it is empty. The session's values are those of
-/// the only solution. It keeps a copy of the prefix.
+/// the only solution, also where its user values become others. No text of the user has a line feed. It keeps a copy of
+/// the prefix.
 ///
 /// # Errors
 ///
@@ -128,8 +132,11 @@ pub fn open(
 ) -> Result<(Session, Vec<Warning>), OpenFault>
     ensures opened { IfOk result (λ r. IsOpened sources.now vars.now top.now prefix.now config.now r.0.session) }
     ensures warnings { IfOk result (λ r. r.1.items ≡ warnings_in r.0.session.tree prefix.now config.now) }
+    ensures unfed { IfOk result (λ r. HasNoFeeds r.0.session.user) }
+    ensures bodies { IfOk result (λ r. (body : List ℕ) → IsReadAs r.0.session.tree r.0.session.prefix body) }
     ensures nothing_kept { IfOk result (λ r. r.0.kept ≡ nothing_kept r.0.session.tree) }
-    ensures solved { IfOk result (λ r. IsOnlySolution r.0.session.tree r.0.session.user (solution r.0.session.tree r.0.session.user)) }
+    ensures right { IfOk result (λ r. KeepsRight r.0) }
+    ensures solved { IfOk result (λ r. (u : UserValues) → IsOnlySolution r.0.session.tree u (solution r.0.session.tree u)) }
     ensures fault { IfErr result (IsOpenFault sources.now vars.now top.now config.now) }
 {
     open_seeded(alloc, Seed::fixed(), sources, vars, top, prefix, config)
@@ -153,8 +160,11 @@ pub fn open_seeded(
 ) -> Result<(Session, Vec<Warning>), OpenFault>
     ensures opened { IfOk result (λ r. IsOpened sources.now vars.now top.now prefix.now config.now r.0.session) }
     ensures warnings { IfOk result (λ r. r.1.items ≡ warnings_in r.0.session.tree prefix.now config.now) }
+    ensures unfed { IfOk result (λ r. HasNoFeeds r.0.session.user) }
+    ensures bodies { IfOk result (λ r. (body : List ℕ) → IsReadAs r.0.session.tree r.0.session.prefix body) }
     ensures nothing_kept { IfOk result (λ r. r.0.kept ≡ nothing_kept r.0.session.tree) }
-    ensures solved { IfOk result (λ r. IsOnlySolution r.0.session.tree r.0.session.user (solution r.0.session.tree r.0.session.user)) }
+    ensures right { IfOk result (λ r. KeepsRight r.0) }
+    ensures solved { IfOk result (λ r. (u : UserValues) → IsOnlySolution r.0.session.tree u (solution r.0.session.tree u)) }
     ensures fault { IfErr result (IsOpenFault sources.now vars.now top.now config.now) }
 {
     let arena = Bump::new(alloc);

@@ -3,6 +3,7 @@
 ghost use Rattle.std.specs.Prelude.{◌≡◌, [], ◌∷◌, IfOk, OnOk};
 ghost use Rattle.std.specs.String.{string_bytes};
 ghost use Rattle.kc_files.specs.ConfigText.{config_text_of};
+ghost use Rattle.kc_files.specs.DefaultLoading.{HasNoFeeds, KeepsChanges};
 ghost use Rattle.kc_files.specs.DefaultText.{default_text_of};
 ghost use Rattle.kc_files.specs.HeaderText.{header_text_of};
 ghost use Rattle.kc_files.specs.NewText.{new_text_of};
@@ -87,10 +88,12 @@ impl KeptResolver {
         Ok(text)
     }
 
-    /// The default file.
+    /// The default file: where no text of the user has a line feed, it keeps what the user changed.
     pub(crate) fn defconfig(&mut self, alloc: Global, prefix: &Prefix) -> Result<String, AllocError>
         ensures text { IfOk result
             (λ text. string_bytes text ≡ default_text_of self.old.tree self.old.user prefix.now) }
+        ensures keeps { HasNoFeeds self.old.user → IfOk result
+            (λ text. KeepsChanges self.old.tree self.old.user prefix.now (string_bytes text)) }
         ensures asked { Asked (all_nodes self.old.tree) self.old self.new }
         ensures done { OnOk result (AreAllKept (all_nodes self.old.tree) self.new) }
     {

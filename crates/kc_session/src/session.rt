@@ -1,8 +1,9 @@
 //! A session: a tree, user values, and the commands that read and change them.
-ghost use Rattle.std.specs.Prelude.{◌≡◌, ◌⊎◌, [], true, None, All, IfSome, IfOk, IfErr, OnErr};
+ghost use Rattle.std.specs.Prelude.{◌≡◌, ◌⊎◌, ℕ, List, [], true, None, All, IfSome, IfOk, IfErr, OnErr};
 ghost use Rattle.std.specs.String.{string_bytes};
+ghost use Rattle.kc_value.specs.KeptLaws.{KeptLaws};
 ghost use Rattle.kc_value.specs.Solution.{solution, IsOnlySolution};
-ghost use Rattle.kc_value.specs.UserValues.{chosen_in};
+ghost use Rattle.kc_value.specs.UserValues.{UserValues, chosen_in};
 ghost use Rattle.kc_value.specs.ChoiceRule.{is_symbol};
 
 use crate::all_values::AllValue;
@@ -47,14 +48,17 @@ impl Session {
     ghost use Rattle.kc_value.specs.Kept.{is_kept};
     ghost use Rattle.kc_value.specs.UserValues.{with_chosen};
     ghost use Rattle.kc_files.specs.ConfigText.{type_of};
-    ghost use Rattle.kc_files.specs.LineReading.{IsAssignFor};
+    ghost use Rattle.kc_files.specs.DefaultLoading.{HasNoFeeds};
+    ghost use Rattle.kc_files.specs.LineReading.{IsAssignFor, IsUnfed};
     ghost use Rattle.kc_files.specs.Loading.{user_after};
     ghost use Rattle.kc_session.specs.AllValues.{all_given};
-    ghost use Rattle.kc_session.specs.Bodies.{fits_body, assigns_in, warnings_text_of, IsReadRefusal};
+    ghost use Rattle.kc_files.specs.OneReading.{assigns_in, IsReadAs};
+    ghost use Rattle.kc_session.specs.Bodies.{fits_body, warnings_text_of, IsReadRefusal};
+    ghost use Rattle.kc_session.specs.DefaultReply.{HasNoFeed, IsEnough, IsLoad, KeepsTheChanges};
     ghost use Rattle.kc_session.specs.Effect.{IsApplied, IsOutcome, IsReplyTo, set_member, set_value, set_symbol, unset_outcome, unset_symbol, unchosen, reset_outcome, load_outcome, show_outcome, list_outcome, choices_outcome, config_outcome, header_outcome, defconfig_outcome, new_outcome};
 
     /// A session of a tree, without user values, with the prefix of the names in files. Its values are those of the only
-    /// solution, and none is kept yet.
+    /// solution, also where its user values become others, and none is kept yet.
     ///
     /// # Errors
     ///
@@ -65,34 +69,39 @@ impl Session {
         prefix: Prefix,
     ) -> Result<Session, (Tree, Prefix, AllocError)>
         ensures ok { IfOk result (λ s. s ≡ new_state (new_session tree prefix)) }
-        ensures solved { IfOk result (λ s. IsOnlySolution s.session.tree s.session.user (solution s.session.tree s.session.user)) }
+        ensures right { IfOk result KeepsRight }
+        ensures unfed { IfOk result (λ s. HasNoFeeds s.session.user) }
+        ensures solved { IfOk result (λ s. (u : UserValues) → IsOnlySolution s.session.tree u (solution s.session.tree u)) }
         ensures err { IfErr result (λ e. (e.0 ≡ tree) × (e.1 ≡ prefix)) }
     {
         match KeptResolver::new(alloc, tree) {
-            Ok(resolver) => Ok(Session {
-                alloc,
-                resolver,
-                prefix,
-            }),
+            Ok(resolver) => Ok(Session::of(alloc, resolver, prefix)),
             Err((tree, fault)) => Err((tree, prefix, fault)),
         }
     }
 
     /// A session of a resolver.
     pub(crate) fn of(alloc: Global, resolver: KeptResolver, prefix: Prefix) -> Session
-        ensures { result ≡ record { session = record { tree = resolver.tree; user = resolver.user; prefix = prefix }; kept = resolver.kept } }
+        ensures is { result ≡ record { session = record { tree = resolver.tree; user = resolver.user; prefix = prefix }; kept = resolver.kept } }
+        ensures right { KeepsRight result }
+        ensures solved { (u : UserValues) → IsOnlySolution result.session.tree u (solution result.session.tree u) }
+        ensures bodies { (body : List ℕ) → IsReadAs result.session.tree result.session.prefix body }
     {
-        Session {
+        let session = Session {
             alloc,
             resolver,
             prefix,
-        }
+        };
+        session.facts();
+        session
     }
 
     /// Whether the value of a node is kept: it is the solution's then, and a query of it evaluates nothing.
     pub fn is_kept(&self, node: Node) -> bool
-        ensures { result ≡ is_kept self.now.session.tree self.now.kept.values node }
+        ensures kept { result ≡ is_kept self.now.session.tree self.now.kept.values node }
+        ensures right { KeepsRight self.now }
     {
+        self.facts();
         self.resolver.is_kept(node)
     }
 
@@ -103,11 +112,18 @@ impl Session {
         self.resolver.evals()
     }
 
-    /// What is kept is right, whatever was done before.
-    fn check(&self)
-        ensures { KeepsRight self.now }
+    /// What is true of a session, whatever was done before: what is kept is right; whatever the user values are, the tree
+    /// has one solution, and no other; and each body has one reading. Besides, the laws of what is kept; by one of them an
+    /// edit that changes no user value drops nothing.
+    pub(crate) fn facts(&self)
+        ensures right { KeepsRight self.now }
+        ensures solved { (u : UserValues) → IsOnlySolution self.now.session.tree u (solution self.now.session.tree u) }
+        ensures bodies { (body : List ℕ) → IsReadAs self.now.session.tree self.now.session.prefix body }
+        ensures laws { KeptLaws self.now.session.tree }
+        ensures stays { EditsKept self.now self.now }
     {
-        let _ = self.resolver.values();
+        self.resolver.facts();
+        let _ = self.prefix.as_str();
     }
 
     /// Does one command. A refusal changes nothing, and only a query, a load and an edit that keeps a text can be refused
@@ -115,15 +131,23 @@ impl Session {
     ///
     /// An edit drops exactly the values that it can change, and evaluates nothing. A query evaluates each node once that
     /// its answer is computed from and that is not kept, and keeps the values, also where it is refused its memory.
+    ///
+    /// A body of a load is read as its lines mean it, which is one way and no other. User values without line feeds stay
+    /// so unless a `set` gives a value with one, and the default file then keeps what the user changed, with no line too
+    /// many.
     pub fn apply(&mut self, command: Command<'_>) -> Reply
         ensures applied { IsApplied self.old.session command.entry result self.new.session }
         ensures keeps { Keeps self.old command.entry result self.new }
         ensures right_before { KeepsRight self.old }
         ensures right { KeepsRight self.new }
+        ensures solved { (u : UserValues) → IsOnlySolution self.old.session.tree u (solution self.old.session.tree u) }
+        ensures bodies { (body : List ℕ) → IsReadAs self.old.session.tree self.old.session.prefix body }
+        ensures enough { IsEnough self.old.session command.entry result }
+        ensures unfed { HasNoFeed command.entry → HasNoFeeds self.old.session.user → HasNoFeeds self.new.session.user }
     {
-        self.check();
+        self.facts();
         let reply = self.perform(command);
-        self.check();
+        self.facts();
         reply
     }
 
@@ -132,6 +156,8 @@ impl Session {
     fn perform(&mut self, command: Command<'_>) -> Reply
         ensures applied { IsApplied self.old.session command.entry result self.new.session }
         ensures keeps { Keeps self.old command.entry result self.new }
+        ensures enough { IsEnough self.old.session command.entry result }
+        ensures unfed_load { IsLoad command.entry → HasNoFeeds self.old.session.user → HasNoFeeds self.new.session.user }
     {
         match command {
             Command::Set(name, value) => self.set(name.as_str(), value.as_str()),
@@ -159,14 +185,23 @@ impl Session {
         self.resolver.tree().find(name)
     }
 
-    #[tactic(auto, using(crate::proofs::Outcomes::unknown_applied, crate::proofs::Outcomes::symbol_applied, kc_value::proofs::KeptLaws::edits_nothing))]
+    /// The reply to an edit that is refused: it changes no user value, and drops nothing.
+    fn refuse(&self, refusal: Refusal) -> Reply
+        ensures reply { result ≡ Reply.Refused refusal }
+        ensures edits { EditsKept self.now self.now }
+    {
+        self.facts();
+        Reply::Refused(refusal)
+    }
+
+    #[tactic(auto, using(crate::proofs::Outcomes::unknown_applied, crate::proofs::Outcomes::symbol_applied))]
     fn set(&mut self, name: &str, value: &str) -> Reply
         ensures applied { IsApplied self.old.session (Command.Set name.now value.now) result self.new.session }
         ensures edits { EditsKept self.old self.new }
     {
         match self.find(name) {
             Some(symbol) => self.set_symbol(symbol, value),
-            None => Reply::Refused(Refusal::UndefinedSymbol),
+            None => self.refuse(Refusal::UndefinedSymbol),
         }
     }
 
@@ -184,7 +219,6 @@ impl Session {
     }
 
     /// Makes a member of a choice the chosen one.
-    #[tactic(auto, using(kc_value::proofs::KeptLaws::edits_nothing))]
     fn set_member(&mut self, member: SymId, choice: ChoiceId, value: &str) -> Reply
         ensures reply { result ≡ (set_member self.old.session member choice value.now).reply }
         ensures session { self.new.session ≡ with_user self.old.session (set_member self.old.session member choice value.now).user }
@@ -194,12 +228,12 @@ impl Session {
             self.resolver.choose(choice, Some(member));
             done(self.alloc)
         } else {
-            Reply::Refused(Refusal::BadMemberValue)
+            self.refuse(Refusal::BadMemberValue)
         }
     }
 
     /// Gives a symbol that is no member a value.
-    #[tactic(auto, using(crate::proofs::Outcomes::value_refused, crate::proofs::Outcomes::value_kept, crate::proofs::Outcomes::value_starved, crate::proofs::Spelling::spelled_fits, kc_value::proofs::KeptLaws::edits_nothing))]
+    #[tactic(auto, using(crate::proofs::Outcomes::value_refused, crate::proofs::Outcomes::value_kept, crate::proofs::Outcomes::value_starved, crate::proofs::Spelling::spelled_fits))]
     fn set_value(&mut self, symbol: SymId, value: &str) -> Reply
         requires inside { IsNodeOf self.old.session.tree (Vis symbol) }
         requires alone { choice_of self.old.session.tree symbol ≡ None }
@@ -211,12 +245,11 @@ impl Session {
                 self.resolver.set(symbol, value);
                 done(self.alloc)
             }
-            Ok(None) => Reply::Refused(Refusal::BadValue),
-            Err(_) => Reply::Refused(Refusal::NoMemory),
+            Ok(None) => self.refuse(Refusal::BadValue),
+            Err(_) => self.refuse(Refusal::NoMemory),
         }
     }
 
-    #[tactic(auto, using(kc_value::proofs::KeptLaws::edits_nothing))]
     fn unset(&mut self, name: &str) -> Reply
         ensures reply { result ≡ (unset_outcome self.old.session name.now).reply }
         ensures session { self.new.session ≡ with_user self.old.session (unset_outcome self.old.session name.now).user }
@@ -224,7 +257,7 @@ impl Session {
     {
         match self.find(name) {
             Some(symbol) => self.unset_symbol(symbol),
-            None => Reply::Refused(Refusal::UndefinedSymbol),
+            None => self.refuse(Refusal::UndefinedSymbol),
         }
     }
 
@@ -245,13 +278,13 @@ impl Session {
     }
 
     /// Leaves a choice without a chosen member, where this one is chosen.
-    #[tactic(auto, using(kc_value::proofs::KeptLaws::edits_nothing))]
     fn unset_member(&mut self, member: SymId, choice: ChoiceId) -> Reply
         ensures reply { result ≡ Reply.Done [] }
         ensures session { self.new.session ≡ with_user self.old.session (unchosen self.old.session.user member choice) }
         ensures edits { EditsKept self.old self.new }
     {
         if !is_chosen(self.resolver.user(), member, choice) {
+            self.facts();
             return done(self.alloc);
         }
         self.resolver.choose(choice, None);
@@ -269,25 +302,28 @@ impl Session {
     }
 
     /// Loads a body: what its lines mean, and the lines about its warnings. Both are there before anything changes.
-    #[tactic(auto, using(crate::proofs::Outcomes::load_refused, crate::proofs::Outcomes::load_done, kc_value::proofs::KeptLaws::edits_nothing))]
+    #[tactic(auto, using(crate::proofs::Outcomes::load_refused, crate::proofs::Outcomes::load_done))]
     fn load(&mut self, load: Load, body: &[u8]) -> Reply
         ensures outcome { IsOutcome self.old.session (load_outcome self.old.session load body.now) result self.new.session }
         ensures edits { EditsKept self.old self.new }
+        ensures unfed { HasNoFeeds self.old.session.user → HasNoFeeds self.new.session.user }
     {
         match self.read(body) {
             Ok((assigns, warnings)) => self.load_read(load, assigns, warnings),
-            Err(refusal) => Reply::Refused(refusal),
+            Err(refusal) => self.refuse(refusal),
         }
     }
 
     /// Loads what was read of a body.
     fn load_read(&mut self, load: Load, assigns: Vec<Assign>, warnings: String) -> Reply
-        requires { All (IsAssignFor self.old.session.tree) assigns.items }
+        requires fitting { All (IsAssignFor self.old.session.tree) assigns.items }
+        requires unfed { All IsUnfed assigns.items }
         ensures reply { (result ≡ Reply.Done (string_bytes warnings)) ⊎ (result ≡ Reply.Refused Refusal.NoMemory) }
         ensures done { result ≡ Reply.Done (string_bytes warnings)
             → self.new.session ≡ with_user self.old.session (user_after self.old.session.tree self.old.session.user load assigns.items) }
         ensures refused { result ≡ Reply.Refused Refusal.NoMemory → self.new ≡ self.old }
         ensures edits { EditsKept self.old self.new }
+        ensures unfed { HasNoFeeds self.old.session.user → HasNoFeeds self.new.session.user }
     {
         match self.resolver.load(load, assigns) {
             Ok(()) => Reply::Done(Text::new(warnings)),
@@ -302,6 +338,7 @@ impl Session {
         ensures fits { IfOk result (λ r. fits_body body.now ≡ true) }
         ensures assigns { IfOk result (λ r. r.0.items ≡ assigns_in self.now.session.tree self.now.session.prefix body.now) }
         ensures fitting { IfOk result (λ r. All (IsAssignFor self.now.session.tree) r.0.items) }
+        ensures unfed { IfOk result (λ r. All IsUnfed r.0.items) }
         ensures warnings { IfOk result (λ r. string_bytes r.1 ≡ warnings_text_of self.now.session.tree self.now.session.prefix body.now) }
         ensures refusal { IfErr result (IsReadRefusal body.now) }
     {
@@ -366,6 +403,7 @@ impl Session {
 
     fn defconfig(&mut self) -> Reply
         ensures reply { IsReplyTo result (defconfig_outcome self.old.session) }
+        ensures enough { HasNoFeeds self.old.session.user → KeepsTheChanges self.old.session result }
         ensures session { self.new.session ≡ self.old.session }
         ensures asks { Asks (all_nodes self.old.session.tree) self.old result self.new }
     {
@@ -407,7 +445,7 @@ fn text_reply(text: Result<String, AllocError>) -> Reply
 }
 
 impl Resolver for Session {
-    ghost use Rattle.kc_session.specs.Keeping.{Grew};
+    ghost use Rattle.kc_session.specs.Keeping.{Grew, KeepsRight};
     ghost use Rattle.kc_value.specs.Kept.{IsKept};
     ghost use Rattle.std.specs.Borrow.{sem};
     ghost use Rattle.std.specs.Io.BufRead.{Rests};
@@ -417,7 +455,7 @@ impl Resolver for Session {
     ghost use Rattle.kc_value.specs.UserValues.{IsUserFor};
     ghost use Rattle.kc_session.specs.contracts.session.Session.{the_row};
     ghost use Rattle.kc_session.specs.Session.{SessionValue};
-    ghost use Rattle.kc_value.proofs.KeptLaws.{fills_nothing, fills_then, fills_wider, kept_after};
+    ghost use Rattle.kc_value.specs.FillLaws.{fills_nothing, fills_then, fills_wider, kept_after};
 
     ghost tree_of = { λ s. s.session.tree };
 
@@ -455,11 +493,13 @@ impl Resolver for Session {
         ensures value { IfOk result (λ v. v.now ≡ solution self.old.session.tree self.old.session.user node) }
         ensures solved { IsOnlySolution self.old.session.tree self.old.session.user (solution self.old.session.tree self.old.session.user) }
         ensures fitting { IsUserFor self.old.session.tree self.old.session.user }
+        ensures right { KeepsRight self.old }
         ensures kept_before { IsKept self.old.session.tree self.old.kept.values node → IsOk result }
         ensures* after_borrow { sem 𝓛 (Rests the_row self.entry (λ new.
             (new.session.tree ≡ self.old.session.tree) × (new.session.user ≡ self.old.session.user)
             × Grew (node ∷ []) self.old new × OnOk result (IsKept new.session.tree new.kept.values node))) }
     {
+        self.facts();
         self.resolver.node(node)
     }
 }

@@ -7,6 +7,7 @@ ghost use Rattle.kc_tree.specs.declared.node.Node.TheVariants.{Vis, Val};
 ghost use Rattle.kc_tree.specs.Nodes.{IsNodeOf};
 ghost use Rattle.kc_outline.specs.TreeValue.{name_of};
 ghost use Rattle.kc_value.specs.Kept.{IsKept, AreKept};
+ghost use Rattle.kc_value.specs.KeptLaws.{KeptLaws};
 ghost use Rattle.kc_value.specs.KnownConditions.{AreSharedBy};
 ghost use Rattle.kc_value.specs.UserValues.{IsUserFor};
 ghost use Rattle.kc_files.specs.ConfigText.{type_of};
@@ -36,6 +37,7 @@ pub(crate) fn show_line(
     requires user { IsUserFor tree.now user.now }
     requires conditions { AreSharedBy tree.now values.now conditions.now }
     requires kept { AreKept tree.now user.now values.now }
+    requires laws { KeptLaws tree.now }
     requires asked { IsKept tree.now values.now (Val symbol) }
     ensures { IfOk result (λ text. string_bytes text ≡ show_line_of tree.now user.now symbol) }
 {
@@ -157,6 +159,7 @@ pub(crate) fn list_text(
 ) -> Result<String, AllocError>
     requires user { IsUserFor tree.now user.now }
     requires kept { AreKept tree.now user.now values.now }
+    requires laws { KeptLaws tree.now }
     requires asked { (s : SymId) → IsNodeOf tree.now (Val s) → IsKept tree.now values.now (Val s) }
     ensures { IfOk result (λ text. string_bytes text ≡ list_text_of tree.now user.now) }
 {

@@ -1,7 +1,8 @@
 //! Edits of the user values. Before each, exactly what it can change is dropped.
 
 ghost use Rattle.std.specs.Prelude.{◌≡◌, ◌<◌, All, Some, None, true, OnOk, OnErr, length};
-ghost use Rattle.kc_files.specs.LineReading.{IsAssignFor};
+ghost use Rattle.kc_files.specs.DefaultLoading.{HasNoFeeds};
+ghost use Rattle.kc_files.specs.LineReading.{IsAssignFor, IsUnfed};
 ghost use Rattle.kc_files.specs.Loading.{user_after};
 ghost use Rattle.kc_session.specs.AllValues.{all_given};
 ghost use Rattle.kc_session.specs.KeptResolver.{Edited};
@@ -47,6 +48,7 @@ impl KeptResolver {
     pub(crate) fn choose(&mut self, choice: ChoiceId, member: Option<SymId>)
         ensures { Edited self.old (with_chosen self.old.user choice member) self.new }
     {
+        self.facts();
         if (choice.0 as usize) < self.tree.choices().len() {
             self.kept
                 .drop_for_chosen(&self.tree, &self.user, choice, member);
@@ -74,13 +76,14 @@ impl KeptResolver {
     ///
     /// The error comes where memory is refused for a copy of the user values, which a merge adds to; nothing changes
     /// then.
-    #[tactic(auto, using(kc_value::proofs::KeptLaws::edits_nothing))]
     pub(crate) fn load(&mut self, load: Load, assigns: Vec<Assign>) -> Result<(), AllocError>
         requires { All (IsAssignFor self.old.tree) assigns.items }
         ensures ok { OnOk result (Edited self.old (user_after self.old.tree self.old.user load assigns.items) self.new) }
         ensures err { OnErr result (self.new ≡ self.old) }
         ensures edits { Edits self.old.tree self.old.user self.new.user self.old.kept self.new.kept }
+        ensures unfed { All IsUnfed assigns.items → HasNoFeeds self.old.user → HasNoFeeds self.new.user }
     {
+        self.facts();
         let mut next = self.user.copy(self.alloc)?;
         apply(&self.tree, &mut next, assigns, load);
         self.kept.drop_for_user(&self.tree, &self.user, &next);

@@ -6,7 +6,6 @@ use Rattle.kc_tree.specs.declared.node.Node.TheVariants.{Vis, Val}
 use Rattle.kc_value.specs.Assignable.{assignable_values}
 use Rattle.kc_value.specs.Assignment.{as_tri}
 use Rattle.kc_value.specs.Solution.{solution}
-use Rattle.kc_value.proofs.KeptReading.{visibility_used, used_right}
 use Rattle.kc_files.specs.ConfigText.{type_of}
 use Rattle.kc_session.specs.ShowLine.{show_line_of, line_text, user_part}
 use Rattle.kc_session.proofs.show.show_line.Goals as goal
@@ -15,7 +14,7 @@ pub kept_value-requires-clause-kept : goal.kept_value-requires-clause-kept
 kept_value-requires-clause-kept c =
     let t = c.args.tree.now in
     let s = c.args.symbol in
-    c.requires.kept.closed.closed (Val s) (Vis s) c.requires.inside c.requires.asked (visibility_used t s c.requires.inside)
+    c.requires.kept.closed.closed (Val s) (Vis s) c.requires.inside c.requires.asked (c.requires.laws.visibility_used s c.requires.inside)
 
 pub returns : goal.returns
 unfolding show_line_of
@@ -24,9 +23,9 @@ returns c =
     let u = c.args.user.now in
     let s = c.args.symbol in
     let kept = c.requires.kept in
-    let value : c.kept_value-value.result.now ≡ solution t u (Val s) = c.kept_value-value.ensures.value u kept in
-    let visibility : c.as_tri-visibility.result ≡ as_tri (solution t u (Vis s)) = c.as_tri-visibility.ensures ∙ ap as_tri (c.kept_value.ensures.value u kept) in
-    let right = used_right t u c.args.values.now kept c.kept_value.ensures.accepted (Val s) c.requires.inside c.requires.asked in
+    let value : c.kept_value-value.result.now ≡ solution t u (Val s) = c.kept_value-value.ensures u kept in
+    let visibility : c.as_tri-visibility.result ≡ as_tri (solution t u (Vis s)) = c.as_tri-visibility.ensures ∙ ap as_tri (c.kept_value.ensures u kept) in
+    let right = c.requires.laws.used_right u c.args.values.now kept (Val s) c.requires.inside c.requires.asked in
     let can : c.as_slice.result.now ≡ assignable_values t u s = c.as_slice.ensures.value ∙ c.in_ok-assignable.ensures.used u c.requires.user right in
     let line = line_text (name_of t s) (type_of t s) in
     let user = user_part t u s in

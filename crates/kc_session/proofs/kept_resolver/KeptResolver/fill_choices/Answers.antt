@@ -1,8 +1,9 @@
-use Rattle.std.proofs.Common.{◌≡◌, ◌*◌, ◌∙◌, ℕ, length, map, sym, ap}
+use Rattle.std.proofs.Common.{◌≡◌, ◌*◌, ◌∙◌, ℕ, length, map, sym, ap, subst}
 use Rattle.std.specs.List.{range_with_len}
 use Rattle.kc_outline.specs.TreeValue.{TreeValue}
 use Rattle.kc_tree.specs.Nodes.{node_at}
 use Rattle.kc_session.specs.Keeping.{choice_nodes}
+use Rattle.kc_value.specs.KeptLaws.{KeptLaws}
 use Rattle.kc_session.specs.KeptResolver.{ResolverState}
 use Rattle.kc_session.proofs.AskedLaws.{numbers_kept, on_ok}
 use Rattle.kc_session.proofs.kept_resolver.KeptResolver.fill_choices.Goals as goal
@@ -21,3 +22,6 @@ returns-clause-done c =
     on_ok c.fill_numbers.result
     (numbers_kept t c.fill_numbers.new.self.values (2 * length c.symbols.result.now) (2 * length c.choices.result.now) (choice_nodes c.args.self.now.tree) is)
     c.fill_numbers.ensures.done
+
+pub returns-clause-laws : goal.returns-clause-laws
+returns-clause-laws c = subst (λ (r : ResolverState). KeptLaws r.tree) c.self.view_is c.self.invariant.laws

@@ -10,4 +10,5 @@ returns-clause-text c =
     let asked = c.fill_all.ensures.asked in
     let same : c.tree.result.now ≡ old.tree = c.tree.ensures ∙ asked.tree in
     let solved = all_solved old c.fill_all.new.self c.tree.result.now c.values.result.now c.tree.ensures c.values.ensures.values asked c.in_ok-fill_all.ensures.done c.values.ensures.sound in
-    c.in_ok-text.ensures old.user solved ∙ (λ i. header_text_of (same i) c.args.prefix.now (solution (same i) old.user))
+    let a = solution c.tree.result.now old.user in
+    c.in_ok-text.ensures a solved ∙ (λ i. header_text_of (same i) c.args.prefix.now (solution (same i) old.user))

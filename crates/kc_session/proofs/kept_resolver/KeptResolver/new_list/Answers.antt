@@ -7,4 +7,4 @@ returns-clause-asked c = all_twice c.args.self.now c.fill_all.new.self c.new_tex
 pub returns-clause-done : goal.returns-clause-done
 returns-clause-done c =
     ok_always c.new_text.result
-    (all_stay c.args.self.now c.fill_all.new.self c.new_text.new.resolver c.fill_all.ensures.asked c.in_ok-fill_all.ensures.done c.new_text.ensures.grew)
+    (all_stay c.args.self.now c.fill_all.new.self c.new_text.new.resolver c.fill_all.ensures.laws.numbered c.fill_all.ensures.asked c.in_ok-fill_all.ensures.done c.new_text.ensures.grew)
