@@ -1,5 +1,5 @@
 -- Which commands leave the user values without line feeds, and that the default file keeps what these changed.
-use Rattle.std.proofs.Common.{◌≡◌, ◌≢◌, ℕ, ◌≤◌, ◌<◌, Bool, true, false, if◌then◌else◌, List, length, map, get_or, set, replicate, Option, Some, None, is_some, Result, Ok, Err, IfOk, OnErr, codes, sym, ap, ◌∙◌, subst, ⊎_elim, arith}
+use Rattle.std.proofs.Common.{◌≡◌, ◌≢◌, ℕ, ◌≤◌, ◌<◌, Bool, true, false, if◌then◌else◌, List, length, map, get_or, set, replicate, Option, Some, None, is_some, Result, Ok, Err, IfOk, OnErr, codes, sym, subst, ⊎_elim, arith}
 use Rattle.std.specs.Prelude.{option_map}
 use Rattle.std.specs.List.{list_any, range_with_len}
 use Rattle.std.specs.Option.{option_map_or}
@@ -18,7 +18,7 @@ use Rattle.kc_outline.specs.TreeValue.{TreeValue, symbol_named, choice_of}
 use Rattle.kc_tree.specs.declared.user_value.UserVal.{UserVal}
 use Rattle.kc_tree.specs.declared.user_value.UserVal.TheVariants.{Tri as TriVal, Text}
 use Rattle.kc_value.specs.ChoiceRule.{is_symbol}
-use Rattle.kc_value.specs.UserValues.{UserValues, user_value, chosen_in, with_value, with_chosen, no_values}
+use Rattle.kc_value.specs.UserValues.{UserValues, chosen_in, with_value, with_chosen, no_values}
 use Rattle.kc_files.specs.ConfigLines.{is_feed}
 use Rattle.kc_files.specs.ConfigText.{type_of}
 use Rattle.kc_files.specs.DefaultLoading.{HasNoFeeds, KeepsChanges}
