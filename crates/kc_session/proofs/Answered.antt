@@ -5,15 +5,27 @@ use Rattle.std.specs.Io.KnownBytes.{Appends}
 use Rattle.std.proofs.KnownBytes.{Appends-trans, Appends-nil}
 use Rattle.kc_tree.specs.declared.node.Node.{Node}
 use Rattle.kc_session.specs.EvaluationBound.{HasDirty, HaveDirty, IsBounded, AreBounded}
+use Rattle.kc_session.specs.Keeping.{KeepsRight}
 use Rattle.kc_session.specs.Replies.{outcome, session_after, reply_to, output_of, session_after_all, MayStarve}
 use Rattle.kc_session.specs.Serving.{Answers, AnswersCommand}
 use Rattle.kc_session.specs.Session.{SessionValue, SessionState}
+use Rattle.kc_session.specs.Steps.{AreSteps, IsStep, none, next}
 use Rattle.kc_session.specs.StreamCommands.{StreamCommand}
 
 -- no command was answered yet
-pub Answers-nil : (at : Option (List ℕ)) (s : SessionState) → Answers [] at at s s
+pub Answers-nil : (at : Option (List ℕ)) (s : SessionState) → KeepsRight s → Answers [] at at s s
 unfolding output_of session_after_all MayStarve
-Answers-nil at s = record { starved = []; flags = refl; may = tt; output = Appends-nil at; session_is = refl; bounded = λ all have. omega arith }
+Answers-nil at s right = record {
+  starved = [];
+  flags = refl;
+  may = tt;
+  output = Appends-nil at;
+  session_is = refl;
+  steps = none;
+  right = right;
+  counts = omega arith;
+  bounded = λ all have. omega arith;
+}
 
 -- what a list of commands gives with one more at its end
 output-push : (s : SessionValue) (cs : List StreamCommand) (fs : List Bool) (c : StreamCommand) (f : Bool) → length fs ≡ length cs
@@ -41,6 +53,13 @@ MayStarve-push s [] [] c f e may one = (one, tt)
 MayStarve-push s [] (g ∷ fs) c f e may one = absurd (omega (arith, e))
 MayStarve-push s (d ∷ cs) [] c f e may one = absurd (omega (arith, e))
 MayStarve-push s (d ∷ cs) (g ∷ fs) c f e may one = (may.0, MayStarve-push (session_after s d g) cs fs c f (omega (arith, e)) may.1 one)
+
+steps-push : (cs : List StreamCommand) (fs : List Bool) (c : StreamCommand) (f : Bool) (s m e : SessionState) → AreSteps cs fs s m → IsStep c f m e
+    → AreSteps (cs ++ c ∷ []) (fs ++ f ∷ []) s e
+steps-push [] [] c f s m e none one = next one none
+steps-push [] (g ∷ fs) c f s m e steps one = elim steps [ ]
+steps-push (d ∷ cs) [] c f s m e steps one = elim steps [ ]
+steps-push (d ∷ cs) (g ∷ fs) c f s m e (next first later) one = next first (steps-push cs fs c f _ m e later one)
 
 -- the lists of dirty nodes of all but the last command, and that of the last
 record PartsDirty (s : SessionValue) (cs : List StreamCommand) (fs : List Bool) (c : StreamCommand) (f : Bool) (all : List (List Node)) : Type 0 where
@@ -91,6 +110,9 @@ Answers-push cs c old mid new s before after all one =
       may = MayStarve-push s.session cs all.starved c one.starved all.flags all.may (subst (λ t. IsTrue one.starved → IsTrue (outcome t c).takes_memory) at_line one.may);
       output = subst (Appends old new) (ap (λ t. output_of s.session cs all.starved ++ reply_to t c one.starved) at_line ∙ sym (output-push s.session cs all.starved c one.starved all.flags))
           (Appends-trans old mid new _ _ all.output one.output);
-      session_is = one.session_is ∙ ap (λ t. session_after t c one.starved) at_line ∙ sym (session-push s.session cs all.starved c one.starved all.flags);
-      bounded = bounded-push cs all.starved c one.starved s before after all.flags at_line one.session_is all.bounded one.bounded;
+      session_is = one.step.session_is ∙ ap (λ t. session_after t c one.starved) at_line ∙ sym (session-push s.session cs all.starved c one.starved all.flags);
+      steps = steps-push cs all.starved c one.starved s before after all.steps one.step;
+      right = one.step.right;
+      counts = omega (arith, all.counts, one.step.counts);
+      bounded = bounded-push cs all.starved c one.starved s before after all.flags at_line one.step.session_is all.bounded one.bounded;
     }

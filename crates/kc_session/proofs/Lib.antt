@@ -10,9 +10,11 @@ mod Examples
 mod ReplyExamples
 pub mod Feeds
 pub mod Holding
+pub mod KeepingRequests
 pub mod LineLists
 pub mod Lines
 pub mod OpenLaws
+pub mod PlainLines
 pub mod Outcomes
 pub mod Replying
 pub mod RunSteps
@@ -21,4 +23,5 @@ pub mod Spelling
 pub mod Answered
 pub mod Taking
 pub mod Texts
+pub mod UnfedRequests
 pub mod Unread

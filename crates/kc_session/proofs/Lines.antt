@@ -33,7 +33,7 @@ last_byte-push : (text : List ℕ) (b : ℕ) → get_or (text ++ b ∷ []) (leng
 last_byte-push text b =
     get_or_push text b 0 (length (text ++ b ∷ []) - 1) (omega (arith, length_push text b))
 
-is_ended-push : (text : List ℕ) → is_ended (text ++ 10 ∷ []) ≡ true
+pub is_ended-push : (text : List ℕ) → is_ended (text ++ 10 ∷ []) ≡ true
 is_ended-push text = ap (λ b. b == 10) (last_byte-push text 10)
 
 -- bytes without a line feed have none at their end

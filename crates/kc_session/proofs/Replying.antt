@@ -1,8 +1,9 @@
 -- The reply to a command of the stream, by what its line asks for.
-use Rattle.std.proofs.Common.{◌≡◌, ℕ, true, false, List, length, Option, Some, None, Result, Ok, Err, if◌then◌else◌, sym, ap, subst, ◌∙◌}
+use Rattle.std.proofs.Common.{◌≡◌, ℕ, true, false, List, length, Option, Some, None, Result, Ok, Err, if◌then◌else◌, refl, sym, ap, subst, ◌∙◌}
 use Rattle.std.proofs.lemmas.Bool.{eq-eqb}
 use Rattle.kc_files.specs.declared.loading.Load.{Load}
 use Rattle.kc_files.specs.declared.loading.Load.TheVariants.{Replace, Merge as MergeLoad}
+use Rattle.kc_value.specs.KeptLaws.{KeptLaws}
 use Rattle.kc_session.specs.declared.command.Command.{Command}
 use Rattle.kc_session.specs.declared.command.Refusal.{Refusal}
 use Rattle.kc_session.specs.declared.command.Refusal.TheVariants.{UnknownCommand, UndefinedSymbol, BadValue, BadMemberValue, BadLineCount, TooLong, NoMemory}
@@ -15,6 +16,7 @@ use Rattle.kc_session.specs.Commands.{request_of, request_of_text, load_command,
 use Rattle.kc_session.specs.Effect.{IsOutcome, refuse, perform, loaded}
 use Rattle.kc_session.specs.EvaluationBound.{IsBounded}
 use Rattle.kc_session.specs.HeldBody.{HeldBody, GivesBody, body_held, joined}
+use Rattle.kc_session.specs.Keeping.{KeepsRight}
 use Rattle.std.specs.Io.KnownBytes.{Appends}
 use Rattle.kc_session.specs.Held.{HeldLine, text_held}
 use Rattle.kc_session.specs.NextCommand.{HoldsCommand}
@@ -22,9 +24,11 @@ use Rattle.kc_session.specs.Output.{WritesPart}
 use Rattle.kc_session.specs.Replies.{body_outcome, request_outcome, outcome, reply_bytes}
 use Rattle.kc_session.specs.Serving.{AnswersCommand, StopsInReply}
 use Rattle.kc_session.specs.Session.{SessionState, SessionValue}
+use Rattle.kc_session.specs.Steps.{IsStep, KeepsRequest}
 use Rattle.kc_session.specs.Stream.{lines_of, text_if_fits}
 use Rattle.kc_session.specs.StreamCommands.{StreamCommand, lines_taken}
 use Rattle.kc_session.proofs.BodyHolding.{fits_body-joined}
+use Rattle.kc_session.proofs.EvaluationLaws.{request_bounded, request_counts}
 use Rattle.kc_session.proofs.Outcomes.{same_due, done_as_due}
 
 -- ---- a load
@@ -117,29 +121,40 @@ module _ (s : SessionValue) (held : HeldBody) (text : Option (List ℕ)) (r : Re
       asked s c (Ok (WithBody load k)) text r n is asked_is
       (loads k c.body (subst (λ m. GivesBody (body_held held) m c.body) (asked_lines c load k text is asked_is) gives) are)
 
--- ---- the reply and its bytes
-pub answers_held : (s n : SessionState) (line : HeldLine) (held : HeldBody) (text : Option (List ℕ)) (r : Reply) (w0 w1 : Option (List ℕ)) → text ≡ text_held line
-    → IsReplyToHeld s.session held text r n.session → IsBounded s n → Appends w0 w1 (reply_bytes r) → (c : StreamCommand) → HoldsCommand line held c
-    → AnswersCommand c w0 w1 s n
-answers_held s n line held text r w0 w1 is replies bounded wrote c h =
-    let o = replies c (is ∙ h.text) h.gives h.are_lines in
-    record {
-      starved = o.starved;
-      may = o.may;
-      output = subst (λ x. Appends w0 w1 (reply_bytes x)) o.replied wrote;
-      session_is = o.session;
-      bounded = bounded;
-    }
+-- ---- the command, its reply and its bytes
+module _ (s n : SessionState) (line : HeldLine) (held : HeldBody) (text : Option (List ℕ)) (r : Reply) (is : text ≡ text_held line)
+    (replies : IsReplyToHeld s.session held text r n.session) (keeps : KeepsRequest s (request_of_text text) r n) (laws : KeptLaws s.session.tree) (right_before : KeepsRight s) (right : KeepsRight n) where
+  held_step : (c : StreamCommand) → HoldsCommand line held c → (o : IsOutcome s.session (outcome s.session c) r n.session) → IsStep c o.starved s n
+  held_step c h o =
+      let asks : KeepsRequest s (request_of_text (text_if_fits c.line)) r n = subst (λ x. KeepsRequest s (request_of_text x) r n) (is ∙ h.text) keeps in
+      record {
+        session_is = o.session;
+        keeps = subst (λ x. KeepsRequest s (request_of_text (text_if_fits c.line)) x n) o.replied asks;
+        right = right;
+        counts = request_counts s n r (request_of_text text) keeps;
+      }
 
-pub stops_held : (s n : SessionState) (line : HeldLine) (held : HeldBody) (text : Option (List ℕ)) (r : Reply) (w0 w1 : Option (List ℕ)) → text ≡ text_held line
-    → IsReplyToHeld s.session held text r n.session → IsBounded s n → WritesPart w0 w1 (reply_bytes r) → (c : StreamCommand) → HoldsCommand line held c
-    → StopsInReply c w0 w1 s n
-stops_held s n line held text r w0 w1 is replies bounded wrote c h =
-    let o = replies c (is ∙ h.text) h.gives h.are_lines in
-    record {
-      starved = o.starved;
-      may = o.may;
-      output = subst (λ x. WritesPart w0 w1 (reply_bytes x)) o.replied wrote;
-      session_is = o.session;
-      bounded = bounded;
-    }
+  held_bounded : (o : SessionValue) → n.session ≡ o → o.tree ≡ s.session.tree → IsBounded s n
+  held_bounded o session tree = request_bounded s n laws (ap (λ x. x.tree) session ∙ tree) right_before right r (request_of_text text) keeps
+
+  pub answers_held : (w0 w1 : Option (List ℕ)) → Appends w0 w1 (reply_bytes r) → (c : StreamCommand) → HoldsCommand line held c → AnswersCommand c w0 w1 s n
+  answers_held w0 w1 wrote c h =
+      let o = replies c (is ∙ h.text) h.gives h.are_lines in
+      record {
+        starved = o.starved;
+        may = o.may;
+        output = subst (λ x. Appends w0 w1 (reply_bytes x)) o.replied wrote;
+        step = held_step c h o;
+        bounded = held_bounded _ o.session refl;
+      }
+
+  pub stops_held : (w0 w1 : Option (List ℕ)) → WritesPart w0 w1 (reply_bytes r) → (c : StreamCommand) → HoldsCommand line held c → StopsInReply c w0 w1 s n
+  stops_held w0 w1 wrote c h =
+      let o = replies c (is ∙ h.text) h.gives h.are_lines in
+      record {
+        starved = o.starved;
+        may = o.may;
+        output = subst (λ x. WritesPart w0 w1 (reply_bytes x)) o.replied wrote;
+        step = held_step c h o;
+        bounded = held_bounded _ o.session refl;
+      }

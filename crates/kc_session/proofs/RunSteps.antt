@@ -1,19 +1,23 @@
 -- What the loop over a stream keeps, and how it ends.
-use Rattle.std.proofs.Common.{◌≡◌, ℕ, List, [], ◌∷◌, ◌++◌, Option, Some, None, Result, Ok, Err, IfSome, unwrap_or, sym, ap, ◌∙◌, subst, append-nil}
+use Rattle.std.proofs.Common.{◌≡◌, ℕ, false, List, [], ◌∷◌, ◌++◌, Option, Some, None, Result, Ok, Err, IfSome, unwrap_or, sym, ap, ◌∙◌, subst, append-nil}
 use Rattle.std.specs.Io.KnownBytes.{Consumes, IsAtEnd, prepend_known}
 use Rattle.std.proofs.KnownBytes.{Consumes-trans}
 use Rattle.std.specs.Result.{OnOk, OnErr, IfErr}
+use Rattle.kc_files.specs.DefaultLoading.{HasNoFeeds}
 use Rattle.kc_session.specs.declared.fault.IoFault.{IoFault}
 use Rattle.kc_session.specs.declared.fault.IoFault.TheVariants.{Write}
 use Rattle.kc_session.specs.Held.{HeldLine}
 use Rattle.kc_session.specs.HeldBody.{HeldBody}
+use Rattle.kc_session.specs.Keeping.{KeepsRight}
 use Rattle.kc_session.specs.NextLine.{TakesNothing}
 use Rattle.kc_session.specs.NextCommand.{HoldsCommand, IsWholeCommand, TakesWholeCommand, TakesLastCommand, StopsInCommand}
 use Rattle.kc_session.specs.Serving.{Answers, AnswersCommand, StopsInReply, ServesAll, StopsReading, StopsWriting, Serves}
 use Rattle.kc_session.specs.Session.{SessionState}
+use Rattle.kc_session.specs.Stream.{has_feed, text_of_line}
 use Rattle.kc_session.specs.StreamCommands.{StreamCommand, commands_of}
 use Rattle.kc_session.proofs.Cutting.{IsCutAfter, IsCutAfter-nil, IsCutAfter-more, commands_of-cut, commands_of-last, complete_commands_of-part}
 use Rattle.kc_session.proofs.Answered.{Answers-nil, Answers-push}
+use Rattle.kc_session.proofs.PlainLines.{first_plain, text_plain}
 use Rattle.kc_session.proofs.Unread.{Consumes-used_up, Consumes-at_end}
 
 -- what was read, written and done so far: whole commands
@@ -23,15 +27,16 @@ pub record HasServed (from left : Option (List ℕ)) (written wrote : Option (Li
   pub read : Consumes from left front
   pub cut : IsCutAfter front done
   pub answered : Answers done written wrote s t
+  pub unfed : HasNoFeeds s.session.user → HasNoFeeds t.session.user
 
 starts : (from : Option (List ℕ)) (unread : List ℕ) → unread ≡ [] → Consumes from (prepend_known unread from) []
 starts None unread none = tt
 starts (Some xs) unread none = sym (ap (λ bytes. bytes ++ xs) none)
 
-pub HasServed-nil : (from : Option (List ℕ)) (unread : List ℕ) (written : Option (List ℕ)) (s : SessionState) → unread ≡ []
+pub HasServed-nil : (from : Option (List ℕ)) (unread : List ℕ) (written : Option (List ℕ)) (s : SessionState) → unread ≡ [] → KeepsRight s
     → HasServed from (prepend_known unread from) written written s s
-HasServed-nil from unread written s none =
-    record { front = []; done = []; read = starts from unread none; cut = IsCutAfter-nil; answered = Answers-nil written s }
+HasServed-nil from unread written s none right =
+    record { front = []; done = []; read = starts from unread none; cut = IsCutAfter-nil; answered = Answers-nil written s right; unfed = λ h. h }
 
 -- what answering a command gives, whichever command the buffers hold
 abbrev pub AnswersHeld : HeldLine → HeldBody → Option (List ℕ) → Option (List ℕ) → SessionState → SessionState → Type 0
@@ -40,15 +45,31 @@ AnswersHeld line body written wrote s t = (c : StreamCommand) → HoldsCommand l
 abbrev pub StopsInHeld : HeldLine → HeldBody → Option (List ℕ) → Option (List ℕ) → SessionState → SessionState → Type 0
 StopsInHeld line body written wrote s t = (c : StreamCommand) → HoldsCommand line body c → StopsInReply c written wrote s t
 
+-- what a command keeps whose text has no line feed, whichever command the buffers hold
+abbrev pub UnfedHeld : HeldLine → HeldBody → Type 0 → Type 0 → Type 0
+UnfedHeld line body P Q = (c : StreamCommand) → HoldsCommand line body c → has_feed (text_of_line c.line) ≡ false → P → Q
+
+-- .. is kept by each command that is taken
+pub whole_unfed : {P Q : Type 0} (left after : Option (List ℕ)) (line : HeldLine) (body : HeldBody) → TakesWholeCommand left after line body → UnfedHeld line body P Q → P → Q
+whole_unfed left after line body takes unfed =
+    unfed takes.command takes.holds
+    (text_plain takes.command.line (first_plain (takes.bytes ++ []) takes.command (commands_of []) (takes.is_command.first [])))
+
+pub last_unfed : {P Q : Type 0} (left after : Option (List ℕ)) (line : HeldLine) (body : HeldBody) → TakesLastCommand left after line body → UnfedHeld line body P Q → P → Q
+last_unfed left after line body takes unfed =
+    unfed takes.command takes.holds (text_plain takes.command.line (first_plain takes.bytes takes.command [] takes.only))
+
 pub HasServed-more : (from left after w0 w1 w2 : Option (List ℕ)) (line : HeldLine) (body : HeldBody) (s t v : SessionState)
-    → HasServed from left w0 w1 s t → TakesWholeCommand left after line body → AnswersHeld line body w1 w2 t v → HasServed from after w0 w2 s v
-HasServed-more from left after w0 w1 w2 line body s t v so_far takes answers =
+    → HasServed from left w0 w1 s t → TakesWholeCommand left after line body → AnswersHeld line body w1 w2 t v → UnfedHeld line body (HasNoFeeds t.session.user) (HasNoFeeds v.session.user)
+    → HasServed from after w0 w2 s v
+HasServed-more from left after w0 w1 w2 line body s t v so_far takes answers unfed =
     record {
       front = so_far.front ++ takes.bytes;
       done = so_far.done ++ takes.command ∷ [];
       read = Consumes-trans from left after so_far.front takes.bytes so_far.read takes.taken;
       cut = IsCutAfter-more so_far.front takes.bytes so_far.done takes.command so_far.cut takes.is_command;
       answered = Answers-push so_far.done takes.command w0 w1 w2 s t v so_far.answered (answers takes.command takes.holds);
+      unfed = λ user. whole_unfed left after line body takes unfed (so_far.unfed user);
     }
 
 -- the stream has ended

@@ -19,6 +19,7 @@ pub mod Replies
 pub mod Serving
 pub mod Session
 pub mod ShowLine
+pub mod Steps
 pub mod Stream
 pub mod StreamCommands
 pub mod Values

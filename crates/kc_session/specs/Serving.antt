@@ -1,24 +1,30 @@
 -- This project's own command stream: what was read, written and done when the serving of a stream ended, and how many
 -- evaluations that took.
-use Rattle.std.specs.Prelude.{◌≡◌, ℕ, Bool, List, ◌∷◌, ◌++◌, length, Option, Result, Ok, Err, IsTrue, IfSome}
+use Rattle.std.specs.Prelude.{◌≡◌, ◌≤◌, ℕ, Bool, List, ◌∷◌, ◌++◌, length, Option, Result, Ok, Err, IsTrue, IfSome}
 use Rattle.kc_session.specs.declared.fault.IoFault.{IoFault}
 use Rattle.kc_session.specs.declared.fault.IoFault.TheVariants.{Read, Write, Memory}
 use Rattle.std.specs.Io.KnownBytes.{Appends, Consumes, IsAtEnd}
 use Rattle.kc_session.specs.EvaluationBound.{IsBounded, AreBounded}
+use Rattle.kc_session.specs.Keeping.{KeepsRight}
 use Rattle.kc_session.specs.Output.{WritesPart}
-use Rattle.kc_session.specs.Replies.{outcome, session_after, reply_to, output_of, session_after_all, MayStarve}
+use Rattle.kc_session.specs.Replies.{outcome, reply_to, output_of, session_after_all, MayStarve}
 use Rattle.kc_session.specs.Session.{SessionState}
+use Rattle.kc_session.specs.Steps.{IsStep, AreSteps}
 use Rattle.kc_session.specs.StreamCommands.{StreamCommand, commands_of, complete_commands_of}
 
 -- The commands were done in turn, and all their replies were written, each that of a resolver that knows
--- nothing but the tree and the user values left by the commands before. A node was evaluated only where it was not kept
--- at the start, or where an edit had changed it.
+-- nothing but the tree and the user values left by the commands before. Of each command the session keeps what it is to
+-- keep, and what is kept afterwards is right. So a node was evaluated only where it was not kept at the start, or where an
+-- edit had changed it.
 pub record Answers (commands : List StreamCommand) (written wrote : Option (List ℕ)) (session after : SessionState) : Type 0 where
   pub starved : List Bool
   pub flags : length starved ≡ length commands
   pub may : MayStarve session.session commands starved
   pub output : Appends written wrote (output_of session.session commands starved)
   pub session_is : after.session ≡ session_after_all session.session commands starved
+  pub steps : AreSteps commands starved session after
+  pub right : KeepsRight after
+  pub counts : session.kept.evals ≤ after.kept.evals
   pub bounded : AreBounded commands starved session after
 
 -- one command was done and its reply written
@@ -26,7 +32,7 @@ pub record AnswersCommand (command : StreamCommand) (written wrote : Option (Lis
   pub starved : Bool
   pub may : IsTrue starved → IsTrue (outcome session.session command).takes_memory
   pub output : Appends written wrote (reply_to session.session command starved)
-  pub session_is : after.session ≡ session_after session.session command starved
+  pub step : IsStep command starved session after
   pub bounded : IsBounded session after
 
 -- one command was done, and a beginning of its reply was written
@@ -34,7 +40,7 @@ pub record StopsInReply (command : StreamCommand) (written wrote : Option (List 
   pub starved : Bool
   pub may : IsTrue starved → IsTrue (outcome session.session command).takes_memory
   pub output : WritesPart written wrote (reply_to session.session command starved)
-  pub session_is : after.session ≡ session_after session.session command starved
+  pub step : IsStep command starved session after
   pub bounded : IsBounded session after
 
 -- the stream was read to its end, and all its commands were answered

@@ -1,16 +1,20 @@
 //! The reply to one command: how it is made, and how it is written.
-ghost use Rattle.std.specs.Prelude.{◌≡◌, ℕ, List, ◌++◌, OnOk, OnErr, IfErr};
+ghost use Rattle.std.specs.Prelude.{◌≡◌, ℕ, false, List, ◌++◌, OnOk, OnErr, IfErr};
 ghost use Rattle.std.specs.Io.KnownBytes.{Appends};
-ghost use Rattle.std.specs.Option.{option_copied};
+ghost use Rattle.std.specs.Option.{option_copied, option_map_or};
+ghost use Rattle.kc_files.specs.DefaultLoading.{HasNoFeeds};
 ghost use Rattle.kc_session.specs.Output.{WritesPart};
+ghost use Rattle.kc_value.specs.KeptLaws.{KeptLaws};
 ghost use Rattle.kc_session.specs.declared.command.Reply.TheVariants.{Done};
 ghost use Rattle.kc_session.specs.Effect.{IsOutcome};
-ghost use Rattle.kc_session.specs.EvaluationBound.{IsBounded};
+ghost use Rattle.kc_session.specs.Commands.{request_of_text};
 ghost use Rattle.kc_session.specs.HeldBody.{GivesBody, body_held, joined};
+ghost use Rattle.kc_session.specs.Keeping.{EditsKept, KeepsRight};
 ghost use Rattle.kc_session.specs.NextCommand.{HoldsCommand};
 ghost use Rattle.kc_session.specs.Replies.{body_outcome, outcome, reply_bytes};
 ghost use Rattle.kc_session.specs.Serving.{AnswersCommand, StopsInReply};
-ghost use Rattle.kc_session.specs.Stream.{lines_of, text_if_fits};
+ghost use Rattle.kc_session.specs.Steps.{KeepsRequest};
+ghost use Rattle.kc_session.specs.Stream.{has_feed, lines_of, text_if_fits, text_of_line};
 ghost use Rattle.kc_session.specs.StreamCommands.{StreamCommand, lines_taken};
 
 use crate::body_buffer::BodyBuffer;
@@ -25,12 +29,17 @@ use kc_text::Text;
 use std::io::Write;
 
 /// Does a command of the stream, from the text of its line, which is `None` where the line is too long, and from its body.
-#[tactic(auto, using(crate::proofs::Replying::no_text_reply, crate::proofs::Replying::refused_reply, crate::proofs::Replying::whole_reply, crate::proofs::Replying::load_reply, crate::proofs::EvaluationLaws::unchanged_bounded))]
+#[tactic(auto, using(crate::proofs::Replying::no_text_reply, crate::proofs::Replying::refused_reply, crate::proofs::Replying::whole_reply, crate::proofs::Replying::load_reply, crate::proofs::KeepingRequests::refused_keeps, crate::proofs::KeepingRequests::whole_keeps, crate::proofs::KeepingRequests::load_keeps, crate::proofs::UnfedRequests::asked_unfed))]
 fn reply_to_command(text: Option<&[u8]>, body: &BodyBuffer, session: &mut Session) -> Reply
     ensures outcome { (c : StreamCommand) → option_copied text.entry ≡ text_if_fits c.line → GivesBody (body_held body.now) (lines_taken c.line) c.body
         → lines_of (joined c.body) ≡ c.body → IsOutcome session.old.session (outcome session.old.session c) result session.new.session }
-    ensures bounded { IsBounded session.old session.new }
+    ensures keeps { KeepsRequest session.old (request_of_text (option_copied text.entry)) result session.new }
+    ensures laws { KeptLaws session.old.session.tree }
+    ensures right_before { KeepsRight session.old }
+    ensures right { KeepsRight session.new }
+    ensures unfed { option_map_or has_feed (option_copied text.entry) false ≡ false → HasNoFeeds session.old.session.user → HasNoFeeds session.new.session.user }
 {
+    session.facts();
     let Some(text) = text else {
         return Reply::Refused(Refusal::TooLong);
     };
@@ -42,12 +51,15 @@ fn reply_to_command(text: Option<&[u8]>, body: &BodyBuffer, session: &mut Sessio
 }
 
 /// Loads a body, if it can be.
-#[tactic(auto, using(crate::proofs::Replying::load_refused_reply, crate::proofs::Replying::load_done_reply, crate::proofs::EvaluationLaws::unchanged_bounded))]
+#[tactic(auto, using(crate::proofs::Replying::load_refused_reply, crate::proofs::Replying::load_done_reply, crate::proofs::KeepingRequests::unchanged_keeps, crate::proofs::KeepingRequests::load_edits, crate::proofs::UnfedRequests::load_unfed))]
 fn reply_to_load(load: Load, body: &BodyBuffer, session: &mut Session) -> Reply
     ensures outcome { (k : ℕ) (lines : List (List ℕ)) → GivesBody (body_held body.now) k lines → lines_of (joined lines) ≡ lines
         → IsOutcome session.old.session (body_outcome session.old.session load k lines) result session.new.session }
-    ensures bounded { IsBounded session.old session.new }
+    ensures edits { EditsKept session.old session.new }
+    ensures right { KeepsRight session.new }
+    ensures unfed { HasNoFeeds session.old.session.user → HasNoFeeds session.new.session.user }
 {
+    session.facts();
     match body.content() {
         Ok(bytes) => session.apply(load_command(load, bytes)),
         Err(refusal) => Reply::Refused(refusal),
@@ -119,6 +131,8 @@ pub(crate) fn answer_command<W: Write>(
     ensures err { OnErr result ((c : StreamCommand) → HoldsCommand line.now body.now c
         → StopsInReply c (W.contents writer.old) (W.contents writer.new) session.old session.new) }
     ensures fault { IfErr result (λ fault. fault ≡ IoFault.Write) }
+    ensures unfed { (c : StreamCommand) → HoldsCommand line.now body.now c → has_feed (text_of_line c.line) ≡ false
+        → HasNoFeeds session.old.session.user → HasNoFeeds session.new.session.user }
 {
     let reply = reply_to_command(line.text(), body, session);
     write_reply(writer, reply)

@@ -1,5 +1,9 @@
 //! The serving of a whole stream of commands.
-ghost use Rattle.std.specs.Prelude.{◌≡◌, [], OnOk, IsErrOf};
+ghost use Rattle.std.specs.Prelude.{◌≡◌, ℕ, List, [], OnOk, IsErrOf};
+ghost use Rattle.kc_files.specs.DefaultLoading.{HasNoFeeds};
+ghost use Rattle.kc_files.specs.OneReading.{IsReadAs};
+ghost use Rattle.kc_value.specs.Solution.{solution, IsOnlySolution};
+ghost use Rattle.kc_value.specs.UserValues.{UserValues};
 ghost use Rattle.kc_session.specs.Serving.{Serves, ServesAll, StopsReading, StopsWriting};
 
 use crate::body_buffer::BodyBuffer;
@@ -36,7 +40,11 @@ pub fn run<R: Read, W: Write>(
         (W.contents writer.old) (W.contents writer.new) session.old session.new }
     ensures memory { IsErrOf result IoFault.Memory →
         (reader.new ≡ reader.old) × (writer.new ≡ writer.old) × (session.new ≡ session.old) }
+    ensures solved { (u : UserValues) → IsOnlySolution session.old.session.tree u (solution session.old.session.tree u) }
+    ensures bodies { (body : List ℕ) → IsReadAs session.old.session.tree session.old.session.prefix body }
+    ensures unfed { HasNoFeeds session.old.session.user → HasNoFeeds session.new.session.user }
 {
+    session.facts();
     let mut line = LineBuffer::new(alloc)?;
     let mut next = LineBuffer::new(alloc)?;
     let mut body = BodyBuffer::new(alloc);
@@ -57,9 +65,11 @@ fn serve<R: Read, W: Write>(
     body: &mut BodyBuffer,
 ) -> Result<(), IoFault>
     requires { input.old.bytes ≡ [] }
-    ensures { Serves result (R.remaining reader.old) (R.remaining reader.new)
+    ensures served { Serves result (R.remaining reader.old) (R.remaining reader.new)
         (W.contents writer.old) (W.contents writer.new) session.old session.new }
+    ensures unfed { HasNoFeeds session.old.session.user → HasNoFeeds session.new.session.user }
 {
+    session.facts();
     loop {
         match read_command(reader, input, line, next, body)? {
             CommandRead::Whole => answer_command(line, body, writer, session)?,
