@@ -1,4 +1,6 @@
 //! Readers and writers that fail at a given call.
+ghost use Rattle.std.specs.Prelude.{◌≡◌, IfOk};
+
 use std::alloc::Global;
 use std::io::{self, Error, ErrorKind, Read, Write};
 
@@ -26,7 +28,9 @@ impl Failure {
     }
 
     /// What a write answers.
-    fn of_write(self) -> io::Result<usize> {
+    fn of_write(self) -> io::Result<usize>
+        ensures { IfOk result (λ count. count ≡ 0) }
+    {
         match self {
             Failure::Interrupted | Failure::Other => Err(self.error()),
             Failure::NoByte => Ok(0),

@@ -144,13 +144,13 @@ CONFIG_B=y
 "#;
 
 /// Wants a target to write this output for the Kconfig of a block and a `.config`.
-fn target_writes(
+fn target_writes<'a>(
     rt: &impl Abort,
     alloc: Global,
-    block: &str,
-    target: &str,
-    config: &str,
-    output: &str,
+    block: &'a str,
+    target: &'a str,
+    config: &'a str,
+    output: &'a str,
 ) {
     let files = [
         ("Kconfig", section(block, "Kconfig").as_bytes()),
