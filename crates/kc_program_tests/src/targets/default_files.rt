@@ -2,8 +2,6 @@
 //! file that it came from.
 use super::section;
 use crate::running::{run_program, want};
-use std::alloc::Global;
-use std::process::Abort;
 
 /// A block has a title, a Kconfig and a `.config`, and then the default file of these and the new `.config` of either file.
 const DEFAULT_FILES: &str = r#"
@@ -143,33 +141,26 @@ CONFIG_B=y
 --- end
 "#;
 
-/// Wants a target to write this output for the Kconfig of a block and a `.config`.
-fn target_writes<'a>(
-    rt: &impl Abort,
-    alloc: Global,
-    block: &'a str,
-    target: &'a str,
-    config: &'a str,
-    output: &'a str,
-) {
-    let files = [
-        ("Kconfig", section(block, "Kconfig").as_bytes()),
-        (".config", config.as_bytes()),
-    ];
-    let words = ["kconf", target, "Kconfig", ".config"];
-    let outcome = run_program(alloc, words.as_slice(), files.as_slice(), b"");
-    want(rt, &outcome, 0, output, "", block);
-}
+const SAVEDEFCONFIG: [&str; 4] = ["kconf", "savedefconfig", "Kconfig", ".config"];
+
+const OLDDEFCONFIG: [&str; 4] = ["kconf", "olddefconfig", "Kconfig", ".config"];
 
 #[test]
 fn a_default_file_gives_the_same_config(rt: HostRuntime) {
-    let alloc = rt.alloc();
     for block in DEFAULT_FILES.split("=== ").skip(1) {
-        let config = section(block, ".config");
+        let kconfig = section(block, "Kconfig").as_bytes();
+        let config = section(block, ".config").as_bytes();
         let default_file = section(block, "default");
         let new = section(block, "new");
-        target_writes(&rt, alloc, block, "savedefconfig", config, default_file);
-        target_writes(&rt, alloc, block, "olddefconfig", config, new);
-        target_writes(&rt, alloc, block, "olddefconfig", default_file, new);
+
+        let files = [("Kconfig", kconfig), (".config", config)];
+        let outcome = run_program(rt.alloc(), SAVEDEFCONFIG.as_slice(), files.as_slice(), b"");
+        want(&rt, &outcome, 0, default_file, "", block);
+        let outcome = run_program(rt.alloc(), OLDDEFCONFIG.as_slice(), files.as_slice(), b"");
+        want(&rt, &outcome, 0, new, "", block);
+
+        let files = [("Kconfig", kconfig), (".config", default_file.as_bytes())];
+        let outcome = run_program(rt.alloc(), OLDDEFCONFIG.as_slice(), files.as_slice(), b"");
+        want(&rt, &outcome, 0, new, "", block);
     }
 }
