@@ -32,7 +32,7 @@ HEADING = "## Definitions that no public contract reaches"
 # A definition: its crate, its file without the ending, and its name.
 Definition = Tuple[str, str, str]
 
-# A word with the one after a dot behind it. A word that stands behind a dot is a field, and names no definition.
+# A word, and the one after a dot that follows it. A word after a dot is a field, and names no definition.
 NAME = r"([^\W\d][\w'-]*)"
 WORD = re.compile(rf"(?<![\w.]){NAME}(?:\.{NAME})?")
 
@@ -70,9 +70,9 @@ class Imports:
 
     def named_in(self, text: str) -> Iterator[Definition]:
         """The definitions that a text names."""
-        for word, behind in WORD.findall(text):
-            if behind and word in self.files:
-                yield (*self.files[word], behind)
+        for word, after in WORD.findall(text):
+            if after and word in self.files:
+                yield (*self.files[word], after)
             elif word in self.names:
                 yield self.names[word]
 

@@ -55,12 +55,12 @@ plain_text : (raw text : List ℕ) → Spells raw text → IsPlain raw → IsPla
 plain_text raw [] s h = refl
 plain_text raw (b ∷ text) s h = go (plain_text s.0 text s.1) s.2
   where
-    behind : (IsPlain s.0 → IsPlain text) → IsPlain (b ∷ s.0) → IsPlain (b ∷ text)
-    behind rest k = let p = or_parts (is_feed b) (list_any is_feed s.0) k in or_from (is_feed b) (list_any is_feed text) p.0 (rest p.1)
+    longer : (IsPlain s.0 → IsPlain text) → IsPlain (b ∷ s.0) → IsPlain (b ∷ text)
+    longer rest k = let p = or_parts (is_feed b) (list_any is_feed s.0) k in or_from (is_feed b) (list_any is_feed text) p.0 (rest p.1)
 
     go : (IsPlain s.0 → IsPlain text) → ((is_special b ≡ false) × (raw ≡ b ∷ s.0)) ⊎ (raw ≡ 92 ∷ b ∷ s.0) → IsPlain (b ∷ text)
-    go rest (inl p) = behind rest (sym (ap (list_any is_feed) p.1) ∙ h)
-    go rest (inr e) = behind rest (sym (ap (list_any is_feed) e) ∙ h)
+    go rest (inl p) = longer rest (sym (ap (list_any is_feed) p.1) ∙ h)
+    go rest (inr e) = longer rest (sym (ap (list_any is_feed) e) ∙ h)
 
 spelt_unfed : (k : SymbolType) (v : UserVal) (value : List ℕ) → IsSpelt k v value → IsPlain value → has_feed v ≡ false
 spelt_unfed k (TriVal x) value s h = refl

@@ -1,4 +1,4 @@
-//! The `.config` behind a header, the C header and the new list.
+//! The `.config` after its header, the C header and the new list.
 use crate::trees::{load, prefix, shown};
 use kc_files::{Prefix, config_text, header_text, new_text};
 use kc_tables::{rows, three_fields};
@@ -118,7 +118,7 @@ fn a_config_is_moved_to_another_prefix(rt: HostRuntime) -> Result<(), Fail> {
     Ok(())
 }
 
-/// The `.config` behind a header, with the default values.
+/// The `.config` after its header, with the default values.
 fn show_config(alloc: Global, tree: &Tree, header: &str) -> Result<String, Fail> {
     let user = User::empty(alloc, tree)?;
     let mut resolver = Fresh::new(alloc, tree, &user);
@@ -129,7 +129,7 @@ fn show_config(alloc: Global, tree: &Tree, header: &str) -> Result<String, Fail>
 const CONFIGS: &str = r#"
  | # Made by a tool.\n | # Made by a tool.\n
 config A\nbool "a"\n | #\n# Automatically generated file; DO NOT EDIT.\n#\n | #\n# Automatically generated file; DO NOT EDIT.\n#\n# CONFIG_A is not set\n
-// A title has its empty line behind a header as well, and a header is taken as it is.
+// A title has its empty line after a header as well, and a header is taken as it is.
 menu "M"\nconfig A\nbool "a"\nendmenu\nconfig C\nbool "c"\n | # x\n | # x\n\n#\n# M\n#\n# CONFIG_A is not set\n# end of M\n\n# CONFIG_C is not set\n
 config A\nbool "a"\n | # "é\\ | # "é\\# CONFIG_A is not set\n
 "#;

@@ -30,7 +30,7 @@ longer_front bytes n text room front =
     let tail = IsUtf8-drop bytes n text (IsCharBoundary-from_take bytes n text (omega arith) front) in
     longer_by bytes n text room tail tail.0 tail.1.1
 
--- bytes with four or more behind their longest front begin no text
+-- bytes with four or more after their longest front begin no text
 no_text : (bytes rest : List ℕ) (n : ℕ) → IsValidUpTo bytes n → n + 4 ≤ length bytes → ¬ (IsUtf8 (bytes ++ rest))
 no_text bytes rest n valid room text =
     let front = subst IsUtf8 (sym (take-append-le n bytes rest (omega arith))) valid.front in

@@ -55,7 +55,7 @@ config A / bool "a" / default A => kconf: K19: a dependency loop, in which each 
 config A / bool Network => kconf: Kconfig:2: K20: a word or a form of Kconfig that is unsupported
 "#;
 
-// A text with a line end in place of each ` / `, and behind it.
+// A text with a line end in place of each ` / `, and one after it.
 fn lines_of(alloc: Global, text: &str) -> Result<String, AllocError> {
     let mut lines = String::new(alloc);
     for line in text.split(" / ") {

@@ -153,10 +153,10 @@ fn keeps_the_limit_of_references_of_a_token(rt: HostRuntime) -> Result<(), Fail>
         // Each token counts for itself.
         ("default \"", "\" \"$(U)\"", "[2 default \"\" \"\"][3 end]"),
     ];
-    for (before, behind, want) in table {
-        let text = format!(in alloc; "V = {empty}\n{before}{uses}{behind}")?;
+    for (before, after, want) in table {
+        let text = format!(in alloc; "V = {empty}\n{before}{uses}{after}")?;
         let found = shown(alloc, text.as_str())?;
-        assert_eq!(rt; found.as_str(), want, "at {before}..{behind}");
+        assert_eq!(rt; found.as_str(), want, "at {before}..{after}");
     }
     Ok(())
 }

@@ -65,7 +65,7 @@ fn a_list_that_many_nodes_read_is_there_once(rt: HostRuntime) -> Result<(), Fail
         let mut text = menu(alloc, word)?;
         text.push_str(end)?;
         let found = shown(alloc, text.as_str(), show_size)?;
-        assert_eq!(rt; found.as_str(), "small", "behind {word}");
+        assert_eq!(rt; found.as_str(), "small", "after {word}");
     }
     Ok(())
 }
