@@ -3,7 +3,7 @@
 
     tools/check_explanations.py
 
-It is run by hand, after a change of crates/kc_program/src/explanations.rt or of docs/FAULTS.md. A line is written for each
+It is run by hand, after a change of crates/kc_explain/src/meanings.rt or of docs/FAULTS.md. A line is written for each
 number whose words differ or that one of the two lacks, for each fault without a heading in the document, and for a table
 whose numbers are not those from 1 on; the status is 1 where there is one.
 """
@@ -13,7 +13,7 @@ import sys
 from pathlib import Path
 
 ROOT = Path(__file__).resolve().parent.parent
-CODE = ROOT / "crates" / "kc_program" / "src" / "explanations.rt"
+CODE = ROOT / "crates" / "kc_explain" / "src" / "meanings.rt"
 DOCUMENT = ROOT / "docs" / "FAULTS.md"
 
 # The tables: the name in the code, the heading above that of the document, the form of a number there, how many.

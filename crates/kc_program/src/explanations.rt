@@ -1,58 +1,18 @@
-//! What the numbers of faults and warnings mean, in a few words each, for `--explain`. docs/FAULTS.md has the same words,
-//! which `tools/check_explanations.py` compares.
+//! What is said of a fault with `--explain`: its words, and the lines that show it. The files are read again for that.
 
-/// The words of a fault, by its number, as 3 in `K03`.
-static FAULTS: [(u8, &str); 20] = [
-    (
-        1,
-        "a limit is passed, of bytes, files, depth, references or symbols",
-    ),
-    (2, "a character that is not allowed here"),
-    (3, "a quote that its line does not close"),
-    (4, "a line that begins with no known word"),
-    (5, "a line that does not have the form of its statement"),
-    (
-        6,
-        "an attribute that the nearest statement does not take, or without a statement",
-    ),
-    (7, "a block closed wrongly, or not closed in its file"),
-    (8, "a file that is missing"),
-    (9, "a file that sources itself, directly or through others"),
-    (
-        10,
-        "a dollar that begins no reference to a variable, or a function: docs/TREES.md says what to do",
-    ),
-    (11, "a variable that its own expansion needs"),
-    (12, "a symbol without a type"),
-    (13, "a symbol with two types"),
-    (14, "two prompts in one definition"),
-    (15, "a default or a range that does not fit the type"),
-    (
-        16,
-        "a select or an imply in, or of, a string, an int or a hex",
-    ),
-    (17, "a choice, or a member of one, at fault"),
-    (18, "MODULES that is no bool, or modules in another symbol"),
-    (
-        19,
-        "a dependency loop, in which each of these uses the next and the last the first",
-    ),
-    (20, "a word or a form of Kconfig that is unsupported"),
-];
+use crate::folder::Folder;
+use crate::messages::{Fault, Report};
+use crate::notes::Note;
+use crate::opening::{Files, Kconfig};
+use bumpalo::Bump;
+use kc_explain::{
+    Explanation, explain_choice, explain_loop, explain_symbol, fault_meaning, warning_meaning,
+};
+use kc_text::{Line, TextFault};
+use kc_tree::TreeFault;
+use std::alloc::{AllocError, Global};
 
-/// The words of a warning of a `.config`, by its number.
-static WARNINGS: [(u8, &str); 5] = [
-    (1, "no symbol has this name"),
-    (2, "not a value of the symbol's type"),
-    (
-        3,
-        "a string that is not in quotes, or whose quotes are not closed",
-    ),
-    (4, "not a line of a .config"),
-    (5, "the symbol had a usable line before; this one counts"),
-];
-
-/// Whether words are written behind the numbers of faults and warnings.
+/// Whether words are written after the numbers of faults and warnings.
 #[derive(Clone, Copy, Debug, PartialEq, Eq)]
 pub enum Wording {
     /// The number alone.
@@ -62,26 +22,86 @@ pub enum Wording {
 }
 
 impl Wording {
-    /// What stands behind the number of a fault.
-    pub fn behind_fault(self, number: u8) -> Option<&'static str> {
-        self.words_in(FAULTS.as_slice(), number)
-    }
-
-    /// What stands behind the number of a warning.
-    pub fn behind_warning(self, number: u8) -> Option<&'static str> {
-        self.words_in(WARNINGS.as_slice(), number)
-    }
-
-    fn words_in(self, table: &'static [(u8, &'static str)], number: u8) -> Option<&'static str> {
+    /// What is written after the number of a fault of which no more is known.
+    pub fn after_fault(self, number: u8) -> Option<&'static str> {
         match self {
             Wording::Number => None,
-            Wording::Explained => words_of(table, number),
+            Wording::Explained => fault_meaning(number),
+        }
+    }
+
+    /// What is written after the number of a warning of which no more is known.
+    pub fn after_warning(self, number: u8) -> Option<&'static str> {
+        match self {
+            Wording::Number => None,
+            Wording::Explained => warning_meaning(number),
         }
     }
 }
 
-/// The words of a number in a table.
-fn words_of(table: &'static [(u8, &'static str)], number: u8) -> Option<&'static str> {
-    let row = table.iter().find(|row| row.0 == number)?;
-    Some(row.1)
+/// The report of a fault that reading a Kconfig came to, with what its files say of it where that is wanted.
+pub fn report_of<F: Folder>(
+    alloc: Global,
+    fault: Fault,
+    wording: Wording,
+    files: &Files<'_, F>,
+    kconfig: &Kconfig<'_, F>,
+) -> Report {
+    let note = match wording {
+        Wording::Number => None,
+        Wording::Explained => note_of(alloc, &fault, files, kconfig),
+    };
+    Report {
+        fault,
+        wording,
+        note,
+    }
+}
+
+/// What the files of a Kconfig say of its fault: nothing where they can't be read again, or memory is refused.
+fn note_of<F: Folder>(
+    alloc: Global,
+    fault: &Fault,
+    files: &Files<'_, F>,
+    kconfig: &Kconfig<'_, F>,
+) -> Option<Note> {
+    let Fault::Tree(fault) = fault else {
+        return None;
+    };
+    let explanation = explain_tree(alloc, fault, files, kconfig).ok()??;
+    Note::of(alloc, &explanation, files).ok()
+}
+
+/// What the lines of a Kconfig say of a fault of its lines or of its tree.
+fn explain_tree<F: Folder>(
+    alloc: Global,
+    fault: &TreeFault,
+    files: &Files<'_, F>,
+    kconfig: &Kconfig<'_, F>,
+) -> Result<Option<Explanation>, AllocError> {
+    let arena = Bump::new(alloc);
+    match files.lines(&arena, kconfig) {
+        Ok(lines) => explain_lines(alloc, fault, lines.as_slice()),
+        Err(TextFault::NoMemory | TextFault::At(..)) => Ok(None),
+    }
+}
+
+fn explain_lines(
+    alloc: Global,
+    fault: &TreeFault,
+    lines: &[Line<'_>],
+) -> Result<Option<Explanation>, AllocError> {
+    let explanation = match fault {
+        TreeFault::Line { .. } | TreeFault::NoMemory => return Ok(None),
+        TreeFault::Symbol { problem, name } => {
+            explain_symbol(alloc, lines, *problem, name.as_str())?
+        }
+        TreeFault::Choice {
+            problem,
+            path,
+            line,
+        } => explain_choice(alloc, lines, *problem, path.as_str(), *line)?,
+        TreeFault::Loop(nodes) => explain_loop(alloc, lines, nodes.as_slice())?,
+    };
+    Ok(Some(explanation))
 }

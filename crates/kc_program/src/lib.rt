@@ -7,6 +7,7 @@ mod explanations;
 mod folder;
 mod known;
 mod messages;
+mod notes;
 mod opening;
 mod read_ahead;
 mod running;

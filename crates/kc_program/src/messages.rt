@@ -4,6 +4,7 @@ ghost use Rattle.kc_program.specs.Endings.{code_of};
 ghost use Rattle.kc_program.specs.FaultNumbers.{fault_number};
 
 use crate::explanations::Wording;
+use crate::notes::Note;
 use kc_files::Warning;
 use kc_session::IoFault;
 use kc_text::{Text, TextFault};
@@ -52,6 +53,34 @@ pub enum Fault {
     NoMemory,
 }
 
+/// A fault, and what is reported of it.
+#[derive(Debug, Drop)]
+pub struct Report {
+    pub fault: Fault,
+    pub wording: Wording,
+    /// What its files say of it, where that is wanted and known.
+    pub note: Option<Note>,
+}
+
+impl Report {
+    /// The report of a fault of which no more is known.
+    pub fn of(fault: Fault, wording: Wording) -> Report {
+        Report {
+            fault,
+            wording,
+            note: None,
+        }
+    }
+
+    /// What is written after the number of the fault.
+    fn words(&self, number: u8) -> Option<&str> {
+        match &self.note {
+            Some(note) => Some(note.words.as_str()),
+            None => self.wording.after_fault(number),
+        }
+    }
+}
+
 impl From<AllocError> for Fault {
     fn from(_refused: AllocError) -> Self {
         Fault::NoMemory
@@ -89,19 +118,28 @@ pub fn write_warnings<E: Write>(
     for warning in warnings {
         let number = warning.kind.number();
         write!(errors, "kconf: {path}:{}: warning {number}", warning.line)?;
-        end_line(errors, wording.behind_warning(number))?;
+        end_line(errors, wording.after_warning(number))?;
     }
     Ok(())
 }
 
-/// Writes a fault as lines that each begin with `kconf: `. A line of a file is named as `PATH:LINE`.
-pub fn write_fault<E: Write>(errors: &mut E, fault: &Fault, wording: Wording) -> io::Result<()> {
-    match fault {
+/// Writes a fault as lines that each begin with `kconf: `, and the lines that explain it. A line of a file is named as
+/// `PATH:LINE`.
+pub fn write_report<E: Write>(errors: &mut E, report: &Report) -> io::Result<()> {
+    write_fault(errors, report)?;
+    match &report.note {
+        Some(note) => errors.write_all(note.lines.as_str().as_bytes()),
+        None => Ok(()),
+    }
+}
+
+fn write_fault<E: Write>(errors: &mut E, report: &Report) -> io::Result<()> {
+    match &report.fault {
         Fault::CannotRead(path) => writeln!(errors, "kconf: {path}: cannot read"),
         Fault::NotUtf8(path) => writeln!(errors, "kconf: {path}: not UTF-8"),
         Fault::Limit(path) => writeln!(errors, "kconf: {path}: limit"),
-        Fault::Full(fault) | Fault::Text(fault) => write_text_fault(errors, fault, wording),
-        Fault::Tree(fault) => write_tree_fault(errors, fault, wording),
+        Fault::Full(fault) | Fault::Text(fault) => write_text_fault(errors, fault, report),
+        Fault::Tree(fault) => write_tree_fault(errors, fault, report),
         Fault::Stream(IoFault::Read) => writeln!(errors, "kconf: cannot read"),
         Fault::Stream(IoFault::Write) => writeln!(errors, "kconf: cannot write"),
         Fault::Stream(IoFault::Memory) | Fault::NoMemory => writeln!(errors, "kconf: memory"),
@@ -111,13 +149,13 @@ pub fn write_fault<E: Write>(errors: &mut E, fault: &Fault, wording: Wording) ->
 fn write_text_fault<E: Write>(
     errors: &mut E,
     fault: &TextFault,
-    wording: Wording,
+    report: &Report,
 ) -> io::Result<()> {
     match fault {
         TextFault::At(problem, path, line) => {
             let number = problem.number();
             write!(errors, "kconf: {path}:{line}: K{number:02}")?;
-            end_line(errors, wording.behind_fault(number))
+            end_line(errors, report.words(number))
         }
         TextFault::NoMemory => writeln!(errors, "kconf: memory"),
     }
@@ -126,10 +164,10 @@ fn write_text_fault<E: Write>(
 fn write_tree_fault<E: Write>(
     errors: &mut E,
     fault: &TreeFault,
-    wording: Wording,
+    report: &Report,
 ) -> io::Result<()> {
     write!(errors, "kconf: {fault}")?;
-    let words = number_of(fault).and_then(|number| wording.behind_fault(number));
+    let words = number_of(fault).and_then(|number| report.words(number));
     end_line(errors, words)?;
     if let TreeFault::Loop(nodes) = fault {
         for node in nodes {
@@ -153,7 +191,7 @@ fn number_of(fault: &TreeFault) -> Option<u8>
 }
 
 /// Ends a line, with the words that explain it, if there are some.
-fn end_line<E: Write>(errors: &mut E, words: Option<&'static str>) -> io::Result<()> {
+fn end_line<E: Write>(errors: &mut E, words: Option<&str>) -> io::Result<()> {
     match words {
         Some(words) => writeln!(errors, ": {words}"),
         None => writeln!(errors),

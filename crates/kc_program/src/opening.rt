@@ -12,7 +12,7 @@ use kc_files::{Prefix, Warning};
 use kc_session::{OpenFault, Session, open_seeded};
 use kc_text::{Line, Sources, Text, TextFault, TextProblem, Vars, logical_lines};
 use kc_tree::Seed;
-use std::alloc::Global;
+use std::alloc::{AllocError, Global};
 use std::collections::{HashMap, HashSet};
 
 /// The most paths that are read ahead at a time.
@@ -33,6 +33,11 @@ impl ConfigFile {
             path: String::new(alloc),
             bytes: Vec::new(alloc),
         }
+    }
+
+    /// The path, which is empty where there is no file.
+    pub fn path(&self) -> &str {
+        self.path.as_str()
     }
 }
 
@@ -69,7 +74,7 @@ pub struct Kconfig<'a, F> {
 }
 
 /// A session, and the warnings of the `.config` in the order of its lines.
-type Opened = (Session, Vec<Warning>);
+pub type Opened = (Session, Vec<Warning>);
 
 /// The session of a Kconfig with the values of its `.config`, and the warnings in the order of its lines. The answer is
 /// that of reading the files that `open` wants, one at a time.
@@ -78,10 +83,14 @@ type Opened = (Session, Vec<Warning>);
 /// are read ahead change nothing, whether they are wanted later or not. They only take part in the limits on all
 /// files together, and of memory. So where there is no room for a file that is wanted, or memory is refused, less is
 /// read ahead, and in the end nothing. A file that was wanted is not read twice: it may be a pipe.
-pub fn open_kconfig<F: Folder>(alloc: Global, kconfig: &Kconfig<'_, F>) -> Result<Opened, Fault> {
-    let mut files = Files::new(alloc, kconfig)?;
+///
+/// The files serve to read lines again that a fault or a warning names.
+pub fn open_kconfig<F: Folder>(
+    files: &mut Files<'_, F>,
+    kconfig: &Kconfig<'_, F>,
+) -> Result<Opened, Fault> {
     match files.open(kconfig, Reach::Everything) {
-        Err(Fault::Full(_) | Fault::NoMemory) => open_with_less(&mut files, kconfig),
+        Err(Fault::Full(_) | Fault::NoMemory) => open_with_less(files, kconfig),
         answer => answer,
     }
 }
@@ -109,7 +118,7 @@ struct Want {
 
 /// The files that were read so far.
 #[derive(Drop)]
-struct Files<'a, F> {
+pub struct Files<'a, F> {
     alloc: Global,
     folder: &'a F,
     /// The seed of the hash under which names and paths are kept.
@@ -127,7 +136,7 @@ struct Files<'a, F> {
 
 impl<'a, F: Folder> Files<'a, F> {
     /// No files, of a Kconfig whose files are read as far ahead as can be.
-    fn new(alloc: Global, kconfig: &Kconfig<'a, F>) -> Result<Files<'a, F>, Fault> {
+    pub fn new(alloc: Global, kconfig: &Kconfig<'a, F>) -> Result<Files<'a, F>, Fault> {
         let seed = kconfig.folder.seed();
         Ok(Files {
             alloc,
@@ -140,6 +149,27 @@ impl<'a, F: Folder> Files<'a, F> {
             ahead: 0,
             kept: HashMap::with_hasher(alloc, seed),
         })
+    }
+
+    /// The logical lines of the files that were read, whose tokens the arena keeps.
+    pub fn lines<'b>(
+        &'b self,
+        arena: &'b Bump,
+        kconfig: &'b Kconfig<'_, F>,
+    ) -> Result<Vec<Line<'b>>, TextFault> {
+        logical_lines(self.alloc, arena, &self.sources, kconfig.vars, kconfig.top)
+    }
+
+    /// The text of the file of a path, for a message: none where it can't be read again.
+    pub fn text(&self, path: &str) -> Result<Option<String>, AllocError> {
+        if let Some(text) = self.kept.get(path) {
+            return Ok(Some(String::from_str(self.alloc, text.as_str())?));
+        }
+        match self.folder.read_plain(self.alloc, path) {
+            Ok(bytes) => Ok(utf8_text(bytes)),
+            Err(FolderFault::CannotRead) => Ok(None),
+            Err(FolderFault::NoMemory) => Err(AllocError),
+        }
     }
 
     /// Starts with no files, and reads as far ahead as a reach says.

@@ -4,14 +4,13 @@ ghost use Rattle.clap.specs.Words.{kind_of};
 ghost use Rattle.kc_program.specs.Endings.{ending_of};
 
 use crate::arguments::Arguments;
-use crate::explanations::Wording;
+use crate::explanations::{Wording, report_of};
 use crate::folder::Folder;
-use crate::messages::{Fault, Status, write_fault, write_warnings};
-use crate::opening::{ConfigFile, Kconfig, open_kconfig, read_config_file};
+use crate::messages::{Fault, Report, Status, write_report, write_warnings};
+use crate::opening::{ConfigFile, Files, Kconfig, open_kconfig, read_config_file};
 use crate::targets::Target;
 use clap::Error;
 use clap::error::ErrorKind;
-use kc_files::Warning;
 use kc_session::{IoFault, Reply, Session, run};
 use kc_text::Vars;
 use std::alloc::Global;
@@ -40,14 +39,14 @@ pub fn program<S: AsStr, F: Folder, R: Read, W: Write, E: Write>(
     let status = match Arguments::parse(alloc, words) {
         Ok(arguments) => match serve(alloc, &arguments, folder, input, output, errors) {
             Ok(()) => Status::Done,
-            Err(fault) => report(&fault, arguments.wording, errors),
+            Err(fault) => report(&fault, errors),
         },
         Err(error) => answer_words(&error, output, errors),
     };
     status.code()
 }
 
-/// Reads the Kconfig and CONFIG, writes the warnings, and then what the target asks for.
+/// Reads CONFIG, and does what the target asks for.
 fn serve<F: Folder, R: Read, W: Write, E: Write>(
     alloc: Global,
     arguments: &Arguments<'_>,
@@ -55,28 +54,11 @@ fn serve<F: Folder, R: Read, W: Write, E: Write>(
     input: &mut R,
     output: &mut W,
     errors: &mut E,
-) -> Result<(), Fault> {
-    let (mut session, warnings) = open_session(alloc, arguments, folder)?;
-    let path = arguments.config.unwrap_or("");
-    // A warning that cannot be written is no fault: the status says whether the output is there.
-    let _ = write_warnings(errors, path, warnings.as_slice(), arguments.wording);
-    let served = write_target(alloc, arguments.target, &mut session, input, output);
-    // The program ends here, so its memory need not be given back piece by piece.
-    mem::forget(session);
-    served
-}
-
-/// The session of the Kconfig of a folder, which sees the variables of the words alone, with the values of CONFIG and
-/// the warnings of its lines.
-fn open_session<F: Folder>(
-    alloc: Global,
-    arguments: &Arguments<'_>,
-    folder: &F,
-) -> Result<(Session, Vec<Warning>), Fault> {
-    let vars = Vars::from_pairs(alloc, arguments.variables.as_slice())?;
-    let config = match arguments.config {
-        Some(path) => read_config_file(alloc, folder, path)?,
-        None => ConfigFile::none(alloc),
+) -> Result<(), Report> {
+    let wording = arguments.wording;
+    let (vars, config) = match read_inputs(alloc, arguments, folder) {
+        Ok(inputs) => inputs,
+        Err(fault) => return Err(Report::of(fault, wording)),
     };
     let kconfig = Kconfig {
         folder,
@@ -86,7 +68,50 @@ fn open_session<F: Folder>(
         prefix: &arguments.prefix,
         config: &config,
     };
-    open_kconfig(alloc, &kconfig)
+    let mut session = open_session(alloc, &kconfig, wording, errors)?;
+    let served = write_target(alloc, arguments.target, &mut session, input, output);
+    // The program ends here, so its memory need not be given back piece by piece.
+    mem::forget(session);
+    match served {
+        Ok(()) => Ok(()),
+        Err(fault) => Err(Report::of(fault, wording)),
+    }
+}
+
+/// The variables of the words, and CONFIG.
+fn read_inputs<F: Folder>(
+    alloc: Global,
+    arguments: &Arguments<'_>,
+    folder: &F,
+) -> Result<(Vars, ConfigFile), Fault> {
+    let vars = Vars::from_pairs(alloc, arguments.variables.as_slice())?;
+    let config = match arguments.config {
+        Some(path) => read_config_file(alloc, folder, path)?,
+        None => ConfigFile::none(alloc),
+    };
+    Ok((vars, config))
+}
+
+/// The session of a Kconfig, which sees the variables of the words alone, with the values of CONFIG. The warnings of its
+/// lines are written.
+fn open_session<F: Folder, E: Write>(
+    alloc: Global,
+    kconfig: &Kconfig<'_, F>,
+    wording: Wording,
+    errors: &mut E,
+) -> Result<Session, Report> {
+    let mut files = match Files::new(alloc, kconfig) {
+        Ok(files) => files,
+        Err(fault) => return Err(Report::of(fault, wording)),
+    };
+    match open_kconfig(&mut files, kconfig) {
+        Ok((session, warnings)) => {
+            // A warning that cannot be written is no fault: the status says whether the output is there.
+            let _ = write_warnings(errors, kconfig.config.path(), warnings.as_slice(), wording);
+            Ok(session)
+        }
+        Err(fault) => Err(report_of(alloc, fault, wording, &files, kconfig)),
+    }
 }
 
 /// Writes the output of a target: the text of its query after its edit, or the replies to the commands of the input.
@@ -131,9 +156,12 @@ fn answer_words<W: Write, E: Write>(error: &Error, output: &mut W, errors: &mut 
     match ending_of(error) {
         Status::Done => match show_help(error, output) {
             Ok(()) => Status::Done,
-            Err(_) => report(&Fault::Stream(IoFault::Write), Wording::Number, errors),
+            Err(_) => report(
+                &Report::of(Fault::Stream(IoFault::Write), Wording::Number),
+                errors,
+            ),
         },
-        Status::Fault => report(&Fault::NoMemory, Wording::Number, errors),
+        Status::Fault => report(&Report::of(Fault::NoMemory, Wording::Number), errors),
         Status::Usage => {
             let _ = write!(errors, "{error}");
             Status::Usage
@@ -158,7 +186,7 @@ fn ending_of(error: &Error) -> Status
 }
 
 /// Reports a fault.
-fn report<E: Write>(fault: &Fault, wording: Wording, errors: &mut E) -> Status {
-    let _ = write_fault(errors, fault, wording);
+fn report<E: Write>(report: &Report, errors: &mut E) -> Status {
+    let _ = write_report(errors, report);
     Status::Fault
 }

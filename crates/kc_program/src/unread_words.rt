@@ -4,7 +4,7 @@ ghost use Rattle.std.specs.IoError.{error_kind};
 ghost use Rattle.kc_program.specs.UnreadWords.{ending_without_words};
 
 use crate::explanations::Wording;
-use crate::messages::{Fault, Status, write_fault};
+use crate::messages::{Fault, Report, Status, write_report};
 use std::io::{self, ErrorKind, Write};
 
 /// How the program ends where its words cannot be read: one that is not UTF-8 is a mistake of usage.
@@ -24,7 +24,7 @@ pub fn answer_unread<E: Write>(error: &io::Error, errors: &mut E) -> Status
 {
     let status = ending_without_words(error);
     let _ = match status {
-        Status::Fault => write_fault(errors, &Fault::NoMemory, Wording::Number),
+        Status::Fault => write_report(errors, &Report::of(Fault::NoMemory, Wording::Number)),
         _ => writeln!(errors, "error: a word of the command line is not UTF-8"),
     };
     status
