@@ -1,7 +1,8 @@
 #!/usr/bin/env python3
 """Turns a Kconfig tree with macro functions into one that kconf reads.
 
-    tools/expand_kconfig.py [--root FOLDER] [--expand] [--environment] [--notes FILE] KCONFIG OUT [NAME=VALUE]...
+    tools/expand_kconfig.py [--root FOLDER] [--variables FILE] [--words FILE] [--notes FILE] [--expand] [--environment]
+                            KCONFIG OUT [NAME=VALUE]...
 
 KCONFIG and all files that it sources are read in FOLDER (or the working directory) and written to the same paths below
 OUT, which must not be there or be empty. Run kconf in OUT.
@@ -9,10 +10,12 @@ OUT, which must not be there or be empty. Run kconf in OUT.
 Macro functions are run, and variables that files define are put in place; so are `$NAME`, `${NAME}` of words NAME=VALUE.
 Paths, prompts and titles get their quotes. Each line keeps its number (except in files with def_int, def_hex or
 def_string), so that a fault that kconf reports is at the same line of the tree. What is changed in its meaning, or could
-be, is noted on standard error with its file and line. On standard output are the words NAME=VALUE that kconf needs.
+be, is noted on standard error with its file and line. On standard output are the words NAME=VALUE that kconf needs, as
+a shell reads them; with --words they are in FILE, one a line, as `kconf --variables FILE` reads them.
 
-Commands of $(shell,..) are run in FOLDER, with the words NAME=VALUE in their environment. The status is 0, 1 where a
-line can't be expanded, and 2 for a mistake of usage. docs/TREES.md has examples.
+Commands of $(shell,..) are run in FOLDER, with the words NAME=VALUE in their environment. Where a line can't be expanded,
+or a command fails, the variables of that line that nobody gave are named. The status is 0, 1 where a line can't be
+expanded or a file can't be read or written, and 2 for a usage error. docs/TREES.md has examples.
 """
 
 import argparse
@@ -84,6 +87,20 @@ class Expander:
         return name
 
     def expand_line(self, logical: Logical, place: Place) -> Statement:
+        """The statement of a logical line. A fault of it names the variables of the line that are not given."""
+        self.macros.absent = []
+        try:
+            return self.statement(logical, place)
+        except RecursionError as fault:
+            raise place.fault("an expansion nests too deeply") from fault
+        except Fault as fault:
+            if fault.is_whole:
+                raise
+            whole = Fault("; ".join(filter(None, [str(fault).removesuffix("."), self.macros.absent_words()])))
+            whole.is_whole = True
+            raise whole from fault
+
+    def statement(self, logical: Logical, place: Place) -> Statement:
         """The statement of a logical line, as it is written for kconf."""
         if logical.is_help or (match := HELP.fullmatch(logical.text)) and match[1] in ("help", "---help---"):
             return Statement(place, [], logical.text, logical)
@@ -149,45 +166,84 @@ class Expander:
     def write(self, out: Path) -> None:
         for path, text in self.written.items():
             (out / path).parent.mkdir(parents=True, exist_ok=True)
-            (out / path).write_text(text)
+            (out / path).write_text(text, encoding="utf-8")
+
+
+def variables_of(path: Path) -> list[str]:
+    """The lines NAME=VALUE of a file of variables, without empty lines and those that begin with `#`."""
+    lines = [line.removesuffix("\r") for line in path.read_text(encoding="utf-8").split("\n")]
+    return [line for line in lines if line and not line.startswith("#")]
 
 
 def parse_words() -> argparse.Namespace:
     parser = argparse.ArgumentParser(description=__doc__, formatter_class=argparse.RawDescriptionHelpFormatter)
     parser.add_argument("--root", type=Path, default=Path("."), metavar="FOLDER", help="the folder of the tree")
+    parser.add_argument("--variables", type=Path, metavar="FILE", help="NAME=VALUE, one a line, before the words")
+    parser.add_argument("--words", type=Path, metavar="FILE", help="write the words for kconf to FILE, one a line")
     parser.add_argument("--expand", action="store_true", help="put NAME=VALUE in place as well: kconf needs no words")
     parser.add_argument("--environment", action="store_true", help="let references see the environment as well")
     parser.add_argument("--notes", type=Path, metavar="FILE", help="write the notes to FILE")
     parser.add_argument("kconfig", metavar="KCONFIG", help="the top file, from FOLDER")
     parser.add_argument("out", type=Path, metavar="OUT", help="the folder to write to")
-    parser.add_argument("words", nargs="*", metavar="NAME=VALUE", help="variables of the tree")
+    parser.add_argument("given", nargs="*", default=[], metavar="NAME=VALUE", help="variables of the tree")
     arguments = parser.parse_args()
-    if any(not re.match(r"[A-Za-z0-9_][A-Za-z0-9_-]*=", word) for word in arguments.words):
-        parser.error("variables are given as NAME=VALUE")
-    if arguments.out.exists() and any(arguments.out.iterdir()):
-        parser.error(f"{arguments.out} is not empty")
+    try:
+        arguments.given = (variables_of(arguments.variables) if arguments.variables else []) + arguments.given
+    except (OSError, ValueError) as fault:
+        parser.error(f"{arguments.variables} can't be read: {fault}")
+    for word in arguments.given:
+        if not re.match(r"[A-Za-z0-9_][A-Za-z0-9_-]*=", word):
+            parser.error(f"a variable is given as NAME=VALUE, and not as {word!r}")
+    if not arguments.root.is_dir():
+        parser.error(f"{arguments.root} is no folder")
+    if arguments.out.exists() and (not arguments.out.is_dir() or any(arguments.out.iterdir())):
+        parser.error(f"{arguments.out} is there and is no empty folder")
     return arguments
+
+
+def counted(count: int, what: str) -> str:
+    return f"{count} {what}" if count == 1 else f"{count} {what}s"
+
+
+def write_words(arguments: argparse.Namespace, words: list[str]) -> None:
+    """Writes the words that kconf needs: for a shell to standard output, or a line each to a file."""
+    if arguments.words:
+        arguments.words.write_text("".join(word + "\n" for word in words), encoding="utf-8")
+    else:
+        print(" ".join(map(shlex.quote, words)))
+
+
+def expand(arguments: argparse.Namespace) -> None:
+    """Expands the tree, writes it, and reports. A fault leaves nothing written."""
+    passed = dict(word.split("=", 1) for word in arguments.given)
+    macros = Macros(passed, str(arguments.root), arguments.environment)
+    expander = Expander(arguments.root, macros, stays=not arguments.expand)
+    expander.expand_file(arguments.kconfig, Place(arguments.kconfig, 0))
+    expander.write(arguments.out)
+    notes_once = list(dict.fromkeys(expander.notes))
+    notes = "".join(note + "\n" for note in notes_once)
+    if arguments.notes:
+        arguments.notes.write_text(notes, encoding="utf-8")
+    else:
+        sys.stderr.write(notes)
+    counts = (len(expander.written), "file"), (macros.commands, "command"), (len(notes_once), "note")
+    print(", ".join(counted(*count) for count in counts), file=sys.stderr)
+    write_words(arguments, [f"{name}={passed[name]}" for name in passed if name in expander.needed])
 
 
 def main() -> int:
     arguments = parse_words()
-    passed = dict(word.split("=", 1) for word in arguments.words)
-    macros = Macros(passed, str(arguments.root), arguments.environment)
-    expander = Expander(arguments.root, macros, stays=not arguments.expand)
     try:
-        expander.expand_file(arguments.kconfig, Place(arguments.kconfig, 0))
+        expand(arguments)
     except Fault as fault:
         print(fault, file=sys.stderr)
-        return 1
-    expander.write(arguments.out)
-    notes = "".join(note + "\n" for note in dict.fromkeys(expander.notes))
-    if arguments.notes:
-        arguments.notes.write_text(notes)
+    except (OSError, ValueError) as fault:
+        print(f"expand_kconfig.py: {fault}", file=sys.stderr)
+    except KeyboardInterrupt:
+        return 130
     else:
-        sys.stderr.write(notes)
-    print(f"{len(expander.written)} files, {macros.commands} commands, {len(expander.notes)} notes", file=sys.stderr)
-    print(" ".join(shlex.quote(f"{name}={passed[name]}") for name in passed if name in expander.needed))
-    return 0
+        return 0
+    return 1
 
 
 if __name__ == "__main__":

@@ -14,6 +14,7 @@ from dataclasses import dataclass, field
 from typing import Callable
 
 MOST_CALLS = 100  # of one function that are open at once
+NOT_RUN = (126, 127)  # the statuses of a shell that can't run a command
 
 # What stands before the operator of an assignment, and the operator with its value.
 NAME_PART = re.compile(r"[A-Za-z0-9_-]*")
@@ -23,6 +24,8 @@ PLAIN_NAME = re.compile(r"[A-Za-z0-9_-]+")
 
 class Fault(Exception):
     """A line that can't be expanded. Its text begins with the path and the number of the line."""
+
+    is_whole = False  # whether the text says all that is known, also which variables are not given
 
 
 @dataclass(frozen=True)
@@ -42,6 +45,7 @@ class Variable:
 
     value: str
     is_recursive: bool
+    absent: list[str] = field(default_factory=list)  # what was not given when the value was expanded
     open_expansions: int = 0
 
 
@@ -78,10 +82,21 @@ class Macros:
     reads_environment: bool = False
     variables: dict[str, Variable] = field(default_factory=dict)
     commands: int = 0  # how many were run
+    absent: list[str] = field(default_factory=list)  # the names on this line that no file defines and nobody gave
+    reported: set[str] = field(default_factory=set)  # those that a message has named
 
     def is_passed(self, name: str) -> bool:
         """Whether a reference to the name has the text of a word NAME=VALUE."""
         return name in self.passed and name not in self.variables and name not in FUNCTIONS
+
+    def add_absent(self, names: list[str]) -> None:
+        self.absent += [name for name in names if name not in self.absent]
+
+    def absent_words(self) -> str:
+        """Which variables of this line are not given, and how to give them. Empty where all are."""
+        is_or_are = "is" if len(self.absent) == 1 else "are"
+        words = " ".join(f"{name}=VALUE" for name in self.absent)
+        return f"{' and '.join(self.absent)} {is_or_are} not given: pass {words}" if self.absent else ""
 
     def expand(self, text: str, place: Place, arguments: list[str] | None = None) -> str:
         """The text with all its references expanded. What an expansion gives is not expanded again."""
@@ -115,7 +130,11 @@ class Macros:
             return function(self, place, *given)
         if name in self.passed:
             return self.passed[name]
-        return os.environ.get(name, "") if self.reads_environment and not given else ""
+        if self.reads_environment and not given and name in os.environ:
+            return os.environ[name]
+        if PLAIN_NAME.fullmatch(name) and not given and not name.isdecimal():
+            self.add_absent([name])
+        return ""
 
     def call(self, name: str, given: list[str], place: Place) -> str:
         """What a variable gives, or a function that the tree has defined."""
@@ -125,6 +144,7 @@ class Macros:
         if variable.open_expansions > MOST_CALLS:
             raise place.fault(f"a function that calls itself without end: {name}")
         if not variable.is_recursive:
+            self.add_absent(variable.absent)
             return variable.value
         variable.open_expansions += 1
         try:
@@ -137,8 +157,9 @@ class Macros:
         known = self.variables.get(name)
         if operator == "+=" and known:
             known.value += " " + (value if known.is_recursive else self.expand(value, place))
+            known.absent += self.absent
         elif operator == ":=":
-            self.variables[name] = Variable(self.expand(value, place), is_recursive=False)
+            self.variables[name] = Variable(self.expand(value, place), is_recursive=False, absent=[*self.absent])
         else:
             self.variables[name] = Variable(value, is_recursive=True)
 
@@ -164,15 +185,32 @@ class Macros:
         return {**os.environ, **self.passed}
 
 
+def report_command(macros: Macros, place: Place, command: str, done: subprocess.CompletedProcess) -> None:
+    """Says what a command wrote to standard error, or in place of a shell's message which variables are not given."""
+    if macros.absent and not macros.reported.issuperset(macros.absent):
+        print(f"{place.path}:{place.line}: {macros.absent_words()} (in `{command}`)", file=sys.stderr)
+        macros.reported.update(macros.absent)
+    if not macros.absent or done.returncode not in NOT_RUN:
+        message = done.stderr.decode(errors="replace").rstrip()
+        print(f"{place.path}:{place.line}: `{command}` wrote: {message}", file=sys.stderr)
+
+
 def run_shell(macros: Macros, place: Place, command: str) -> str:
     """The standard output of a command: each line end is a space, those at the end are dropped."""
     macros.commands += 1
-    done = subprocess.run(
-        command, shell=True, cwd=macros.folder, env=macros.environment(), capture_output=True, stdin=subprocess.DEVNULL
-    )
+    try:
+        done = subprocess.run(
+            command,
+            shell=True,
+            cwd=macros.folder,
+            env=macros.environment(),
+            capture_output=True,
+            stdin=subprocess.DEVNULL,
+        )
+    except (OSError, ValueError) as fault:
+        raise place.fault(f"`{command}` can't be run: {fault}") from fault
     if done.stderr:
-        message = done.stderr.decode(errors="replace").rstrip()
-        print(f"{place.path}:{place.line}: `{command}` wrote: {message}", file=sys.stderr)
+        report_command(macros, place, command, done)
     output = done.stdout.decode(errors="replace")
     return "\n".join(output.splitlines()).rstrip("\n").replace("\n", " ")
 

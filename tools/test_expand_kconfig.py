@@ -1,9 +1,10 @@
 #!/usr/bin/env python3
-"""Tests of tools/expand_kconfig.py. It is run by hand.
+"""Tests of tools/expand_kconfig.py, which the gate does not run.
 
 Most of them are rows: the text of a Kconfig and what it is for kconf, as kconfig-macro-language.rst has it.
 """
 
+import os
 import subprocess
 import sys
 import tempfile
@@ -88,6 +89,46 @@ FAULTS = [
 ]
 
 
+# A Kconfig, further words of the command line, and what standard error has, as a pattern. The variables that nobody gave
+# are named in place of a shell's message, and no traceback shows.
+CALLS = "".join(f"f{number} = $(f{number + 1},$(1))\n" for number in range(900))
+NOT_GIVEN = [
+    (
+        "T = $(shell,$(srctree)/scripts/cc-version.sh)\nN := $(T)\n",
+        (),
+        r"^Kconfig:2: srctree is not given: pass srctree=VALUE \(in `/scripts/cc-version.sh`\)\n1 file, 1 command, 0 notes\n$",
+    ),
+    (
+        "N := $(shell,$(CC) --version)\nM := $(shell,$(CC) --help)\n",
+        (),
+        r"^Kconfig:1: CC is not given: pass CC=VALUE \(in ` --version`\)\n1 file, 2 commands, 0 notes\n$",
+    ),
+    (
+        "N := $(shell,echo no >&2; false $(FLAGS))\n",
+        (),
+        r"^Kconfig:1: FLAGS is not given: .*\nKconfig:1: `echo no >&2; false ` wrote: no\n",
+    ),
+    ("N := $(shell,echo no >&2)\n", (), r"^Kconfig:1: `echo no >&2` wrote: no\n"),
+    (
+        "source arch/$(SRCARCH)/Kconfig\n",
+        (),
+        r"^Kconfig:1: arch/Kconfig can't be read; SRCARCH is not given: pass SRCARCH=VALUE\n$",
+    ),
+    (
+        "D := $(A)$(B)\nsource $(D)\n",
+        (),
+        r"^Kconfig:2: a word that expands to nothing; A and B are not given: pass A=VALUE B=VALUE\n$",
+    ),
+    ("N := $(FLAGS)\n$(error-if,y,Sorry.)\n", (), r"^Kconfig:2: Sorry\n$"),
+    ("comment c\n", (), r"^Kconfig:1: c is put into quotes\n1 file, 0 commands, 1 note\n$"),
+    (CALLS + "N := $(f0,x)\n", (), r"^Kconfig:901: an expansion nests too deeply\n$"),
+    ("comment c\n", ("--root", "/nowhere"), r"error: /nowhere is no folder\n$"),
+    ("comment c\n", ("--variables", "/nowhere"), r"error: /nowhere can't be read: "),
+    ("comment c\n", ("--words", "/nowhere/words"), r"\nexpand_kconfig.py: .*No such file or directory: '/nowhere/words'\n$"),
+    ("comment c\n", ("X",), r"error: a variable is given as NAME=VALUE, and not as 'X'\n$"),
+]
+
+
 def run(files: dict[str, str], *words: str) -> tuple[int, dict[str, str], str, str]:
     """The status, the files that are written, standard output and standard error."""
     with tempfile.TemporaryDirectory() as folder:
@@ -96,7 +137,7 @@ def run(files: dict[str, str], *words: str) -> tuple[int, dict[str, str], str, s
             (root / path).parent.mkdir(parents=True, exist_ok=True)
             (root / path).write_text(text)
         command = [sys.executable, TOOL, "--root", root, *words[:1], "Kconfig", out, "ARCH=x86", *words[1:]]
-        done = subprocess.run([word for word in command if word], capture_output=True, text=True)
+        done = subprocess.run([word for word in command if word], cwd=folder, capture_output=True, text=True)
         written = {str(path.relative_to(out)): path.read_text() for path in out.rglob("*") if path.is_file()}
         return done.returncode, written, done.stdout, done.stderr
 
@@ -149,6 +190,42 @@ class Expansion(unittest.TestCase):
         self.assertEqual(run(files, "", "OTHER=1")[2], "ARCH=x86\n")
         status, written, stdout, _ = run(files, "--expand")
         self.assertEqual((status, written["Kconfig"], stdout), (0, 'source "x86/k"\n# $(OTHER)\n', "\n"))
+
+    def test_what_is_not_given_is_named(self) -> None:
+        for text, words, wanted in NOT_GIVEN:
+            with self.subTest(text[:60], words=words):
+                _, _, _, stderr = run({"Kconfig": text}, "", *words)
+                self.assertRegex(stderr, wanted)
+                self.assertNotIn("Traceback", stderr)
+
+    def test_no_variable_is_needed(self) -> None:
+        with tempfile.TemporaryDirectory() as folder:
+            Path(folder, "Kconfig").write_text("comment c\n")
+            done = subprocess.run([sys.executable, TOOL, "Kconfig", "out"], cwd=folder, capture_output=True, text=True)
+            self.assertEqual((done.returncode, done.stdout), (0, "\n"))
+            done = subprocess.run([sys.executable, TOOL], cwd=folder, capture_output=True, text=True)
+            self.assertRegex(done.stderr, r"error: the following arguments are required: KCONFIG, OUT\n$")
+
+    def test_variables_and_words_in_files(self) -> None:
+        with tempfile.TemporaryDirectory() as folder:
+            Path(folder, "Kconfig").write_text('comment "$(A) $(B) $(C)"\n')
+            Path(folder, "variables").write_text("# given\n\nA=x y\r\nB=1\n")
+            command = [sys.executable, TOOL, "--variables", "variables", "--words", "words", "Kconfig", "out", "B=2"]
+            done = subprocess.run(command, cwd=folder, capture_output=True, text=True)
+            self.assertEqual((done.returncode, done.stdout), (0, ""), done.stderr)
+            self.assertEqual(Path(folder, "words").read_text(), "A=x y\nB=2\n")
+            self.assertEqual(Path(folder, "out", "Kconfig").read_text(), 'comment "$(A) $(B) "\n')
+
+    def test_the_words_of_a_makefile(self) -> None:
+        makefile = "export ARCH := arm\nexport UNUSED := 1\n%config:\n\t$(MAKE) -f sub.mk obj=scripts/kconfig $@\n"
+        with tempfile.TemporaryDirectory() as folder:
+            Path(folder, "Makefile").write_text(makefile)
+            Path(folder, "sub.mk").write_text("%config:\n\tfalse\n")
+            Path(folder, "Kconfig").write_text('source "arch/$(ARCH)/Kconfig"\n\tdefault "$(CC) $HOST_NAME"\n')
+            words = {"MAKEFILES": str(TOOL.parent / "kconfig_words.mk"), "CC": "gcc -m32", "PATH": os.environ["PATH"]}
+            command = ["make", "-s", "kconfwordsconfig"]
+            done = subprocess.run(command, cwd=folder, env=words, capture_output=True, text=True)
+            self.assertEqual((done.returncode, done.stdout), (0, "ARCH=arm\nCC=gcc -m32\n"), done.stderr)
 
     def test_a_choice_with_tristate_members(self) -> None:
         text = 'choice\n\tprompt "c"\n\tdepends on A\n\tdefault X\nconfig X\n\ttristate "x"\nendchoice\n'
