@@ -464,7 +464,6 @@ VALUES: dict[tuple[str, int], Entry] = {
     ("int", 2): Shown("a number and its range"),
     ("hex", 2): Shown("numbers and their ranges"),
     ("Assignable values", 1): RULES,
-    ("Written or not", 1): RULES,
     ("The text of the `.config`", 1): KCONFIG_OF_NEXT,
     ("The text of the `.config`", 2): Written(),
     ("What uses what, and loops", 1): RULES,
@@ -571,14 +570,13 @@ LANGUAGE: dict[tuple[str, int], Entry] = {
         "ok\nNET type=bool value=n vis=y can=n,y user=-\nok\nok\nok\nNET type=bool value=y vis=n can=- user=-\nok\n",
         behind='config PCI\n\tbool "PCI"\nconfig USB\n\tbool "USB"\n',
     ),
-    ("Limits", 1): RULES,
     ("What is not read", 1): RULES,
 }
 
 FAULTS: dict[tuple[str, int], Entry] = {
     ("In short", 1): Without("the words of the faults, which tools/check_explanations.py compares"),
     ("Warnings", 1): Without("the words of the warnings, which tools/check_explanations.py compares"),
-    ("Which fault is the first", 1): Rows(order_cases),
+    ("Which error is the first", 1): Rows(order_cases),
     ("K01: a limit is passed", 1): Repeated(
         "a variable that doubles one of 40,000 bytes",
         "A := $(B)$(B)",
