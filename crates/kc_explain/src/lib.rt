@@ -6,8 +6,13 @@ mod choices;
 mod explanation;
 mod loops;
 mod meanings;
+mod mention;
+mod shown;
 mod shown_line;
+mod statements;
 mod symbols;
+mod values;
+mod words;
 
 pub use choices::explain_choice;
 pub use explanation::{Explanation, Place, Remark};

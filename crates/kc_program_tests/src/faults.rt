@@ -44,13 +44,13 @@ endmenu => kconf: Kconfig:1: K07: a block closed wrongly, or not closed in its f
 source "Kconfig" => kconf: Kconfig:1: K09: a file that sources itself, directly or through others
 default "$ARCH" => kconf: Kconfig:1: K10: a dollar that begins no reference to a variable, or a function: docs/TREES.md says what to do
 A = $(B) / B = x $(A) / default $(A) => kconf: Kconfig:3: K11: a variable that its own expansion needs
-config A / prompt "a" => kconf: K12 A: a symbol without a type
-config A / bool "a" / config A / def_tristate m => kconf: K13 A: a symbol with two types
-config A / bool "a" / prompt "b" => kconf: K14 A: two prompts in one definition
-config N / int "n" / default 1x => kconf: K15 N: a default or a range that does not fit the type
-config B / bool "b" / select N / config N / int "n" => kconf: K16 N: a select or an imply in, or of, a string, an int or a hex
-choice / config A / bool "a" / endchoice => kconf: Kconfig:1: K17: a choice, or a member of one, at fault
-config MODULES / tristate "Modules" => kconf: K18 MODULES: MODULES that is no bool, or modules in another symbol
+config A / prompt "a" => kconf: K12 A: no definition of it has a type /   Kconfig:1: config A
+config A / bool "a" / config A / def_tristate m => kconf: K13 A: a bool and a tristate /   Kconfig:2: bool "a" /   Kconfig:4: def_tristate m
+config A / bool "a" / prompt "b" => kconf: K14 A: two prompts in one definition /   Kconfig:2: bool "a" /   Kconfig:3: prompt "b"
+config N / int "n" / default 1x => kconf: K15 N: 1x is no int /   Kconfig:3: default 1x /   Kconfig:2: int "n"
+config B / bool "b" / select N / config N / int "n" => kconf: K16 N: selected by B, but N is an int /   Kconfig:3: select N /   Kconfig:5: int "n"
+choice / config A / bool "a" / endchoice => kconf: Kconfig:1: K17: this choice has no prompt /   Kconfig:1: choice
+config MODULES / tristate "Modules" => kconf: K18 MODULES: MODULES is a tristate, and has to be a bool /   Kconfig:2: tristate "Modules"
 config A / bool "a" / default A => kconf: K19: a dependency loop, in which each of these uses the next and the last the first / kconf: on A
 config A / bool Network => kconf: Kconfig:2: K20: a word or a form of Kconfig that is unsupported
 "#;

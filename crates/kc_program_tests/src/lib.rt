@@ -8,6 +8,8 @@ mod ahead;
 #[cfg(test)]
 mod commands;
 #[cfg(test)]
+mod explain_symbols;
+#[cfg(test)]
 mod faults;
 #[cfg(test)]
 mod files;

@@ -41,7 +41,8 @@ kconf: Kconfig:2: K03: a quote that its line does not close
 config A
     prompt "a"
 --- errors
-kconf: K12 A: a symbol without a type
+kconf: K12 A: no definition of it has a type
+  Kconfig:1: config A
 --- status
 1
 
