@@ -2,6 +2,7 @@
 //! where there is a fault or a warning, from the lines, which are read again then.
 #![tactic(auto)]
 
+mod causes;
 mod choices;
 mod explanation;
 mod loops;
@@ -10,7 +11,9 @@ mod mention;
 mod shown;
 mod shown_line;
 mod statements;
+mod steps;
 mod symbols;
+mod used_names;
 mod values;
 mod words;
 

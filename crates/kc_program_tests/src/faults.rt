@@ -51,7 +51,7 @@ config N / int "n" / default 1x => kconf: K15 N: 1x is no int /   Kconfig:3: def
 config B / bool "b" / select N / config N / int "n" => kconf: K16 N: selected by B, but N is an int /   Kconfig:3: select N /   Kconfig:5: int "n"
 choice / config A / bool "a" / endchoice => kconf: Kconfig:1: K17: this choice has no prompt /   Kconfig:1: choice
 config MODULES / tristate "Modules" => kconf: K18 MODULES: MODULES is a tristate, and has to be a bool /   Kconfig:2: tristate "Modules"
-config A / bool "a" / default A => kconf: K19: a dependency loop, in which each of these uses the next and the last the first / kconf: on A
+config A / bool "a" / default A => kconf: K19: a dependency loop, in which each of these uses the next and the last the first / kconf: on A /   A has its value by Kconfig:3: default A
 config A / bool Network => kconf: Kconfig:2: K20: a word or a form of Kconfig that is unsupported
 "#;
 

@@ -8,6 +8,8 @@ mod ahead;
 #[cfg(test)]
 mod commands;
 #[cfg(test)]
+mod explain_loops;
+#[cfg(test)]
 mod explain_symbols;
 #[cfg(test)]
 mod faults;

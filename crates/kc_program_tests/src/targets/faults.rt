@@ -54,6 +54,7 @@ config A
 --- errors
 kconf: K19: a dependency loop, in which each of these uses the next and the last the first
 kconf: on A
+  A has its value by Kconfig:3: default A
 --- status
 1
 
