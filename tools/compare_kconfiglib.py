@@ -47,8 +47,8 @@ class Kind(enum.Enum):
 
     IMPLY_Y = "an imply that is y"
     IMPLY_DIRECT = "an imply above the direct dependencies"
-    COMPARED = "how numbers are spelt in comparisons"
-    NUMERALS = "how numerals of int and hex are spelt"
+    COMPARED = "how numbers are written in comparisons"
+    NUMERALS = "how numerals of int and hex are written"
     EMPTY_CHOICE = "a choice without type and members"
     CHOICE_M = "a select or imply in a choice that depends on m"
 
