@@ -116,7 +116,7 @@ def sourced_files(size):
     return "".join(f'source "part{at}"\n' for at in range(size))
 
 
-def files_behind_comments(size):
+def files_after_comments(size):
     """So many lines that source a file in a form that is not read ahead, behind 75 times as many comments."""
     return comments(61 * 75 * size) + "".join(f"source \"p\\art{at}\"\n" for at in range(size))
 
@@ -217,7 +217,7 @@ KCONFIGS = {
     "comments": comments,
     "one file sourced": sourced,
     "files sourced": sourced_files,
-    "files behind comments": files_behind_comments,
+    "files after comments": files_after_comments,
     "references": references,
     "long texts": long_texts,
     "A && A": with_expression("A", " && "),
@@ -276,7 +276,7 @@ def write_all(shape, size):
         files["config"] = "".join(f"CONFIG_S{at}=y\n" for at in range(size)).encode()
     if shape == "one file sourced":
         files["part"] = b"comment \"c\"\n"
-    if shape in ("files sourced", "files behind comments"):
+    if shape in ("files sourced", "files after comments"):
         files.update({f"part{at}": f'config S{at}\n\tbool "s"\n'.encode() for at in range(size)})
     return files
 

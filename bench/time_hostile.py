@@ -58,7 +58,7 @@ SHAPES = [
     ("comments", "olddefconfig", "byte", MIB16 // 10, MIB16, 0),
     ("one file sourced", "olddefconfig", "line", 409, 4_090, 0),
     ("files sourced", "olddefconfig", "file", 409, 4_090, 0),
-    ("files behind comments", "olddefconfig", "file", 40, 400, 0),
+    ("files after comments", "olddefconfig", "file", 40, 400, 0),
     ("references", "olddefconfig", "line", 10, 100, 0),
     ("long texts", "olddefconfig", "line", 100, 1_000, 0),
     ("A && A", "olddefconfig", "byte of 100 lines", 6_500, 65_000, 0),

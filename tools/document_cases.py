@@ -488,7 +488,7 @@ LANGUAGE: dict[tuple[str, int], Entry] = {
         behind='config NET\n\tbool "net"\nconfig PCI\n\tbool "pci"\n',
     ),
     ("Help texts", 1): Opened(
-        "a default behind a help text", "show NET\n", "NET type=bool value=y vis=y can=n,y user=-\nok\n"
+        "a default after a help text", "show NET\n", "NET type=bool value=y vis=y can=n,y user=-\nok\n"
     ),
     ("Variables", 1): RULES,
     ("Variables", 2): Opened(
