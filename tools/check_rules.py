@@ -1,6 +1,6 @@
 #!/usr/bin/env python3
-"""Checks that docs/RULES.md names what is there, that docs/EDITS.md lists the edits of the gate, and that kc_files and
-kc_session rest on the contracts of other crates, not on their proofs.
+"""Checks that docs/RULES.md names what is there, that docs/EDITS.md lists the edits of the gate, that links of documents
+lead somewhere, and that kc_files and kc_session rest on the contracts of other crates, not on their proofs.
 
     tools/check_rules.py
 
@@ -17,6 +17,7 @@ mistake, and the status is 1 where there is one:
 - a file of crates/kc_cases/data that no row names;
 - an edit of crates/NAME/must-fail that docs/EDITS.md does not list below NAME, and one listed there that is not there;
 - an edit, of the gate or by hand, with a text to be replaced that does not occur once in its file;
+- a link of a document to a file or a heading that is not there;
 - a line of kc_files or kc_session that names the proofs/ of another crate;
 - a row of the table of crates in docs/PERFORMANCE.md with another count of functions or of edits than the crate has.
 """
@@ -108,6 +109,22 @@ def document_mistakes(row: Row) -> Iterator[str]:
             yield f"{name} has no heading {heading!r}"
         elif anchor != anchor_of(heading):
             yield f"the anchor of {heading!r} in {name} is #{anchor_of(heading)}"
+
+
+def links_of(document: Path) -> Iterator[str]:
+    """The links of a document to files and headings of the repository."""
+    links = re.findall(r"\[[^\]]*\]\(([^)\s]+)\)", text_of(document))
+    return (link for link in links if "://" not in link)
+
+
+def link_mistakes(document: Path) -> Iterator[str]:
+    for link in links_of(document):
+        name, _, anchor = link.partition("#")
+        target = (document.parent / name).resolve() if name else document
+        if not target.is_file():
+            yield f"{shown(document)}: no file {name}"
+        elif anchor and anchor not in map(anchor_of, headings_of(text_of(target))):
+            yield f"{shown(document)}: no heading of {shown(target)} has the anchor #{anchor}"
 
 
 # ------------------------------------------------------------------------------------------------ definitions and code
@@ -292,6 +309,8 @@ def main() -> int:
     rows = list(rows_of(text_of(DOCS / "RULES.md")))
     mistakes = [*mistakes_of(rows), *edit_mistakes(text_of(DOCS / "EDITS.md")), *stale_mistakes()]
     mistakes += count_mistakes(text_of(DOCS / "PERFORMANCE.md"))
+    for document in sorted([*DOCS.glob("*.md"), *ROOT.glob("*.md")]):
+        mistakes += link_mistakes(document)
     for crate in RESTING_ON_CONTRACTS:
         mistakes += proof_mistakes(crate)
     print("\n".join(mistakes) if mistakes else f"{len(rows)} rules")
