@@ -208,6 +208,9 @@ def counted(count: int, what: str) -> str:
 def write_words(arguments: argparse.Namespace, words: list[str]) -> None:
     """Writes the words that kconf needs: for a shell to standard output, or a line each to a file."""
     if arguments.words:
+        for word in words:
+            if "\n" in word:
+                raise ValueError(f"{word.split('=')[0]} has a line end, which --words can't write")
         arguments.words.write_text("".join(word + "\n" for word in words), encoding="utf-8")
     else:
         print(" ".join(map(shlex.quote, words)))

@@ -215,6 +215,10 @@ class Expansion(unittest.TestCase):
             self.assertEqual((done.returncode, done.stdout), (0, ""), done.stderr)
             self.assertEqual(Path(folder, "words").read_text(), "A=x y\nB=2\n")
             self.assertEqual(Path(folder, "out", "Kconfig").read_text(), 'comment "$(A) $(B) "\n')
+            command = [sys.executable, TOOL, "--words", "words", "Kconfig", "out2", "A=x\ny"]
+            done = subprocess.run(command, cwd=folder, capture_output=True, text=True)
+            self.assertEqual(done.returncode, 1)
+            self.assertRegex(done.stderr, r"\nexpand_kconfig.py: A has a line end, which --words can't write\n$")
 
     def test_the_words_of_a_makefile(self) -> None:
         makefile = "export ARCH := arm\nexport UNUSED := 1\n%config:\n\t$(MAKE) -f sub.mk obj=scripts/kconfig $@\n"
