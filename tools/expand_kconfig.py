@@ -170,9 +170,9 @@ class Expander:
 
 
 def variables_of(path: Path) -> list[str]:
-    """The lines NAME=VALUE of a file of variables, without empty lines and those that begin with `#`."""
+    """The lines NAME=VALUE of a file of variables, without lines of blanks and those that begin with `#`."""
     lines = [line.removesuffix("\r") for line in path.read_text(encoding="utf-8").split("\n")]
-    return [line for line in lines if line and not line.startswith("#")]
+    return [line for line in lines if line.strip(" \t") and not line.startswith("#")]
 
 
 def parse_words() -> argparse.Namespace:

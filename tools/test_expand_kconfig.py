@@ -209,7 +209,7 @@ class Expansion(unittest.TestCase):
     def test_variables_and_words_in_files(self) -> None:
         with tempfile.TemporaryDirectory() as folder:
             Path(folder, "Kconfig").write_text('comment "$(A) $(B) $(C)"\n')
-            Path(folder, "variables").write_text("# given\n\nA=x y\r\nB=1\n")
+            Path(folder, "variables").write_text("# given\n\n \t\nA=x y\r\nB=1\n")
             command = [sys.executable, TOOL, "--variables", "variables", "--words", "words", "Kconfig", "out", "B=2"]
             done = subprocess.run(command, cwd=folder, capture_output=True, text=True)
             self.assertEqual((done.returncode, done.stdout), (0, ""), done.stderr)
