@@ -2,6 +2,11 @@ pub mod Cuts
 pub mod Endings
 pub mod FaultNumbers
 pub mod FolderFaults
+pub mod Hints
+pub mod MakeText
+pub mod PathsFrom
+pub mod PathsRead
 pub mod Targets
 pub mod UnreadWords
+pub mod VariableLines
 pub mod Variables

@@ -1,18 +1,20 @@
-//! The command line: `kconf TARGET KCONFIG CONFIG [NAME=VALUE]...`, with `--prefix P`, `--explain` and `--help`.
-//! `allnoconfig` and `allyesconfig` take no CONFIG.
+//! The command line: `kconf TARGET KCONFIG CONFIG [NAME=VALUE]...` with its options. `allnoconfig`, `allyesconfig` and
+//! `files` take no CONFIG.
 //!
 //! A word that begins with `-` is an option, but `-` alone is a value, and so is each word after `--`.
 
 use crate::explanations::Wording;
+use crate::hints::Hint;
 use crate::targets::{SUBCOMMANDS, Subcommand, Target, subcommand_named};
 use crate::variables::{VariableFault, variables_of};
+use crate::version::VERSION;
 use clap::error::ErrorKind;
 use clap::{Arg, ArgAction, ArgMatches, Command, Error};
 use kc_files::{Prefix, PrefixFault};
 use std::alloc::{AllocError, Global};
 use std::convert::AsStr;
 
-/// The CONFIG that stands for none.
+/// The CONFIG that is none.
 const NO_CONFIG: &str = "-";
 
 /// What the words of a command line ask for.
@@ -24,18 +26,45 @@ pub struct Arguments<'a> {
     pub kconfig: &'a str,
     /// The path of the `.config` that is loaded, if there is one.
     pub config: Option<&'a str>,
-    /// What stands before the names of symbols in files.
+    /// What comes before the names of symbols in files.
     pub prefix: Prefix,
     /// How faults and warnings are worded.
     pub wording: Wording,
-    /// The variables that the Kconfig sees, each as its name and its text, in the order of the words.
+    /// The folder that relative paths are taken from, which is the working folder where this is empty.
+    pub folder: &'a str,
+    /// The path of a file with more variables, whose lines come before the words.
+    pub variables_file: Option<&'a str>,
+    /// The variables of the words, each as its name and its text, in their order.
     pub variables: Vec<(&'a str, &'a str)>,
 }
 
+/// Words that are no command line, or ask for help or the version.
+#[derive(Drop)]
+pub struct BadWords<'a> {
+    /// What the user is shown.
+    pub error: Error,
+    /// The word that is at fault, where it is known.
+    pub hint: Option<Hint<'a>>,
+}
+
+impl From<Error> for BadWords<'_> {
+    fn from(error: Error) -> Self {
+        BadWords { error, hint: None }
+    }
+}
+
+impl From<AllocError> for BadWords<'_> {
+    fn from(refused: AllocError) -> Self {
+        BadWords::from(Error::from(refused))
+    }
+}
+
 /// Why the words of a subcommand are no arguments.
-enum WordFault {
+enum WordFault<'a> {
     /// A value is not one of those that are taken, as these words say.
     BadValue(&'static str),
+    /// A word is no variable.
+    BadVariable(Option<Hint<'a>>),
     /// Memory was refused.
     NoMemory,
 }
@@ -45,16 +74,18 @@ impl<'a> Arguments<'a> {
     ///
     /// # Errors
     ///
-    /// Words that are no command line, a request for help, and `ErrorKind::OutOfMemory` where memory was
-    /// refused. The text for the user is the error's `Display`.
-    pub fn parse<S: AsStr>(alloc: Global, words: &'a [S]) -> Result<Arguments<'a>, Error> {
+    /// Words that are no command line, a request for help or for the version, and `ErrorKind::OutOfMemory` where memory
+    /// was refused. The text for the user is the error's `Display`, and after it the hint's.
+    pub fn parse<S: AsStr>(alloc: Global, words: &'a [S]) -> Result<Arguments<'a>, BadWords<'a>> {
         let mut command = kconf_command(alloc)?;
         let matches = command.try_get_matches_from_mut(words)?;
-        match read_matches(alloc, &matches) {
-            Ok(arguments) => Ok(arguments),
-            Err(WordFault::BadValue(message)) => Err(bad_value(&mut command, message)),
-            Err(WordFault::NoMemory) => Err(Error::from(AllocError)),
-        }
+        let (error, hint) = match read_matches(alloc, &matches) {
+            Ok(arguments) => return Ok(arguments),
+            Err(WordFault::BadValue(message)) => (bad_value(&mut command, message), None),
+            Err(WordFault::BadVariable(hint)) => (bad_value(&mut command, BAD_VARIABLE), hint),
+            Err(WordFault::NoMemory) => (Error::from(AllocError), None),
+        };
+        Err(BadWords { error, hint })
     }
 }
 
@@ -66,11 +97,14 @@ const MALFORMED_PREFIX: &str =
     "the value of '--prefix <P>' has more than 64 bytes, or one that is no ASCII letter, digit or '_'";
 
 /// What is said of a word that is no variable.
-const MALFORMED_VARIABLE: &str =
+const BAD_VARIABLE: &str =
     "a word behind the files is not NAME=VALUE, with ASCII letters, digits, '_' and '-' in NAME, and '-' not first";
 
 /// The arguments of the subcommand that was found in the words.
-fn read_matches<'a>(alloc: Global, matches: &ArgMatches<'a>) -> Result<Arguments<'a>, WordFault> {
+fn read_matches<'a>(
+    alloc: Global,
+    matches: &ArgMatches<'a>,
+) -> Result<Arguments<'a>, WordFault<'a>> {
     let Some((name, found)) = matches.subcommand() else {
         return Err(WordFault::BadValue(MISSING_ARGUMENT));
     };
@@ -78,7 +112,7 @@ fn read_matches<'a>(alloc: Global, matches: &ArgMatches<'a>) -> Result<Arguments
         return Err(WordFault::BadValue(MISSING_ARGUMENT));
     };
     let prefix = read_prefix(alloc, found.get_str("prefix").unwrap_or("CONFIG_"))?;
-    let variables = read_variables(alloc, found.get_strs("variables").unwrap_or(&[]))?;
+    let variables = read_variables(alloc, row, found.get_strs("words").unwrap_or(&[]))?;
     let wording = if found.get_flag("explain") {
         Wording::Explained
     } else {
@@ -90,11 +124,13 @@ fn read_matches<'a>(alloc: Global, matches: &ArgMatches<'a>) -> Result<Arguments
         config: found.get_str("CONFIG").filter(|path| *path != NO_CONFIG),
         prefix,
         wording,
+        folder: found.get_str("folder").unwrap_or(""),
+        variables_file: found.get_str("variables"),
         variables,
     })
 }
 
-fn read_prefix(alloc: Global, text: &str) -> Result<Prefix, WordFault> {
+fn read_prefix<'a>(alloc: Global, text: &str) -> Result<Prefix, WordFault<'a>> {
     match Prefix::new(alloc, text) {
         Ok(prefix) => Ok(prefix),
         Err(PrefixFault::NoMemory) => Err(WordFault::NoMemory),
@@ -102,14 +138,16 @@ fn read_prefix(alloc: Global, text: &str) -> Result<Prefix, WordFault> {
     }
 }
 
+/// The variables of the words after the files of a subcommand.
 fn read_variables<'a>(
     alloc: Global,
+    row: &Subcommand,
     words: &[&'a str],
-) -> Result<Vec<(&'a str, &'a str)>, WordFault> {
+) -> Result<Vec<(&'a str, &'a str)>, WordFault<'a>> {
     match variables_of(alloc, words) {
         Ok(variables) => Ok(variables),
         Err(VariableFault::NoMemory) => Err(WordFault::NoMemory),
-        Err(VariableFault::Malformed) => Err(WordFault::BadValue(MALFORMED_VARIABLE)),
+        Err(VariableFault::Malformed) => Err(WordFault::BadVariable(Hint::of(row, words))),
     }
 }
 
@@ -121,10 +159,10 @@ fn bad_value(command: &mut Command<'_>, message: &str) -> Error {
     }
 }
 
-/// What stands below the help of the program.
+/// What is below the help of the program.
 const NOTES: &str =
-    "Each target writes to standard output, and changes no file. 'kconf TARGET --help' says
-what its words are.
+    "Each target writes to standard output, and changes no file. 'kconf TARGET --help'
+describes the arguments and options of a target.
 
 Example:
   kconf olddefconfig Kconfig .config > new.config";
@@ -132,7 +170,10 @@ Example:
 /// The command line, with a subcommand for each target.
 fn kconf_command<'a>(alloc: Global) -> Result<Command<'a>, AllocError> {
     let mut command = Command::new(alloc, "kconf")
-        .about("Resolves a Kconfig: gives each symbol its value, by a .config and defaults")
+        .version(VERSION)
+        .about(
+            "Resolves a Kconfig: computes the value of each symbol from a .config and the defaults",
+        )
         .after_help(NOTES)
         .subcommand_value_name("TARGET")
         .subcommand_help_heading("Targets")
@@ -155,7 +196,9 @@ fn target_command<'a>(alloc: Global, row: &Subcommand) -> Result<Command<'a>, Al
         command
     };
     command
-        .arg(variables_argument(alloc))?
+        .arg(words_argument(alloc))?
+        .arg(variables_option(alloc))?
+        .arg(folder_option(alloc))?
         .arg(prefix_option(alloc))?
         .arg(explain_option(alloc))
 }
@@ -164,7 +207,9 @@ fn kconfig_argument<'a>(alloc: Global) -> Arg<'a> {
     Arg::new(alloc, "KCONFIG")
         .required(true)
         .action(ArgAction::Set)
-        .help("The path of the top Kconfig file; 'source' paths are taken from the working folder")
+        .help(
+            "The path of the top Kconfig file. It and the paths of 'source' lines are relative to the working folder",
+        )
 }
 
 fn config_argument<'a>(alloc: Global) -> Arg<'a> {
@@ -174,12 +219,28 @@ fn config_argument<'a>(alloc: Global) -> Arg<'a> {
         .help("The path of the .config whose values are loaded, or - for none")
 }
 
-fn variables_argument<'a>(alloc: Global) -> Arg<'a> {
-    Arg::new(alloc, "variables")
+fn words_argument<'a>(alloc: Global) -> Arg<'a> {
+    Arg::new(alloc, "words")
         .value_name("NAME=VALUE")
         .num_args(0..)
         .action(ArgAction::Append)
-        .help("What $(NAME) stands for in the Kconfig; the environment is not read")
+        .help("Gives $(NAME) the text VALUE in the Kconfig. The environment is not read")
+}
+
+fn variables_option<'a>(alloc: Global) -> Arg<'a> {
+    Arg::new(alloc, "variables")
+        .long("variables")
+        .value_name("FILE")
+        .action(ArgAction::Set)
+        .help("Reads more NAME=VALUE from FILE, one on each line. The command line overrides them")
+}
+
+fn folder_option<'a>(alloc: Global) -> Arg<'a> {
+    Arg::new(alloc, "folder")
+        .short('C')
+        .value_name("FOLDER")
+        .action(ArgAction::Set)
+        .help("Takes all relative paths from FOLDER instead of the working folder")
 }
 
 fn prefix_option<'a>(alloc: Global) -> Arg<'a> {
@@ -188,14 +249,12 @@ fn prefix_option<'a>(alloc: Global) -> Arg<'a> {
         .value_name("P")
         .action(ArgAction::Set)
         .default_value("CONFIG_")
-        .help(
-            "What stands before the names of symbols in files: at most 64 ASCII letters, digits and _",
-        )
+        .help("What precedes the names of symbols in files: at most 64 ASCII letters, digits and _")
 }
 
 fn explain_option<'a>(alloc: Global) -> Arg<'a> {
     Arg::new(alloc, "explain")
         .long("explain")
         .action(ArgAction::SetTrue)
-        .help("Puts some words behind the number of each warning and fault")
+        .help("Explains each warning and error, and shows the lines of the files that are at fault")
 }

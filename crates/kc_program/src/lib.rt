@@ -5,15 +5,22 @@
 mod arguments;
 mod explanations;
 mod folder;
+mod folder_from;
+mod hints;
 mod known;
+mod listing;
+mod make_text;
 mod messages;
 mod notes;
 mod opening;
+mod paths_read;
 mod read_ahead;
 mod running;
 mod targets;
 mod unread_words;
 mod variables;
+mod variables_file;
+mod version;
 
 pub use folder::{Folder, FolderFault, SystemFolder};
 pub use kc_tree::Seed;

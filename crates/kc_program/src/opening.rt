@@ -349,7 +349,11 @@ fn fault_of(alloc: Global, fault: OpenFault, config: &ConfigFile) -> Fault {
 }
 
 /// The text of the file of a path, by what reading it gave.
-fn text_of(alloc: Global, path: &str, read: Result<Vec<u8>, FolderFault>) -> Result<String, Fault>
+pub fn text_of(
+    alloc: Global,
+    path: &str,
+    read: Result<Vec<u8>, FolderFault>,
+) -> Result<String, Fault>
     ensures text { IfOk result (λ text. MatchResult read (λ bytes. string_bytes text ≡ bytes.items) (λ _. ⊥)) }
 {
     match read {

@@ -3,28 +3,36 @@ ghost use Rattle.std.specs.Prelude.{◌≡◌, ◌≤◌};
 ghost use Rattle.clap.specs.Words.{kind_of};
 ghost use Rattle.kc_program.specs.Endings.{ending_of};
 
-use crate::arguments::Arguments;
+use crate::arguments::{Arguments, BadWords};
 use crate::explanations::{Wording, report_of};
 use crate::folder::Folder;
+use crate::folder_from::FolderFrom;
+use crate::listing::list_files;
+use crate::make_text::make_text;
 use crate::messages::{Fault, Report, Status, write_report, write_warnings};
 use crate::opening::{ConfigFile, Files, Kconfig, open_kconfig, read_config_file};
 use crate::targets::Target;
+use crate::variables_file::{VariablesFileFault, read_variables, with_words};
 use clap::Error;
 use clap::error::ErrorKind;
 use kc_session::{IoFault, Reply, Session, run};
-use kc_text::Vars;
+use kc_text::{Text, Vars};
 use std::alloc::Global;
 use std::convert::AsStr;
 use std::io::{self, Read, Write};
 use std::mem;
 
+/// What is said of a malformed line of a file of variables.
+const MALFORMED_LINE: &str =
+    "not NAME=VALUE, with ASCII letters, digits, '_' and '-' in NAME, and '-' not first";
+
 /// Does what the words of a command line ask for, and gives the exit status: 0 where it was done, with warnings or
 /// without, 1 after a fault, which `errors` reports, and 2 where the words are no command line. The first word is the
 /// program's name.
 ///
-/// The first fault is reported: of the words, then of the variables in them, then of the reading of CONFIG, then of the
-/// files and their texts as they are read, then of the lines and the symbols, then of CONFIG's length, and last of the
-/// input and the output. Nothing is written to `output` before all of these but the last are known to be none. Where
+/// The first fault is reported: of the words, then of the file of variables, then of the variables, then of the reading of
+/// CONFIG, then of the files and their texts as they are read, then of the lines and the symbols, then of CONFIG's length,
+/// and last of the input and the output. Nothing is written to `output` before all of these but the last are known to be none. Where
 /// `errors` cannot be written, what it lacks changes nothing else.
 pub fn program<S: AsStr, F: Folder, R: Read, W: Write, E: Write>(
     alloc: Global,
@@ -37,37 +45,88 @@ pub fn program<S: AsStr, F: Folder, R: Read, W: Write, E: Write>(
     ensures { result ≤ 2 }
 {
     let status = match Arguments::parse(alloc, words) {
-        Ok(arguments) => match serve(alloc, &arguments, folder, input, output, errors) {
-            Ok(()) => Status::Done,
-            Err(fault) => report(&fault, errors),
-        },
-        Err(error) => answer_words(&error, output, errors),
+        Ok(arguments) => {
+            let folder = FolderFrom::new(folder, arguments.folder);
+            answer(alloc, &arguments, &folder, input, output, errors)
+        }
+        Err(words) => answer_words(&words, output, errors),
     };
     status.code()
 }
 
-/// Reads CONFIG, and does what the target asks for.
-fn serve<F: Folder, R: Read, W: Write, E: Write>(
+/// Reads the file of variables, does what the target asks for, and reports what went wrong.
+fn answer<F: Folder, R: Read, W: Write, E: Write>(
     alloc: Global,
     arguments: &Arguments<'_>,
     folder: &F,
     input: &mut R,
     output: &mut W,
     errors: &mut E,
+) -> Status {
+    let text = match read_variables(alloc, folder, arguments.variables_file) {
+        Ok(text) => text,
+        Err(fault) => return answer_variables(fault, arguments, errors),
+    };
+    let served = match with_words(alloc, text.as_str(), arguments.variables.as_slice()) {
+        Ok(variables) => serve(
+            alloc,
+            arguments,
+            variables.as_slice(),
+            folder,
+            input,
+            output,
+            errors,
+        ),
+        Err(_) => Err(Report::of(Fault::NoMemory, arguments.wording)),
+    };
+    match served {
+        Ok(()) => Status::Done,
+        Err(fault) => report(&fault, errors),
+    }
+}
+
+/// Reports why the file of variables gives none. A malformed line is a mistake of usage.
+fn answer_variables<E: Write>(
+    fault: VariablesFileFault,
+    arguments: &Arguments<'_>,
+    errors: &mut E,
+) -> Status {
+    match fault {
+        VariablesFileFault::Unread(fault) => report(&Report::of(fault, arguments.wording), errors),
+        VariablesFileFault::Malformed(line) => {
+            let path = arguments.variables_file.unwrap_or("");
+            let _ = writeln!(errors, "error: {path}:{line}: {MALFORMED_LINE}");
+            Status::Usage
+        }
+    }
+}
+
+/// Reads CONFIG, and does what the target asks for.
+fn serve<F: Folder, R: Read, W: Write, E: Write>(
+    alloc: Global,
+    arguments: &Arguments<'_>,
+    variables: &[(&str, &str)],
+    folder: &F,
+    input: &mut R,
+    output: &mut W,
+    errors: &mut E,
 ) -> Result<(), Report> {
     let wording = arguments.wording;
-    let (vars, config) = match read_inputs(alloc, arguments, folder) {
+    let (vars, config) = match read_inputs(alloc, arguments.config, variables, folder) {
         Ok(inputs) => inputs,
         Err(fault) => return Err(Report::of(fault, wording)),
     };
     let kconfig = Kconfig {
         folder,
-        variables: arguments.variables.as_slice(),
+        variables,
         vars: &vars,
         top: arguments.kconfig,
         prefix: &arguments.prefix,
         config: &config,
     };
+    if arguments.target == Target::Files {
+        return list_files(alloc, &kconfig, wording, output);
+    }
     let mut session = open_session(alloc, &kconfig, wording, errors)?;
     let served = write_target(alloc, arguments.target, &mut session, input, output);
     // The program ends here, so its memory need not be given back piece by piece.
@@ -78,21 +137,22 @@ fn serve<F: Folder, R: Read, W: Write, E: Write>(
     }
 }
 
-/// The variables of the words, and CONFIG.
+/// The variables that are given, and the CONFIG of a path.
 fn read_inputs<F: Folder>(
     alloc: Global,
-    arguments: &Arguments<'_>,
+    path: Option<&str>,
+    variables: &[(&str, &str)],
     folder: &F,
 ) -> Result<(Vars, ConfigFile), Fault> {
-    let vars = Vars::from_pairs(alloc, arguments.variables.as_slice())?;
-    let config = match arguments.config {
+    let vars = Vars::from_pairs(alloc, variables)?;
+    let config = match path {
         Some(path) => read_config_file(alloc, folder, path)?,
         None => ConfigFile::none(alloc),
     };
     Ok((vars, config))
 }
 
-/// The session of a Kconfig, which sees the variables of the words alone, with the values of CONFIG. The warnings of its
+/// The session of a Kconfig, which sees the variables that are given alone, with the values of CONFIG. The warnings of its
 /// lines are written.
 fn open_session<F: Folder, E: Write>(
     alloc: Global,
@@ -126,18 +186,26 @@ fn write_target<R: Read, W: Write>(
         return Ok(run(alloc, input, output, session)?);
     };
     if let Some(edit) = target.edit() {
-        write_reply(session.apply(edit), output)?;
+        text_of_reply(session.apply(edit))?;
     }
-    write_reply(session.apply(query), output)?;
+    let text = text_of_reply(session.apply(query))?;
+    match target {
+        Target::Genmake => write_bytes(make_text(alloc, text.as_str())?.as_slice(), output)?,
+        _ => write_bytes(text.as_str().as_bytes(), output)?,
+    }
     flush(output)
 }
 
-/// Writes the text of a reply. The commands of targets are refused only where memory is.
-fn write_reply<W: Write>(reply: Reply, output: &mut W) -> Result<(), Fault> {
-    let Reply::Done(text) = reply else {
-        return Err(Fault::NoMemory);
-    };
-    match output.write_all(text.as_str().as_bytes()) {
+/// The text of a reply. The commands of targets are refused only where memory is.
+fn text_of_reply(reply: Reply) -> Result<Text, Fault> {
+    match reply {
+        Reply::Done(text) => Ok(text),
+        Reply::Refused(_) => Err(Fault::NoMemory),
+    }
+}
+
+fn write_bytes<W: Write>(bytes: &[u8], output: &mut W) -> Result<(), Fault> {
+    match output.write_all(bytes) {
         Ok(()) => Ok(()),
         Err(_) => Err(Fault::Stream(IoFault::Write)),
     }
@@ -150,9 +218,14 @@ fn flush<W: Write>(output: &mut W) -> Result<(), Fault> {
     }
 }
 
-/// Shows what a parse of the words gave in place of arguments: help on `output`, and else the mistake on
+/// Shows what a parse of the words gave in place of arguments: help or the version on `output`, and else the mistake on
 /// `errors`.
-fn answer_words<W: Write, E: Write>(error: &Error, output: &mut W, errors: &mut E) -> Status {
+fn answer_words<W: Write, E: Write>(
+    words: &BadWords<'_>,
+    output: &mut W,
+    errors: &mut E,
+) -> Status {
+    let error = &words.error;
     match ending_of(error) {
         Status::Done => match show_help(error, output) {
             Ok(()) => Status::Done,
@@ -164,6 +237,9 @@ fn answer_words<W: Write, E: Write>(error: &Error, output: &mut W, errors: &mut 
         Status::Fault => report(&Report::of(Fault::NoMemory, Wording::Number), errors),
         Status::Usage => {
             let _ = write!(errors, "{error}");
+            if let Some(hint) = &words.hint {
+                let _ = write!(errors, "{hint}");
+            }
             Status::Usage
         }
     }

@@ -1,5 +1,5 @@
 //! The variables that the words of a command line give, as `NAME=VALUE`.
-ghost use Rattle.std.specs.Prelude.{◌≡◌, true, Some, Err, map, option_map, is_none, IfOk};
+ghost use Rattle.std.specs.Prelude.{◌≡◌, true, Some, Err, map, option_map, is_none, is_some, IfOk};
 ghost use Rattle.std.specs.List.{list_all, list_any};
 ghost use Rattle.kc_program.specs.Variables.{is_name, is_name_byte, variable_of};
 
@@ -43,8 +43,15 @@ pub fn variables_of<'a>(
     Ok(variables)
 }
 
-/// The name and the text of a word: what stands before its first `=`, if that is a name, and what stands behind it.
-fn variable(word: &str) -> Option<(&str, &str)>
+/// Whether a word is `NAME=VALUE`.
+pub(crate) fn is_variable(word: &str) -> bool
+    ensures { result ≡ is_some (variable_of word.now) }
+{
+    variable(word).is_some()
+}
+
+/// The name and the text of a word: what is before its first `=`, if that is a name, and what is after it.
+pub(crate) fn variable(word: &str) -> Option<(&str, &str)>
     ensures { option_map (λ v. (v.0.now, v.1.now)) result ≡ variable_of word.now }
 {
     let (name, text) = word.split_once('=')?;

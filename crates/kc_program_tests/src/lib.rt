@@ -18,6 +18,10 @@ mod files;
 #[cfg(test)]
 mod flushes;
 #[cfg(test)]
+mod listing;
+#[cfg(test)]
+mod options;
+#[cfg(test)]
 mod running;
 #[cfg(test)]
 mod system_files;

@@ -2,6 +2,7 @@
 mod configs;
 mod default_files;
 mod faults;
+mod make_values;
 mod outputs;
 mod sessions;
 
@@ -69,6 +70,11 @@ pub(crate) fn blocks_hold(rt: &impl Abort, alloc: Global, table: &str) -> Result
 #[test]
 fn targets_write_their_texts(rt: HostRuntime) -> Result<(), Fail> {
     blocks_hold(&rt, rt.alloc(), outputs::TARGETS)
+}
+
+#[test]
+fn make_gets_the_values(rt: HostRuntime) -> Result<(), Fail> {
+    blocks_hold(&rt, rt.alloc(), make_values::MAKE_VALUES)
 }
 
 #[test]

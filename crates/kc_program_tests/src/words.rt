@@ -78,14 +78,84 @@ fn other_words_are_a_mistake_of_usage(rt: HostRuntime) -> Result<(), Fail> {
         "session Kconfig - --prefix A123456789B123456789C123456789D123456789E123456789F123456789_abcd",
         "session Kconfig - --prefix A --prefix A",
         "session Kconfig - --explain --explain",
+        "session Kconfig - --variables",
+        "session Kconfig - --variables a --variables b",
+        "session Kconfig - -C",
+        "session Kconfig - -C a -C b",
+        "session Kconfig - --version",
+        "genmake Kconfig",
+        "files",
+        "files Kconfig -",
         "--explain session Kconfig -",
         "--prefix A session Kconfig -",
+        "-C a session Kconfig -",
+        "--variables a session Kconfig -",
     ];
     for line in rows {
         let outcome = run_line(rt.alloc(), line)?;
         assert_eq!(rt; outcome.status, 2, "at {line:?}");
         assert_eq!(rt; outcome.output.as_slice(), b"".as_slice(), "at {line:?}");
         assert!(rt; !outcome.errors.is_empty(), "at {line:?}");
+    }
+    Ok(())
+}
+
+/// What is said of a word that is no variable, before the line that names it.
+const NO_VARIABLE: &str =
+    "error: a word behind the files is not NAME=VALUE, with ASCII letters, digits, '_' and '-' in NAME, and '-' not first
+
+Usage: kconf <TARGET>
+
+For more information, try '--help'.
+";
+
+#[test]
+fn a_word_that_is_no_variable_is_named(rt: HostRuntime) -> Result<(), Fail> {
+    let rows = [
+        (
+            "allnoconfig Kconfig .config",
+            "tip: allnoconfig takes no CONFIG: leave out '.config'\n",
+        ),
+        (
+            "allyesconfig Kconfig A=x .config",
+            "tip: allyesconfig takes no CONFIG: leave out '.config'\n",
+        ),
+        (
+            "files Kconfig -",
+            "tip: files takes no CONFIG: leave out '-'\n",
+        ),
+        ("olddefconfig Kconfig a b", "tip: 'b' has no '='\n"),
+        (
+            "olddefconfig Kconfig - A=x ARCH B",
+            "tip: 'ARCH' has no '='\n",
+        ),
+        (
+            "olddefconfig Kconfig - A.B=x",
+            "tip: what 'A.B=x' has before its '=' is no NAME\n",
+        ),
+        (
+            "allnoconfig Kconfig ./a=b",
+            "tip: what './a=b' has before its '=' is no NAME\n",
+        ),
+        (
+            "session Kconfig - =x",
+            "tip: what '=x' has before its '=' is no NAME\n",
+        ),
+    ];
+    for (line, tip) in rows {
+        let outcome = run_line(rt.alloc(), line)?;
+        let errors = std::str::from_utf8(outcome.errors.as_slice())?;
+        assert_eq!(rt; errors.strip_prefix(NO_VARIABLE), Some(tip), "at {line:?}");
+        assert_eq!(rt; outcome.status, 2, "at {line:?}");
+    }
+    Ok(())
+}
+
+#[test]
+fn the_version_is_output(rt: HostRuntime) -> Result<(), Fail> {
+    for line in ["--version", "-V", "--version session"] {
+        let outcome = run_line(rt.alloc(), line)?;
+        want(&rt, &outcome, 0, "kconf 1.0.0\n", "", line);
     }
     Ok(())
 }
@@ -105,6 +175,10 @@ fn help_is_output(rt: HostRuntime) -> Result<(), Fail> {
         (
             "genheader --help",
             "kconf genheader Kconfig .config > autoconf.h\n",
+        ),
+        (
+            "genmake --help",
+            "kconf genmake Kconfig .config > auto.conf\n",
         ),
     ];
     for (line, end) in rows {

@@ -1,0 +1,58 @@
+//! The target `files`: the paths of the files that a Kconfig is read from.
+
+use crate::explanations::{Wording, report_of};
+use crate::folder::Folder;
+use crate::messages::{Fault, Report};
+use crate::opening::{Files, Kconfig, open_kconfig};
+use crate::paths_read::paths_read;
+use bumpalo::Bump;
+use kc_session::IoFault;
+use std::alloc::Global;
+use std::io::Write;
+use std::mem;
+
+/// Writes the paths of the files of a Kconfig, one on each line, each once, in the order in which they are first read.
+///
+/// # Errors
+///
+/// The fault of the Kconfig, with no path written, and one of the output or of memory.
+pub(crate) fn list_files<F: Folder, W: Write>(
+    alloc: Global,
+    kconfig: &Kconfig<'_, F>,
+    wording: Wording,
+    output: &mut W,
+) -> Result<(), Report> {
+    let mut files = match Files::new(alloc, kconfig) {
+        Ok(files) => files,
+        Err(fault) => return Err(Report::of(fault, wording)),
+    };
+    match open_kconfig(&mut files, kconfig) {
+        // The program ends soon, so the memory need not be given back piece by piece.
+        Ok((session, _)) => mem::forget(session),
+        Err(fault) => return Err(report_of(alloc, fault, wording, &files, kconfig)),
+    }
+    match write_paths(alloc, &files, kconfig, output) {
+        Ok(()) => Ok(()),
+        Err(fault) => Err(Report::of(fault, wording)),
+    }
+}
+
+/// Writes the paths of files without a fault.
+fn write_paths<F: Folder, W: Write>(
+    alloc: Global,
+    files: &Files<'_, F>,
+    kconfig: &Kconfig<'_, F>,
+    output: &mut W,
+) -> Result<(), Fault> {
+    let arena = Bump::new(alloc);
+    let lines = files.lines(&arena, kconfig)?;
+    let mut text = String::new(alloc);
+    for path in paths_read(alloc, lines.as_slice())? {
+        text.push_str(path)?;
+        text.push_str("\n")?;
+    }
+    if output.write_all(text.as_str().as_bytes()).is_err() || output.flush().is_err() {
+        return Err(Fault::Stream(IoFault::Write));
+    }
+    Ok(())
+}
