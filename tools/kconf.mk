@@ -22,7 +22,8 @@
 #
 #     $(KCONFIG_CONFIG)    by the files of the Kconfig; where there is none, all symbols have their defaults
 #     $(KCONFIG_CONFIG).d  which files these are, with each .config that is made
-#     auto.conf            the values for make, by the .config: `-include auto.conf` makes it
+#     auto.conf            the values for make, by the .config: `-include auto.conf` makes it, so a makefile that has that
+#                          line should leave it out for the four targets above
 #     autoconf.h           the values for C, by the .config
 #
 # Each file is written beside its place and moved there, so that after a fault it is as it was. It is installed as

@@ -19,7 +19,7 @@ failed=0
 
 # Begins a part in a new folder.
 part() {
-    name=$1
+    title=$1
     mkdir "$work/$2"
     cd "$work/$2" || exit 1
 }
@@ -27,9 +27,9 @@ part() {
 # Compares what a command printed with the text on standard input.
 wants() {
     if diff -u - <("$@" 2>&1; echo "status $?") > "$work/difference"; then
-        echo "ok: $name: $*"
+        echo "ok: $title: $*"
     else
-        echo "FAILED: $name: $*"
+        echo "FAILED: $title: $*"
         cat "$work/difference"
         failed=1
     fi
@@ -69,9 +69,8 @@ wants shell 'kconf --help | grep -c "^  [a-z]"' <<'END'
 11
 status 0
 END
-wants shell 'kconf session --help | grep -c "^  [1-7a-z]"' <<'END'
-21
-status 0
+wants shell 'kconf session --help | sed -n "s/^  \([1-7a-z][a-z]*\) .*/\1/p" | tr "\n" " "' <<'END'
+set unset reset load merge show list choices 1 2 3 4 5 6 7 printf status 0
 END
 
 part 'the command line' line
@@ -131,7 +130,7 @@ tip: what 'A.B=x' has before its '=' is no NAME
 status 0
 END
 wants shell "printf 'list\nconfig\n' | kconf session Kconfig .config SRCARCH=x86" <<'END'
-X86 type=bool value=y vis=n can=- user=-
+X86 type=bool value=y vis=n can=- user=y
 NET type=bool value=y vis=y can=n,y user=y
 ok
 CONFIG_X86=y
@@ -270,7 +269,9 @@ cat > Makefile <<'END'
 all: show
 KCONFIG_WORDS := --variables words
 include kconf.mk
+ifeq ($(filter %config,$(MAKECMDGOALS)),)
 -include auto.conf
+endif
 show: auto.conf autoconf.h
 	@echo net=$(CONFIG_NET) && cat autoconf.h
 END
@@ -297,8 +298,8 @@ arch/x86/Kconfig:
 status 0
 END
 printf 'config NEW\n    bool "New"\n    default y\n' >> arch/x86/Kconfig
-touch -d '1 minute' arch/x86/Kconfig
-wants shell 'make -s && touch .config && make -s listnewconfig && make -s savedefconfig && cat defconfig' <<'END'
+touch -d '1 minute ago' .config auto.conf autoconf.h
+wants shell 'make -s && make -s listnewconfig && make -s savedefconfig && cat defconfig' <<'END'
 net=y
 #define CONFIG_X86 1
 #define CONFIG_NEW 1
