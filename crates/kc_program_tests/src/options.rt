@@ -159,11 +159,10 @@ fn a_file_without_variables_is_a_fault(rt: HostRuntime) -> Result<(), Fail> {
 }
 
 // A text of so many bytes, which begins as another one and goes on with one letter.
-fn long_text(alloc: Global, start: &[u8], length: usize) -> Result<Vec<u8>, AllocError> {
-    let mut text = vec![in alloc; b'x'; length]?;
-    for (byte, first) in text.iter_mut().zip(start.iter()) {
-        *byte = *first;
-    }
+fn long_text(alloc: Global, start: &str, length: usize) -> Result<Vec<u8>, AllocError> {
+    let mut text = start.as_bytes().to_vec(alloc)?;
+    let rest = vec![in alloc; b'x'; length.saturating_sub(start.len())]?;
+    text.extend_from_slice(rest.as_slice())?;
     Ok(text)
 }
 
@@ -175,7 +174,7 @@ fn a_file_of_variables_has_its_limits(rt: HostRuntime) -> Result<(), Fail> {
         ("#", 16_777_217, "kconf: words: limit\n"),
     ];
     for (start, length, errors) in rows {
-        let text = long_text(rt.alloc(), start.as_bytes(), length)?;
+        let text = long_text(rt.alloc(), start, length)?;
         let files = [("words", text.as_slice())];
         let words = ["kconf", "files", "nowhere", "--variables", "words"];
         let outcome = run_program(rt.alloc(), words.as_slice(), files.as_slice(), b"");
