@@ -27,8 +27,10 @@ from pathlib import Path
 
 CONFIG_LINE = re.compile(r"(?:# )?CONFIG_(\w+)(?:=| is not set)(.*)")
 DEFINE_LINE = re.compile(r"#define CONFIG_(\w+?)(_MODULE)? (.*)")
-TARGETS = ("olddefconfig", "savedefconfig", "listnewconfig", "genheader", "allnoconfig", "allyesconfig")
+TARGETS = ("olddefconfig", "savedefconfig", "listnewconfig", "genheader", "genmake", "allnoconfig", "allyesconfig")
 FILELESS = ("allnoconfig", "allyesconfig")
+# What conf writes beside the .config.
+SYNCED = {"genheader": "header.h", "genmake": "auto.conf"}
 UNEXPLAINED = "unexplained"
 
 # The lines of a target, by symbol.
@@ -82,22 +84,25 @@ class Tree:
 
     def run_conf(self, target: str, config: Path | None, work: Path) -> str:
         """What conf writes for a target, or prints for listnewconfig."""
-        path, saved, header = work / "config", work / "saved", work / "header.h"
+        path, saved = work / "config", work / "saved"
         path.unlink(missing_ok=True)
         if config:
             path.write_text(config.read_text())
         elif target not in FILELESS:
             path.write_text("")
-        option = {"savedefconfig": f"--savedefconfig={saved}", "genheader": "--syncconfig"}.get(target, f"--{target}")
-        output = {"savedefconfig": saved, "genheader": header}.get(target, path)
-        if target == "genheader":
+        option, output = f"--{target}", path
+        if target == "savedefconfig":
+            option, output = f"--savedefconfig={saved}", saved
+        elif target in SYNCED:
+            option, output = "--syncconfig", work / SYNCED[target]
             self.call_conf("--olddefconfig", path, work)
         done = self.call_conf(option, path, work)
         return done if target == "listnewconfig" else output.read_text()
 
     def call_conf(self, option: str, path: Path, work: Path) -> str:
         passed = dict(word.split("=", 1) for word in self.words)
-        files = {"KCONFIG_CONFIG": path, "KCONFIG_AUTOHEADER": work / "header.h", "KCONFIG_AUTOCONFIG": work / "auto.conf"}
+        synced = {"KCONFIG_AUTOHEADER": work / SYNCED["genheader"], "KCONFIG_AUTOCONFIG": work / SYNCED["genmake"]}
+        files = {"KCONFIG_CONFIG": path, **synced}
         kept = {name: os.environ[name] for name in ("PATH", "HOME") if name in os.environ}
         environment = {**kept, **passed, **{name: str(path) for name, path in files.items()}}
         environment["KCONFIG_RUSTCCFG"] = str(work / "rustc_cfg")
