@@ -32,8 +32,8 @@ const MALFORMED_LINE: &str =
 ///
 /// The first fault is reported: of the words, then of the file of variables, then of the variables, then of the reading of
 /// CONFIG, then of the files and their texts as they are read, then of the lines and the symbols, then of CONFIG's length,
-/// and last of the input and the output. Nothing is written to `output` before all of these but the last are known to be none. Where
-/// `errors` cannot be written, what it lacks changes nothing else.
+/// and last of the input and the output. Nothing is written to `output` before all of these but the last are known to be
+/// none. Where `errors` cannot be written, what it lacks changes nothing else.
 pub fn program<S: AsStr, F: Folder, R: Read, W: Write, E: Write>(
     alloc: Global,
     words: &[S],
