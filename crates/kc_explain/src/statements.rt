@@ -1,5 +1,8 @@
 //! What each line of a Kconfig is, and which statement it belongs to.
 
+ghost use Rattle.std.specs.Prelude.{◌≡◌, option_map};
+ghost use Rattle.kc_statement.specs.Names.{token_word};
+
 use kc_statement::{Keyword, SymbolType, is_word, read_keyword};
 use kc_text::{Line, Token};
 use std::alloc::{AllocError, Global};
@@ -242,7 +245,9 @@ impl<'a, 'b> Statements<'a, 'b> {
 }
 
 /// The word that a token is, also one that holds a reference.
-pub(crate) fn word_of<'a>(token: &'a Token<'_>) -> Option<&'a str> {
+pub(crate) fn word_of<'a>(token: &'a Token<'_>) -> Option<&'a str>
+    ensures { option_map (λ word. word.now) result ≡ token_word token.now }
+{
     match token {
         Token::Word(word) => Some(word.as_str()),
         Token::Expanded(word) => Some(word.as_str()),

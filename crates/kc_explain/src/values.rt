@@ -1,5 +1,9 @@
 //! Defaults and ranges that do not fit the type of their symbol.
 
+ghost use Rattle.std.specs.Prelude.{◌≡◌};
+ghost use Rattle.kc_statement.specs.declared.expr.Term.TheVariants.{Text, Undefined};
+ghost use Rattle.kc_tree.specs.SymbolFaults.{begins_as_number, is_unfit_term};
+
 use crate::statements::{Statements, before_if};
 use crate::words::{repeated, type_name, type_words};
 use kc_statement::{Keyword, SymbolType, numeral};
@@ -121,7 +125,7 @@ fn unfit_range<'a>(
     None
 }
 
-/// Why a term does not fit a type, int or hex.
+/// Why a term does not fit a type, int or hex. A symbol fits.
 fn unfit_term<'a>(
     names: &BTreeSet<&'a str>,
     kind: SymbolType,
@@ -130,7 +134,7 @@ fn unfit_term<'a>(
     match term {
         Token::Quoted(text) => {
             let text = text.as_str();
-            numeral(kind, text).is_none().then_some(Unfit::Text(text))
+            is_unfit_text(kind, text).then_some(Unfit::Text(text))
         }
         Token::Word(word) => unfit_word(names, kind, word.as_str()),
         Token::Expanded(word) => unfit_word(names, kind, word.as_str()),
@@ -138,16 +142,32 @@ fn unfit_term<'a>(
     }
 }
 
-/// Why a word does not fit a type, int or hex. A symbol and a word that does not begin as a number does fit.
+/// Why a word does not fit a type, int or hex.
 fn unfit_word<'a>(names: &BTreeSet<&'a str>, kind: SymbolType, word: &'a str) -> Option<Unfit<'a>> {
-    if names.contains(word) || !begins_as_number(word) {
+    if names.contains(word) {
         return None;
     }
-    numeral(kind, word).is_none().then_some(Unfit::Word(word))
+    is_unfit_word(kind, word).then_some(Unfit::Word(word))
+}
+
+/// Whether a text in quotes does not fit a type, int or hex.
+fn is_unfit_text(kind: SymbolType, text: &str) -> bool
+    ensures { result ≡ is_unfit_term kind (Text text.now) }
+{
+    numeral(kind, text).is_none()
+}
+
+/// Whether a word that nothing defines does not fit a type, int or hex.
+fn is_unfit_word(kind: SymbolType, word: &str) -> bool
+    ensures { result ≡ is_unfit_term kind (Undefined word.now) }
+{
+    begins_as_number(word) && numeral(kind, word).is_none()
 }
 
 /// Whether a text is empty or begins as a number does.
-fn begins_as_number(text: &str) -> bool {
+fn begins_as_number(text: &str) -> bool
+    ensures { result ≡ begins_as_number text.now }
+{
     match text.as_bytes().first() {
         Some(first) => first.is_ascii_digit() || *first == b'-',
         None => true,

@@ -1,5 +1,7 @@
 //! Words that several messages use.
 
+ghost use Rattle.std.specs.Prelude.{◌≤◌, length};
+
 use kc_statement::SymbolType;
 
 /// The most bytes of a text of a Kconfig that a message repeats.
@@ -31,7 +33,9 @@ pub(crate) fn type_name(kind: SymbolType) -> &'static str {
 }
 
 /// The first 80 bytes of a text, or fewer where these end within a character.
-pub(crate) fn repeated(text: &str) -> &str {
+pub(crate) fn repeated(text: &str) -> &str
+    ensures { length result.now ≤ 80 }
+{
     let end = text.len().min(MOST_REPEATED);
     for less in 0..=MOST_CUT {
         if let Some(cut) = text.get(..end.saturating_sub(less)) {
