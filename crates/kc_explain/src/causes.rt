@@ -1,5 +1,5 @@
-//! The lines by which the nodes of a loop use each other (this project's own table, docs/VALUES.md, "What uses what, and
-//! loops").
+//! The lines by which the nodes of a loop use each other (this project's own table, docs/VALUES.md, "What uses what,
+//! and loops").
 
 use crate::statements::Statements;
 use crate::steps::{Steps, Subject};

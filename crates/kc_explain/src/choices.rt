@@ -18,8 +18,8 @@ use std::collections::{BTreeMap, BTreeSet};
 /// The most members of a choice that a message names.
 const MOST_NAMED: usize = 8;
 
-/// What is said of a fault of a choice, by the place of its `choice` line and the lines of its Kconfig: what is wrong, and
-/// the lines that make it wrong (this project's own words). Of several such lines it is the first.
+/// What is said of a fault of a choice, by the place of its `choice` line and the lines of its Kconfig: what is wrong,
+/// and the lines that make it wrong (this project's own words). Of several such lines it is the first.
 ///
 /// # Errors
 ///

@@ -17,8 +17,9 @@ use kc_text::Line;
 use kc_tree::{NamedNode, Node};
 use std::alloc::{AllocError, Global};
 
-/// What is said of a loop of nodes, each of which uses the next and the last the first, by the lines of its Kconfig: for
-/// each step the line that makes it, and for a `select` or an `imply` the symbol in which it is (this project's own words).
+/// What is said of a loop of nodes, each of which uses the next and the last the first, by the lines of its Kconfig:
+/// for each step the line that makes it, and for a `select` or an `imply` the symbol in which it is (this project's own
+/// words).
 ///
 /// # Errors
 ///

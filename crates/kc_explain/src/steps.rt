@@ -19,14 +19,14 @@ pub(crate) enum Subject<'a> {
     Selection(usize),
 }
 
-/// The nodes of a loop, each of which uses the next, and the last the first. A step is a node by its number in the loop,
-/// with the next.
+/// The nodes of a loop, each of which uses the next, and the last the first. A step is a node by its number in the
+/// loop, with the next.
 #[derive(Drop)]
 pub(crate) struct Steps<'a> {
     subjects: Vec<Subject<'a>>,
     /// The numbers of the nodes.
     places: BTreeMap<Subject<'a>, usize>,
-    /// The lines of each node whose definitions, blocks around or selecting symbols give it conditions, in rising order.
+    /// The lines by whose definitions, and blocks around, each node gets its conditions, in rising order.
     sites: Vec<Vec<usize>>,
 }
 

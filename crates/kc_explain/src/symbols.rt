@@ -15,8 +15,8 @@ use kc_text::Line;
 use kc_tree::SymbolProblem;
 use std::alloc::{AllocError, Global};
 
-/// What is said of a fault of a symbol, by its name and the lines of its Kconfig: what is wrong, and the lines that make
-/// it wrong (this project's own words). Of several such lines it is the first.
+/// What is said of a fault of a symbol, by its name and the lines of its Kconfig: what is wrong, and the lines that
+/// make it wrong (this project's own words). Of several such lines it is the first.
 ///
 /// # Errors
 ///
