@@ -1,6 +1,6 @@
 -- The values of a `.config` as GNU make reads them: `print_symbol_for_autoconf` of the kernel's scripts/kconfig/confdata.c,
 -- and which signs make reads otherwise (the manual of GNU make, "Parsing Makefiles" and "Setting Variables").
-use Rattle.std.specs.Prelude.{ℕ, Bool, true, false, not, List, [], ◌∷◌, ◌++◌, length, ◌&&◌, ◌||◌, ◌==◌, nat_lt, if◌then◌else◌, codes}
+use Rattle.std.specs.Prelude.{ℕ, Bool, false, not, List, [], ◌∷◌, ◌++◌, length, ◌&&◌, ◌||◌, ◌==◌, nat_lt, if◌then◌else◌, codes}
 use Rattle.std.specs.List.{flat_map, position_or_len, before_first, after_first, slice_index}
 use Rattle.std.specs.Str.Lines.{lines}
 use Rattle.kc_program.specs.Variables.{is_equals}

@@ -1,5 +1,5 @@
 -- This project's own: what `-C FOLDER` makes of paths.
-use Rattle.std.specs.Prelude.{ℕ, Bool, true, false, List, [], ◌∷◌, ◌++◌, length, ◌-◌, ◌||◌, ◌==◌, if◌then◌else◌, codes}
+use Rattle.std.specs.Prelude.{ℕ, Bool, true, List, [], ◌∷◌, ◌++◌, length, ◌-◌, ◌||◌, ◌==◌, if◌then◌else◌, codes}
 use Rattle.std.specs.List.{slice_index}
 
 -- a path that is empty is no file's, one that begins with `/` is taken from no folder, and an empty base is the working
