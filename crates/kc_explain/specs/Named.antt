@@ -19,3 +19,15 @@ pub record IsRemarkOf (shows : Keyword → Bool) (lines : List LineValue) (remar
 -- each remark does
 abbrev pub AreRemarksOf : (Keyword → Bool) → List LineValue → List Remark → Type 0
 AreRemarksOf shows lines remarks = All (IsRemarkOf shows lines) remarks
+
+-- a remark has the place of one of the lines
+pub record IsAmong (lines : List LineValue) (remark : Remark) : Type 0 where
+  pub number : ℕ
+  pub line : LineValue
+  pub line_is : slice_get lines number ≡ Some line
+  pub path_is : remark.place.path ≡ line.path
+  pub number_is : remark.place.line ≡ line.number
+
+-- each remark does
+abbrev pub AreAmong : List LineValue → List Remark → Type 0
+AreAmong lines remarks = All (IsAmong lines) remarks

@@ -1,5 +1,7 @@
 //! What is said of a fault or a warning.
 
+ghost use Rattle.std.specs.Prelude.{◌≡◌, [], IfOk};
+
 use kc_text::Text;
 use std::alloc::{AllocError, Global};
 
@@ -42,12 +44,24 @@ impl Place {
 }
 
 impl Explanation {
+    /// Words that name no line as yet.
+    pub fn new(alloc: Global, words: String) -> Explanation
+        ensures { result.remarks.items ≡ [] }
+    {
+        Explanation {
+            words,
+            remarks: Vec::new(alloc),
+        }
+    }
+
     /// Words alone, which name no line.
     ///
     /// # Errors
     ///
     /// `AllocError` where memory is refused.
-    pub fn of_words(alloc: Global, words: &str) -> Result<Explanation, AllocError> {
+    pub fn of_words(alloc: Global, words: &str) -> Result<Explanation, AllocError>
+        ensures { IfOk result (λ e. e.remarks.items ≡ []) }
+    {
         Ok(Explanation {
             words: String::from_str(alloc, words)?,
             remarks: Vec::new(alloc),

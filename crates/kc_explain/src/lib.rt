@@ -2,24 +2,53 @@
 //! where there is a fault or a warning, from the lines, which are read again then.
 #![tactic(auto)]
 
+mod blocks;
 mod causes;
+mod characters;
 mod choices;
+mod config_lines;
+mod context;
+mod dollars;
 mod explanation;
+mod forms;
+mod indentation;
+mod limits;
+mod lines;
 mod loops;
+mod malformed;
 mod meanings;
 mod mention;
+mod mistakes;
+mod nearest;
+mod refusals;
+mod said;
+mod showing;
 mod shown;
-mod shown_line;
+mod spelling;
 mod statements;
 mod steps;
+mod strays;
 mod symbols;
+mod texts;
+mod types;
+mod unknown;
+mod unsupported;
 mod used_names;
 mod values;
+mod variables;
+mod warnings;
 mod words;
 
 pub use choices::explain_choice;
+pub use dollars::references_in;
 pub use explanation::{Explanation, Place, Remark};
+pub use indentation::line_of;
+pub use lines::explain_line;
 pub use loops::explain_loop;
 pub use meanings::{fault_meaning, warning_meaning};
-pub use shown_line::shown_line;
+pub use nearest::nearest_keyword;
+pub use refusals::refusal_meaning;
+pub use showing::shown_line;
 pub use symbols::explain_symbol;
+pub use texts::explain_text;
+pub use warnings::explain_warnings;

@@ -1,4 +1,3 @@
-use Rattle.std.proofs.Common.{All}
 use Rattle.kc_explain.specs.Faults.{shows}
 use Rattle.kc_explain.specs.Named.{AreRemarksOf}
 use Rattle.kc_explain.proofs.mention.remarks_of.Given as goal

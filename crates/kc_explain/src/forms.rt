@@ -1,0 +1,116 @@
+//! What is said of a line that does not have the form of its statement (K05).
+
+use crate::context::Context;
+use crate::mistakes::{Mistake, Wanted, first_mistake};
+use crate::said::Said;
+use crate::spelling::{first_word, token_text, tokens_text};
+use kc_statement::{Keyword, read_keyword};
+use kc_text::{Line, Token};
+use std::alloc::{AllocError, Global};
+
+/// How each statement and attribute is written, where E is an expression and `[..]` may be missing, as in
+/// docs/LANGUAGE.md.
+static FORMS: [(&str, &str); 29] = [
+    ("config", "config NAME"),
+    ("menuconfig", "menuconfig NAME"),
+    ("menu", "menu \"title\""),
+    ("endmenu", "endmenu"),
+    ("if", "if E"),
+    ("endif", "endif"),
+    ("choice", "choice"),
+    ("endchoice", "endchoice"),
+    ("comment", "comment \"title\""),
+    ("mainmenu", "mainmenu \"title\""),
+    ("source", "source \"path\""),
+    ("bool", "bool [\"prompt\" [if E]]"),
+    ("tristate", "tristate [\"prompt\" [if E]]"),
+    ("string", "string [\"prompt\" [if E]]"),
+    ("int", "int [\"prompt\" [if E]]"),
+    ("hex", "hex [\"prompt\" [if E]]"),
+    ("def_bool", "def_bool E [if E]"),
+    ("def_tristate", "def_tristate E [if E]"),
+    ("prompt", "prompt \"text\" [if E]"),
+    ("default", "default E [if E]"),
+    ("range", "range TERM TERM [if E]"),
+    ("depends", "depends on E"),
+    ("visible", "visible if E"),
+    ("select", "select NAME [if E]"),
+    ("imply", "imply NAME [if E]"),
+    ("modules", "modules"),
+    ("option", "option modules"),
+    ("optional", "optional"),
+    ("help", "help"),
+];
+
+/// What is said of a line whose tokens are not those of its statement's form: what was wanted, and what was found there.
+///
+/// # Errors
+///
+/// `AllocError` where memory is refused.
+pub(crate) fn explain_form(
+    alloc: Global,
+    context: &Context<'_, '_>,
+    line: &Line<'_>,
+) -> Result<Option<Said>, AllocError> {
+    let Some(keyword) = read_keyword(line) else {
+        return Ok(None);
+    };
+    let words = match first_mistake(keyword, line.tokens()) {
+        Some(mistake) => mistake_words(alloc, &mistake, line)?,
+        None if is_default_of_choice(keyword, context) => String::from_str(
+            alloc,
+            "the default of a choice is the name of a member alone: default NAME [if E]",
+        )?,
+        None => return Ok(None),
+    };
+    let mut said = Said::new(alloc, words);
+    said.name(context.at())?;
+    Ok(Some(said))
+}
+
+fn is_default_of_choice(keyword: Keyword, context: &Context<'_, '_>) -> bool {
+    keyword == Keyword::Default && context.owner() == Some(Keyword::Choice)
+}
+
+/// What is said of a mistake in a line.
+fn mistake_words(alloc: Global, mistake: &Mistake, line: &Line<'_>) -> Result<String, AllocError> {
+    let tokens = line.tokens();
+    let word = first_word(line).unwrap_or("");
+    if mistake.wanted == Wanted::On {
+        let rest = tokens_text(alloc, tokens.get(1..).unwrap_or(&[]))?;
+        return format!(in alloc; "`depends` wants `on`: depends on {rest}");
+    }
+    let mut words = String::new(alloc);
+    push_wanted(alloc, &mut words, mistake, tokens)?;
+    match FORMS.iter().find(|row| row.0 == word) {
+        Some((_, form)) => write!(words, ": {form}")?,
+        None => {}
+    }
+    Ok(words)
+}
+
+/// Adds what is wanted after which token, and what is there.
+fn push_wanted(
+    alloc: Global,
+    words: &mut String,
+    mistake: &Mistake,
+    tokens: &[Token<'_>],
+) -> Result<(), AllocError> {
+    let wanted = mistake.wanted.words();
+    let before = match tokens.get(mistake.at.saturating_sub(1)) {
+        Some(token) => token_text(alloc, token)?,
+        None => String::new(alloc),
+    };
+    if mistake.at == 1 && mistake.wanted != Wanted::Nothing {
+        write!(words, "`{before}` wants {wanted}")?;
+    } else {
+        write!(words, "after `{before}` {wanted} is wanted")?;
+    }
+    match tokens.get(mistake.at) {
+        Some(token) => {
+            let found = token_text(alloc, token)?;
+            write!(words, ", not `{found}`")
+        }
+        None => words.push_str(", and the line ends"),
+    }
+}
