@@ -3,12 +3,15 @@
 use crate::folder::Folder;
 use crate::messages::{Fault, Report};
 use crate::notes::Note;
-use crate::opening::{Files, Kconfig};
+use crate::opening::{ConfigFile, Files, Kconfig};
+use crate::sourcing::{explain_recursion, explain_unread, explain_untrue};
 use bumpalo::Bump;
 use kc_explain::{
-    Explanation, explain_choice, explain_loop, explain_symbol, fault_meaning, warning_meaning,
+    Explanation, explain_choice, explain_line, explain_loop, explain_symbol, explain_text,
+    explain_warnings, fault_meaning, warning_meaning,
 };
-use kc_text::{Line, TextFault};
+use kc_files::Warning;
+use kc_text::{Line, TextFault, TextProblem};
 use kc_tree::TreeFault;
 use std::alloc::{AllocError, Global};
 
@@ -58,6 +61,43 @@ pub fn report_of<F: Folder>(
     }
 }
 
+/// The report of a fault of the variables of the command line, or of the reading of CONFIG.
+pub fn report_of_inputs<F: Folder>(
+    alloc: Global,
+    fault: Fault,
+    wording: Wording,
+    folder: &F,
+) -> Report {
+    let words = match wording {
+        Wording::Number => None,
+        Wording::Explained => words_of_input(alloc, &fault, folder),
+    };
+    Report {
+        fault,
+        wording,
+        note: words.map(|words| Note::of_words(alloc, words)),
+    }
+}
+
+/// What is said of a fault of the variables of the command line, or of the reading of CONFIG: nothing where memory is
+/// refused.
+fn words_of_input<F: Folder>(alloc: Global, fault: &Fault, folder: &F) -> Option<String> {
+    match fault {
+        Fault::CannotRead(path) => {
+            let why = folder.why_unread(alloc, path.as_str());
+            format!(in alloc; "{why}; write - in its place for none").ok()
+        }
+        Fault::Text(TextFault::At(TextProblem::BadCharacter, ..)) => {
+            let words = "its value has a line feed, a carriage return or a NUL";
+            String::from_str(alloc, words).ok()
+        }
+        Fault::Text(TextFault::At(TextProblem::Limit, ..)) => {
+            String::from_str(alloc, "its value has more than 65,536 bytes").ok()
+        }
+        _ => None,
+    }
+}
+
 /// What the files of a Kconfig say of its fault: nothing where they can't be read again, or memory is refused.
 fn note_of<F: Folder>(
     alloc: Global,
@@ -65,11 +105,58 @@ fn note_of<F: Folder>(
     files: &Files<'_, F>,
     kconfig: &Kconfig<'_, F>,
 ) -> Option<Note> {
-    let Fault::Tree(fault) = fault else {
-        return None;
-    };
-    let explanation = explain_tree(alloc, fault, files, kconfig).ok()??;
+    let explanation = explain_fault(alloc, fault, files, kconfig).ok()??;
     Note::of(alloc, &explanation, files).ok()
+}
+
+/// What the files of a Kconfig say of its fault.
+fn explain_fault<F: Folder>(
+    alloc: Global,
+    fault: &Fault,
+    files: &Files<'_, F>,
+    kconfig: &Kconfig<'_, F>,
+) -> Result<Option<Explanation>, AllocError> {
+    match fault {
+        Fault::CannotRead(path) => Ok(Some(explain_unread(alloc, files, kconfig, path.as_str())?)),
+        Fault::NotUtf8(path) => Ok(Some(explain_untrue(alloc, files, kconfig, path.as_str())?)),
+        Fault::Limit(_) => Ok(Some(explain_long_config(alloc, kconfig.config)?)),
+        Fault::Text(fault) | Fault::Full(fault) => explain_texts(alloc, fault, files, kconfig),
+        Fault::Tree(fault) => explain_tree(alloc, fault, files, kconfig),
+        Fault::Stream(_) | Fault::NoMemory => Ok(None),
+    }
+}
+
+/// What is said of a fault of a text.
+fn explain_texts<F: Folder>(
+    alloc: Global,
+    fault: &TextFault,
+    files: &Files<'_, F>,
+    kconfig: &Kconfig<'_, F>,
+) -> Result<Option<Explanation>, AllocError> {
+    let TextFault::At(problem, path, line) = fault else {
+        return Ok(None);
+    };
+    let path = path.as_str();
+    let explanation = match problem {
+        TextProblem::RecursiveSource => explain_recursion(alloc, files, kconfig, path, *line)?,
+        _ => {
+            let text = text_or_none(alloc, files, path)?;
+            explain_text(alloc, text.as_str(), problem, path, *line)?
+        }
+    };
+    Ok(Some(explanation))
+}
+
+/// The text of the file of a path, which is empty where it can't be read again.
+fn text_or_none<F: Folder>(
+    alloc: Global,
+    files: &Files<'_, F>,
+    path: &str,
+) -> Result<String, AllocError> {
+    match files.text(path)? {
+        Some(text) => Ok(text),
+        None => Ok(String::new(alloc)),
+    }
 }
 
 /// What the lines of a Kconfig say of a fault of its lines or of its tree.
@@ -81,18 +168,28 @@ fn explain_tree<F: Folder>(
 ) -> Result<Option<Explanation>, AllocError> {
     let arena = Bump::new(alloc);
     match files.lines(&arena, kconfig) {
-        Ok(lines) => explain_lines(alloc, fault, lines.as_slice()),
+        Ok(lines) => explain_lines(alloc, fault, files, lines.as_slice()),
         Err(TextFault::NoMemory | TextFault::At(..)) => Ok(None),
     }
 }
 
-fn explain_lines(
+fn explain_lines<F: Folder>(
     alloc: Global,
     fault: &TreeFault,
+    files: &Files<'_, F>,
     lines: &[Line<'_>],
 ) -> Result<Option<Explanation>, AllocError> {
     let explanation = match fault {
-        TreeFault::Line { .. } | TreeFault::NoMemory => return Ok(None),
+        TreeFault::NoMemory => return Ok(None),
+        TreeFault::Line {
+            problem,
+            path,
+            line,
+        } => {
+            let path = path.as_str();
+            let text = text_or_none(alloc, files, path)?;
+            explain_line(alloc, lines, text.as_str(), *problem, path, *line)?
+        }
         TreeFault::Symbol { problem, name } => {
             explain_symbol(alloc, lines, *problem, name.as_str())?
         }
@@ -104,4 +201,31 @@ fn explain_lines(
         TreeFault::Loop(nodes) => explain_loop(alloc, lines, nodes.as_slice())?,
     };
     Ok(Some(explanation))
+}
+
+/// What is said of a `.config` that is too long.
+fn explain_long_config(alloc: Global, config: &ConfigFile) -> Result<Explanation, AllocError> {
+    let words = match config.long_line() {
+        Some(number) => format!(in alloc; "line {number} has more than 65,536 bytes")?,
+        None => String::from_str(alloc, "it has more than 16,777,216 bytes")?,
+    };
+    Ok(Explanation::new(alloc, words))
+}
+
+/// What is written after the number of each warning of a `.config`, where that is wanted and can be had.
+pub fn words_of_warnings<F: Folder>(
+    alloc: Global,
+    wording: Wording,
+    files: &Files<'_, F>,
+    kconfig: &Kconfig<'_, F>,
+    warnings: &[Warning],
+) -> Option<Vec<String>> {
+    if wording == Wording::Number || warnings.is_empty() {
+        return None;
+    }
+    let arena = Bump::new(alloc);
+    let lines = files.lines(&arena, kconfig).ok()?;
+    let prefix = kconfig.prefix.as_str();
+    let config = kconfig.config.bytes();
+    explain_warnings(alloc, lines.as_slice(), prefix, config, warnings).ok()
 }

@@ -60,6 +60,11 @@ pub trait Folder {
     /// where reading it might not end, or might take bytes from others, as from a pipe.
     fn read_plain(&self, alloc: Global, path: &str) -> Result<Vec<u8>, FolderFault>;
 
+    /// Why the file of a path can't be read, in a few words.
+    fn why_unread(&self, _alloc: Global, _path: &str) -> &'static str {
+        "no file can be read at this path"
+    }
+
     /// The seed of the hash under which the paths of the files, and the names in them, are kept.
     fn seed(&self) -> Seed {
         Seed::fixed()
@@ -140,6 +145,17 @@ impl<R: Files + RandomSource> Folder for SystemFolder<'_, R> {
             self.read_expected(alloc, path, metadata.len())
         } else {
             Err(FolderFault::CannotRead)
+        }
+    }
+
+    fn why_unread(&self, _alloc: Global, path: &str) -> &'static str {
+        match fs::open(self.rt, path) {
+            Ok(_) => "it is no file that can be read to its end",
+            Err(error) => match error.kind() {
+                ErrorKind::NotFound => "no such file",
+                ErrorKind::PermissionDenied => "permission denied",
+                _ => "the system can't open it",
+            },
         }
     }
 

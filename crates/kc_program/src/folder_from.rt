@@ -53,6 +53,16 @@ impl<F: Folder> Folder for FolderFrom<'_, F> {
         }
     }
 
+    fn why_unread(&self, alloc: Global, path: &str) -> &'static str {
+        if is_taken_as_it_is(self.base, path) {
+            return self.folder.why_unread(alloc, path);
+        }
+        match joined(alloc, self.base, path) {
+            Ok(joined) => self.folder.why_unread(alloc, joined.as_str()),
+            Err(AllocError) => "",
+        }
+    }
+
     fn seed(&self) -> Seed {
         self.folder.seed()
     }

@@ -15,12 +15,15 @@ mod notes;
 mod opening;
 mod paths_read;
 mod read_ahead;
+mod refusals;
 mod running;
+mod sourcing;
 mod targets;
 mod unread_words;
 mod variables;
 mod variables_file;
 mod version;
+mod wants;
 
 pub use folder::{Folder, FolderFault, SystemFolder};
 pub use kc_tree::Seed;

@@ -72,6 +72,12 @@ impl Report {
         }
     }
 
+    /// What is written after a fault that has no number.
+    fn note_words(&self) -> Option<&str> {
+        let note = self.note.as_ref()?;
+        Some(note.words.as_str())
+    }
+
     /// What is written after the number of the fault.
     fn words(&self, number: u8) -> Option<&str> {
         match &self.note {
@@ -108,17 +114,22 @@ impl From<IoFault> for Fault {
     }
 }
 
-/// Writes a line for each warning of the `.config` of a path, in their order.
+/// Writes a line for each warning of the `.config` of a path, in their order, with what is said of each where that is
+/// known.
 pub fn write_warnings<E: Write>(
     errors: &mut E,
     path: &str,
     warnings: &[Warning],
     wording: Wording,
+    words: Option<&[String]>,
 ) -> io::Result<()> {
-    for warning in warnings {
+    for (index, warning) in warnings.iter().enumerate() {
         let number = warning.kind.number();
         write!(errors, "kconf: {path}:{}: warning {number}", warning.line)?;
-        end_line(errors, wording.after_warning(number))?;
+        match words.and_then(|words| words.get(index)) {
+            Some(words) => end_line(errors, Some(words.as_str()))?,
+            None => end_line(errors, wording.after_warning(number))?,
+        }
     }
     Ok(())
 }
@@ -135,15 +146,25 @@ pub fn write_report<E: Write>(errors: &mut E, report: &Report) -> io::Result<()>
 
 fn write_fault<E: Write>(errors: &mut E, report: &Report) -> io::Result<()> {
     match &report.fault {
-        Fault::CannotRead(path) => writeln!(errors, "kconf: {path}: cannot read"),
-        Fault::NotUtf8(path) => writeln!(errors, "kconf: {path}: not UTF-8"),
-        Fault::Limit(path) => writeln!(errors, "kconf: {path}: limit"),
+        Fault::CannotRead(path) => write_file_fault(errors, path, "cannot read", report),
+        Fault::NotUtf8(path) => write_file_fault(errors, path, "not UTF-8", report),
+        Fault::Limit(path) => write_file_fault(errors, path, "limit", report),
         Fault::Full(fault) | Fault::Text(fault) => write_text_fault(errors, fault, report),
         Fault::Tree(fault) => write_tree_fault(errors, fault, report),
         Fault::Stream(IoFault::Read) => writeln!(errors, "kconf: cannot read"),
         Fault::Stream(IoFault::Write) => writeln!(errors, "kconf: cannot write"),
         Fault::Stream(IoFault::Memory) | Fault::NoMemory => writeln!(errors, "kconf: memory"),
     }
+}
+
+fn write_file_fault<E: Write>(
+    errors: &mut E,
+    path: &Text,
+    fault: &str,
+    report: &Report,
+) -> io::Result<()> {
+    write!(errors, "kconf: {path}: {fault}")?;
+    end_line(errors, report.note_words())
 }
 
 fn write_text_fault<E: Write>(

@@ -17,6 +17,14 @@ pub struct Note {
 }
 
 impl Note {
+    /// Words alone.
+    pub fn of_words(alloc: Global, words: String) -> Note {
+        Note {
+            words,
+            lines: String::new(alloc),
+        }
+    }
+
     /// What is written of an explanation. The lines that it names are shown as they are in the files; of a file that
     /// can't be read again the place alone is shown. Each file is read once, however many lines of it are named.
     ///

@@ -6,7 +6,7 @@ ghost use Rattle.std.specs.String.{string_bytes};
 
 use crate::folder::{Folder, FolderFault};
 use crate::messages::Fault;
-use crate::read_ahead::{Reach, Waiting};
+use crate::read_ahead::{Reach, Waiting, path_of_source};
 use bumpalo::Bump;
 use kc_files::{Prefix, Warning};
 use kc_session::{OpenFault, Session, open_seeded};
@@ -14,6 +14,10 @@ use kc_text::{Line, Sources, Text, TextFault, TextProblem, Vars, logical_lines};
 use kc_tree::Seed;
 use std::alloc::{AllocError, Global};
 use std::collections::{HashMap, HashSet};
+use std::str::from_utf8;
+
+/// The most bytes of a line of a `.config`, without its line end (docs/LIMITS.md).
+const MOST_LINE: usize = 65_536;
 
 /// The most paths that are read ahead at a time.
 const MAX_AHEAD: usize = 65_536;
@@ -38,6 +42,18 @@ impl ConfigFile {
     /// The path, which is empty where there is no file.
     pub fn path(&self) -> &str {
         self.path.as_str()
+    }
+
+    /// The bytes, which are none where there is no file.
+    pub fn bytes(&self) -> &[u8] {
+        self.bytes.as_slice()
+    }
+
+    /// The number of the first line that has more bytes than one may have, without its line end.
+    pub fn long_line(&self) -> Option<usize> {
+        let mut lines = self.bytes.split(|byte| *byte == b'\n').enumerate();
+        let (index, _) = lines.find(|line| line.1.len() > MOST_LINE)?;
+        Some(index.saturating_add(1))
     }
 }
 
@@ -170,6 +186,56 @@ impl<'a, F: Folder> Files<'a, F> {
             Err(FolderFault::CannotRead) => Ok(None),
             Err(FolderFault::NoMemory) => Err(AllocError),
         }
+    }
+
+    /// The files that were read, but for one.
+    ///
+    /// # Errors
+    ///
+    /// `AllocError` where memory is refused. A file that can't be read again, or has no room, is left out.
+    pub fn sources_without(&self, path: &str) -> Result<Sources, AllocError> {
+        let mut sources = Sources::new(self.alloc);
+        for seen in self.waiting.seen() {
+            if seen.as_str() == path {
+                continue;
+            }
+            let Some(text) = self.text(seen.as_str())? else {
+                continue;
+            };
+            match sources.add_text(seen.as_str(), Text::new(text)) {
+                Err(TextFault::NoMemory) => return Err(AllocError),
+                Ok(()) | Err(TextFault::At(..)) => {}
+            }
+        }
+        Ok(sources)
+    }
+
+    /// Whether a variable has a text, by the command line or by a line of a file that was read.
+    pub fn knows(&self, name: &str) -> bool {
+        self.waiting.known().has(name)
+    }
+
+    /// The path that a `source` line of the plain form names.
+    pub fn path_in(&self, line: &str) -> Result<Option<String>, AllocError> {
+        match path_of_source(line) {
+            Some(path) => self.waiting.known().expand(path),
+            None => Ok(None),
+        }
+    }
+
+    /// The number of the first line of a file that is not UTF-8, if the file can be read again and has one.
+    pub fn line_that_is_not_utf8(&self, path: &str) -> Result<Option<usize>, AllocError> {
+        let bytes = match self.folder.read_plain(self.alloc, path) {
+            Ok(bytes) => bytes,
+            Err(FolderFault::CannotRead) => return Ok(None),
+            Err(FolderFault::NoMemory) => return Err(AllocError),
+        };
+        let Err(fault) = from_utf8(bytes.as_slice()) else {
+            return Ok(None);
+        };
+        let before = bytes.iter().take(fault.valid_up_to());
+        let ends = before.filter(|byte| **byte == b'\n').count();
+        Ok(Some(ends.saturating_add(1)))
     }
 
     /// Starts with no files, and reads as far ahead as a reach says.

@@ -9,6 +9,7 @@ use kc_tree::Seed;
 use memchr::{memchr, memchr2, memmem};
 use std::alloc::{AllocError, Global};
 use std::collections::HashSet;
+use std::collections::hash_set::Iter;
 
 /// The word that a `source` line begins with.
 const SOURCE: &str = "source";
@@ -57,6 +58,16 @@ impl Waiting {
     pub(crate) fn start(&mut self) {
         self.paths = Vec::new(self.alloc);
         self.seen = HashSet::with_hasher(self.alloc, self.seed);
+    }
+
+    /// The paths that wait, were read or passed.
+    pub(crate) fn seen(&self) -> Iter<'_, String> {
+        self.seen.iter()
+    }
+
+    /// The texts of variables that are known.
+    pub(crate) fn known(&self) -> &Known {
+        &self.known
     }
 
     /// Takes a path that waits.
@@ -116,6 +127,12 @@ fn quoted_at(text: &str, place: usize, reach: Reach) -> Option<&str> {
     let path = in_quotes(named.trim_start_matches([' ', '\t']))?;
     let begins_line = before.is_empty() || before.ends_with('\n');
     (begins_line && is_on_one_line(path)).then_some(path)
+}
+
+/// What a `source` line has in its quotes.
+pub(crate) fn path_of_source(line: &str) -> Option<&str> {
+    let named = line.trim_start_matches([' ', '\t']).strip_prefix(SOURCE)?;
+    in_quotes(named.trim_start_matches([' ', '\t']))
 }
 
 /// What stands between the quotes of either kind with which a text begins, up to the first of its kind.

@@ -4,17 +4,19 @@ ghost use Rattle.clap.specs.Words.{kind_of};
 ghost use Rattle.kc_program.specs.Endings.{ending_of};
 
 use crate::arguments::{Arguments, BadWords};
-use crate::explanations::{Wording, report_of};
+use crate::explanations::{Wording, report_of, report_of_inputs, words_of_warnings};
 use crate::folder::Folder;
 use crate::folder_from::FolderFrom;
 use crate::listing::list_files;
 use crate::make_text::make_text;
 use crate::messages::{Fault, Report, Status, write_report, write_warnings};
 use crate::opening::{ConfigFile, Files, Kconfig, open_kconfig, read_config_file};
+use crate::refusals::ExplainedReplies;
 use crate::targets::Target;
 use crate::variables_file::{VariablesFileFault, read_variables, with_words};
 use clap::Error;
 use clap::error::ErrorKind;
+use kc_files::Warning;
 use kc_session::{IoFault, Reply, Session, run};
 use kc_text::{Text, Vars};
 use std::alloc::Global;
@@ -114,7 +116,7 @@ fn serve<F: Folder, R: Read, W: Write, E: Write>(
     let wording = arguments.wording;
     let (vars, config) = match read_inputs(alloc, arguments.config, variables, folder) {
         Ok(inputs) => inputs,
-        Err(fault) => return Err(Report::of(fault, wording)),
+        Err(fault) => return Err(report_of_inputs(alloc, fault, wording, folder)),
     };
     let kconfig = Kconfig {
         folder,
@@ -128,7 +130,13 @@ fn serve<F: Folder, R: Read, W: Write, E: Write>(
         return list_files(alloc, &kconfig, wording, output);
     }
     let mut session = open_session(alloc, &kconfig, wording, errors)?;
-    let served = write_target(alloc, arguments.target, &mut session, input, output);
+    let served = match (arguments.target, wording) {
+        (Target::Session, Wording::Explained) => {
+            let mut output = ExplainedReplies::new(output, errors);
+            write_target(alloc, Target::Session, &mut session, input, &mut output)
+        }
+        (target, _) => write_target(alloc, target, &mut session, input, output),
+    };
     // The program ends here, so its memory need not be given back piece by piece.
     mem::forget(session);
     match served {
@@ -166,12 +174,25 @@ fn open_session<F: Folder, E: Write>(
     };
     match open_kconfig(&mut files, kconfig) {
         Ok((session, warnings)) => {
-            // A warning that cannot be written is no fault: the status says whether the output is there.
-            let _ = write_warnings(errors, kconfig.config.path(), warnings.as_slice(), wording);
+            warn(alloc, &files, kconfig, wording, warnings.as_slice(), errors);
             Ok(session)
         }
         Err(fault) => Err(report_of(alloc, fault, wording, &files, kconfig)),
     }
+}
+
+/// Writes the warnings of CONFIG. One that cannot be written is no fault: the status says whether the output is there.
+fn warn<F: Folder, E: Write>(
+    alloc: Global,
+    files: &Files<'_, F>,
+    kconfig: &Kconfig<'_, F>,
+    wording: Wording,
+    warnings: &[Warning],
+    errors: &mut E,
+) {
+    let words = words_of_warnings(alloc, wording, files, kconfig, warnings);
+    let words = words.as_ref().map(|words| words.as_slice());
+    let _ = write_warnings(errors, kconfig.config.path(), warnings, wording, words);
 }
 
 /// Writes the output of a target: the text of its query after its edit, or the replies to the commands of the input.

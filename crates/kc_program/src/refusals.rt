@@ -1,0 +1,92 @@
+//! The words of a session's refusals, which are written to standard error while the replies go to standard output.
+
+ghost use Rattle.std.specs.Prelude.{◌≡◌, OnSome};
+
+use kc_explain::refusal_meaning;
+use std::io::{self, Write};
+
+/// How many bytes the line of a refusal has: `refused N` and a line feed.
+const REFUSAL_LEN: usize = 10;
+
+/// An output of replies. After each reply that refuses a command, the number of the command and the words of the refusal
+/// are written to `errors`. The bytes of the output are those of the replies.
+///
+/// A reply ends where it is flushed, as the serving of a session flushes after each.
+#[derive(Drop)]
+pub struct ExplainedReplies<'w, W, E> {
+    output: &'w mut W,
+    errors: &'w mut E,
+    /// How many replies were flushed.
+    commands: u64,
+    /// How many bytes the reply has so far, and the first of them.
+    len: usize,
+    first: [u8; REFUSAL_LEN],
+}
+
+impl<'w, W: Write, E: Write> ExplainedReplies<'w, W, E> {
+    /// An output of which nothing is written yet.
+    pub fn new(output: &'w mut W, errors: &'w mut E) -> ExplainedReplies<'w, W, E> {
+        ExplainedReplies {
+            output,
+            errors,
+            commands: 0,
+            len: 0,
+            first: [0; REFUSAL_LEN],
+        }
+    }
+
+    /// Takes over bytes of the reply.
+    fn note(&mut self, bytes: &[u8]) {
+        let free = self.first.iter_mut().skip(self.len);
+        for (place, byte) in free.zip(bytes) {
+            *place = *byte;
+        }
+        self.len = self.len.saturating_add(bytes.len());
+    }
+
+    /// Ends the reply, and writes the words of a refusal.
+    fn end_reply(&mut self) {
+        if self.len == 0 {
+            return;
+        }
+        self.commands = self.commands.saturating_add(1);
+        let refusal = refusal_of(self.first, self.len);
+        self.len = 0;
+        if let Some(number) = refusal {
+            let command = self.commands;
+            let words = refusal_meaning(number).unwrap_or("");
+            // What is not written changes no reply.
+            let _ = writeln!(
+                self.errors,
+                "kconf: command {command}: refused {number}: {words}"
+            );
+        }
+    }
+}
+
+/// The number of the refusal that a reply is, by its first bytes and how many it has: a reply with more is none.
+fn refusal_of(first: [u8; REFUSAL_LEN], len: usize) -> Option<u8>
+    ensures { OnSome result (len ≡ 10) }
+{
+    if len != REFUSAL_LEN {
+        return None;
+    }
+    match first {
+        [b'r', b'e', b'f', b'u', b's', b'e', b'd', b' ', digit, b'\n'] => digit.checked_sub(b'0'),
+        _ => None,
+    }
+}
+
+impl<W: Write, E: Write> Write for ExplainedReplies<'_, W, E> {
+    fn write(&mut self, bytes: &[u8]) -> io::Result<usize> {
+        let count = self.output.write(bytes)?;
+        self.note(bytes.get(..count).unwrap_or(bytes));
+        Ok(count)
+    }
+
+    fn flush(&mut self) -> io::Result<()> {
+        self.output.flush()?;
+        self.end_reply();
+        Ok(())
+    }
+}

@@ -1,0 +1,149 @@
+//! What is said of files that are wanted and can't be read, and of a file that sources itself.
+
+use crate::folder::Folder;
+use crate::opening::{Files, Kconfig};
+use crate::wants::{source_line_of, source_lines_to};
+use kc_explain::{Explanation, line_of, references_in};
+use std::alloc::{AllocError, Global};
+
+/// What is said of a wanted file that can't be read: why, each variable in the `source` line that has no text, and that
+/// line.
+///
+/// # Errors
+///
+/// `AllocError` where memory is refused.
+pub fn explain_unread<F: Folder>(
+    alloc: Global,
+    files: &Files<'_, F>,
+    kconfig: &Kconfig<'_, F>,
+    path: &str,
+) -> Result<Explanation, AllocError> {
+    let words = String::from_str(alloc, kconfig.folder.why_unread(alloc, path))?;
+    with_source(alloc, files, kconfig, path, words)
+}
+
+/// What is said of a wanted file that is not UTF-8.
+///
+/// # Errors
+///
+/// `AllocError` where memory is refused.
+pub fn explain_untrue<F: Folder>(
+    alloc: Global,
+    files: &Files<'_, F>,
+    kconfig: &Kconfig<'_, F>,
+    path: &str,
+) -> Result<Explanation, AllocError> {
+    let words = match files.line_that_is_not_utf8(path)? {
+        Some(number) => format!(in alloc; "in line {number}")?,
+        None => String::from_str(alloc, "a byte of it begins no character")?,
+    };
+    with_source(alloc, files, kconfig, path, words)
+}
+
+/// Words, and the `source` line that wants the file of a path, with the variables in it that have no text.
+fn with_source<F: Folder>(
+    alloc: Global,
+    files: &Files<'_, F>,
+    kconfig: &Kconfig<'_, F>,
+    path: &str,
+    words: String,
+) -> Result<Explanation, AllocError> {
+    let mut explanation = Explanation::new(alloc, words);
+    let Some(source) = source_line_of(alloc, files, kconfig, path)? else {
+        return Ok(explanation);
+    };
+    let text = text_of_line(alloc, files, source.path.as_str(), source.line)?;
+    let unknown = unknown_variables(alloc, files, text.as_str())?;
+    push_unknown(&mut explanation.words, unknown.as_slice())?;
+    explanation.name_line(alloc, "", source.path.as_str(), source.line)?;
+    Ok(explanation)
+}
+
+/// What is said of a `source` line in a file that puts a file within itself: which file, or the variables in the line that
+/// have no text, and the `source` lines from the top file on.
+///
+/// # Errors
+///
+/// `AllocError` where memory is refused.
+pub fn explain_recursion<F: Folder>(
+    alloc: Global,
+    files: &Files<'_, F>,
+    kconfig: &Kconfig<'_, F>,
+    path: &str,
+    line: usize,
+) -> Result<Explanation, AllocError> {
+    let text = text_of_line(alloc, files, path, line)?;
+    let words = recursion_words(alloc, files, text.as_str())?;
+    let mut explanation = Explanation::new(alloc, words);
+    for source in source_lines_to(alloc, files, kconfig, path)?.as_slice() {
+        explanation.name_line(alloc, "", source.path.as_str(), source.line)?;
+    }
+    explanation.name_line(alloc, "", path, line)?;
+    Ok(explanation)
+}
+
+/// What is said of a `source` line that puts a file within itself.
+fn recursion_words<F: Folder>(
+    alloc: Global,
+    files: &Files<'_, F>,
+    line: &str,
+) -> Result<String, AllocError> {
+    let unknown = unknown_variables(alloc, files, line)?;
+    if unknown.is_empty() {
+        if let Some(path) = files.path_in(line)? {
+            return format!(in alloc; "the file {path} is being read already");
+        }
+    }
+    let mut words = String::from_str(alloc, "a file that sources itself")?;
+    push_unknown(&mut words, unknown.as_slice())?;
+    Ok(words)
+}
+
+/// The line of a number in the file of a path, which is empty where it can't be read again.
+fn text_of_line<F: Folder>(
+    alloc: Global,
+    files: &Files<'_, F>,
+    path: &str,
+    number: usize,
+) -> Result<String, AllocError> {
+    match files.text(path)? {
+        Some(text) => String::from_str(alloc, line_of(text.as_str(), number)),
+        None => Ok(String::new(alloc)),
+    }
+}
+
+/// The variables that a line refers to and that neither the command line nor a line of a file gives a text.
+fn unknown_variables<'t, F: Folder>(
+    alloc: Global,
+    files: &Files<'_, F>,
+    line: &'t str,
+) -> Result<Vec<&'t str>, AllocError> {
+    let mut unknown = references_in(alloc, line)?;
+    unknown.retain(|name| !files.knows(name));
+    Ok(unknown)
+}
+
+/// Adds which variables have no text, and how to give them one.
+fn push_unknown(words: &mut String, unknown: &[&str]) -> Result<(), AllocError> {
+    let Some((first, others)) = unknown.split_first() else {
+        return Ok(());
+    };
+    write!(words, ", and {first}")?;
+    for name in others {
+        write!(words, ", {name}")?;
+    }
+    words.push_str(if others.is_empty() {
+        " is not given: pass"
+    } else {
+        " are not given: pass"
+    })?;
+    push_values(words, unknown)
+}
+
+/// Adds the words of a command line that give variables a text.
+fn push_values(words: &mut String, names: &[&str]) -> Result<(), AllocError> {
+    for name in names {
+        write!(words, " {name}=VALUE")?;
+    }
+    Ok(())
+}
