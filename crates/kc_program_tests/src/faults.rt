@@ -34,17 +34,7 @@ fn faults_of_a_kconfig_are_reported(rt: HostRuntime) {
 
 // Texts with a fault, each with what is reported of it with `--explain`. A ` / ` is a line end.
 const EXPLAINED: &str =
-    r#"config A / bool "a" / depends on ((((((((((((((((((((((((((((((((((((((((((((((((((((((((((((((((( => kconf: Kconfig:3: K01: a limit is passed, of bytes, files, depth, references or symbols
-default y @ => kconf: Kconfig:1: K02: a character that is not allowed here
-config A / bool "a => kconf: Kconfig:2: K03: a quote that its line does not close
-frob => kconf: Kconfig:1: K04: a line that begins with no known word
-config A / bool "a" / default => kconf: Kconfig:3: K05: a line that does not have the form of its statement
-default y => kconf: Kconfig:1: K06: an attribute that the nearest statement does not take, or without a statement
-endmenu => kconf: Kconfig:1: K07: a block closed wrongly, or not closed in its file
-source "Kconfig" => kconf: Kconfig:1: K09: a file that sources itself, directly or through others
-default "$ARCH" => kconf: Kconfig:1: K10: a dollar that begins no reference to a variable, or a function: docs/TREES.md says what to do
-A = $(B) / B = x $(A) / default $(A) => kconf: Kconfig:3: K11: a variable that its own expansion needs
-config A / prompt "a" => kconf: K12 A: no definition of it has a type /   Kconfig:1: config A
+    r#"config A / prompt "a" => kconf: K12 A: no definition of it has a type /   Kconfig:1: config A
 config A / bool "a" / config A / def_tristate m => kconf: K13 A: a bool and a tristate /   Kconfig:2: bool "a" /   Kconfig:4: def_tristate m
 config A / bool "a" / prompt "b" => kconf: K14 A: two prompts in one definition /   Kconfig:2: bool "a" /   Kconfig:3: prompt "b"
 config N / int "n" / default 1x => kconf: K15 N: 1x is no int /   Kconfig:3: default 1x /   Kconfig:2: int "n"
@@ -52,7 +42,6 @@ config B / bool "b" / select N / config N / int "n" => kconf: K16 N: selected by
 choice / config A / bool "a" / endchoice => kconf: Kconfig:1: K17: this choice has no prompt /   Kconfig:1: choice
 config MODULES / tristate "Modules" => kconf: K18 MODULES: MODULES is a tristate, and has to be a bool /   Kconfig:2: tristate "Modules"
 config A / bool "a" / default A => kconf: K19: a dependency loop, in which each of these uses the next and the last the first / kconf: on A /   A has its value by Kconfig:3: default A
-config A / bool Network => kconf: Kconfig:2: K20: a word or a form of Kconfig that is unsupported
 "#;
 
 // A text with a line end in place of each ` / `, and one after it.

@@ -8,9 +8,17 @@ mod ahead;
 #[cfg(test)]
 mod commands;
 #[cfg(test)]
+mod explain_lines;
+#[cfg(test)]
 mod explain_loops;
 #[cfg(test)]
 mod explain_symbols;
+#[cfg(test)]
+mod explain_texts;
+#[cfg(test)]
+mod explain_warnings;
+#[cfg(test)]
+mod explained;
 #[cfg(test)]
 mod faults;
 #[cfg(test)]

@@ -24,6 +24,10 @@ impl Folder for MemoryFolder<'_> {
     fn read_plain(&self, alloc: Global, path: &str) -> Result<Vec<u8>, FolderFault> {
         self.read_bytes(alloc, path)
     }
+
+    fn why_unread(&self, _alloc: Global, _path: &str) -> &'static str {
+        "no such file"
+    }
 }
 
 // Fails at each read.

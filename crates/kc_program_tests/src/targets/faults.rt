@@ -14,7 +14,8 @@ kconf: Kconfig:2: K07
 --- Kconfig
 menu "m"
 --- errors
-kconf: Kconfig:2: K07: a block closed wrongly, or not closed in its file
+kconf: Kconfig:2: K07: the file ends before the `endmenu` of line 1's `menu "m"`
+  Kconfig:1: menu "m"
 --- status
 1
 
@@ -32,7 +33,8 @@ kconf: Kconfig:2: K03
 config A
     bool "a
 --- errors
-kconf: Kconfig:2: K03: a quote that its line does not close
+kconf: Kconfig:2: K03: no `"` closes the one in column 10
+  Kconfig:2: bool "a
 --- status
 1
 

@@ -319,11 +319,11 @@ CONFIG_A=y
 CONFIG_A=y
 CONFIG_S=""
 --- errors
-kconf: .config:1: warning 1: no symbol has this name
-kconf: .config:2: warning 2: not a value of the symbol's type
-kconf: .config:3: warning 3: a string that is not in quotes, or whose quotes are not closed
+kconf: .config:1: warning 1: no symbol is named U
+kconf: .config:2: warning 2: A is a bool (Kconfig:2), which takes n and y, not m
+kconf: .config:3: warning 3: S is a string (Kconfig:4); write CONFIG_S="text"
 kconf: .config:4: warning 4: not a line of a .config
-kconf: .config:6: warning 5: the symbol had a usable line before; this one counts
+kconf: .config:6: warning 5: A has a usable line before, line 5; this one counts
 --- status
 0
 
