@@ -83,7 +83,7 @@ fn dollar_of(text: &str) -> Dollar<'_> {
     }
 }
 
-/// Whether a byte may stand in the name of a variable.
+/// Whether a byte can be in the name of a variable.
 fn is_name_byte(byte: u8) -> bool {
     byte.is_ascii_alphanumeric() || byte == b'_' || byte == b'-'
 }

@@ -8,7 +8,7 @@ use std::alloc::{AllocError, Global};
 /// A line of a file, by its path and its number.
 #[derive(Debug, Drop)]
 pub struct Place {
-    /// The path of the file, as it was spelt.
+    /// The path of the file, verbatim.
     pub path: Text,
     /// The number of the line, counted from 1.
     pub line: usize,

@@ -81,7 +81,7 @@ fn explain_limit(
     } else if line_of(text, number).trim().starts_with("source") {
         "more than 64 files are open at once, or more than 4,096 `source` lines are followed, or they put more than 16,777,216 bytes in place"
     } else {
-        "what the line stands for has more than 65,536 bytes, or needs more than 65,536 references, or 64 variables within one another"
+        "the line with its references expanded has more than 65,536 bytes, or needs more than 65,536 references, or 64 variables within one another"
     };
     with_line(alloc, String::from_str(alloc, words)?, path, number)
 }

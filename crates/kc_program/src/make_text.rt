@@ -9,7 +9,7 @@ use std::alloc::{AllocError, Global};
 /// What make reads as nothing. It keeps what is before it or after it from being read as a blank or a line's end.
 const NOTHING: &[u8] = b"$()";
 
-/// A line `NAME=VALUE` for each line of a `.config` with a value, in their order. VALUE is spelt so that make reads the
+/// A line `NAME=VALUE` for each line of a `.config` with a value, in their order. VALUE is written so that make reads the
 /// value: a string without its quotes. Comments, lines `# NAME is not set` among them, and empty lines are left out.
 ///
 /// The rule is that of the kernel's scripts/kconfig/confdata.c (`print_symbol_for_autoconf`), but for the signs that GNU
