@@ -1,5 +1,5 @@
 //! What is said of faults of lines, with `--explain`.
-use crate::explained::wants_rows;
+use crate::explained::{NO_CONFIG, wants_rows};
 use std::test::Fail;
 
 // K07 and K06: blocks and owners.
@@ -71,20 +71,24 @@ config A /     bool "a" /     depends on !!!!!!!!!!!!!!!!!!!!!!!!!!!!!!!!!!!!!!!
 
 #[test]
 fn faults_of_places_are_explained(rt: HostRuntime) -> Result<(), Fail> {
-    wants_rows(&rt, rt.alloc(), PLACES, "-", 1)
+    assert_eq!(rt; wants_rows(&rt, rt.alloc(), PLACES, NO_CONFIG, 1)?, 12);
+    Ok(())
 }
 
 #[test]
 fn unknown_words_are_explained(rt: HostRuntime) -> Result<(), Fail> {
-    wants_rows(&rt, rt.alloc(), UNKNOWN, "-", 1)
+    assert_eq!(rt; wants_rows(&rt, rt.alloc(), UNKNOWN, NO_CONFIG, 1)?, 10);
+    Ok(())
 }
 
 #[test]
 fn malformed_lines_are_explained(rt: HostRuntime) -> Result<(), Fail> {
-    wants_rows(&rt, rt.alloc(), FORMS, "-", 1)
+    assert_eq!(rt; wants_rows(&rt, rt.alloc(), FORMS, NO_CONFIG, 1)?, 16);
+    Ok(())
 }
 
 #[test]
 fn unsupported_forms_are_explained(rt: HostRuntime) -> Result<(), Fail> {
-    wants_rows(&rt, rt.alloc(), UNSUPPORTED, "-", 1)
+    assert_eq!(rt; wants_rows(&rt, rt.alloc(), UNSUPPORTED, NO_CONFIG, 1)?, 13);
+    Ok(())
 }

@@ -1,5 +1,5 @@
 //! What is said of faults of texts and of files, with `--explain`.
-use crate::explained::{wants_errors, wants_rows};
+use crate::explained::{NO_CONFIG, wants_errors, wants_rows};
 use crate::running::run_program;
 use std::test::Fail;
 
@@ -27,12 +27,14 @@ source "init/Kconfig" @@ init/Kconfig:  / source "arch/Kconfig" @@ arch/Kconfig:
 
 #[test]
 fn faults_of_texts_are_explained(rt: HostRuntime) -> Result<(), Fail> {
-    wants_rows(&rt, rt.alloc(), TEXTS, "-", 1)
+    assert_eq!(rt; wants_rows(&rt, rt.alloc(), TEXTS, NO_CONFIG, 1)?, 10);
+    Ok(())
 }
 
 #[test]
 fn faults_of_files_are_explained(rt: HostRuntime) -> Result<(), Fail> {
-    wants_rows(&rt, rt.alloc(), FILES, "-", 1)
+    assert_eq!(rt; wants_rows(&rt, rt.alloc(), FILES, NO_CONFIG, 1)?, 6);
+    Ok(())
 }
 
 #[test]

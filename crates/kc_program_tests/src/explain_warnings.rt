@@ -1,5 +1,5 @@
 //! What is said of warnings and of refusals, with `--explain`.
-use crate::explained::{wants_errors, wants_rows};
+use crate::explained::{CONFIG, wants_errors, wants_rows};
 use crate::running::run_program;
 use std::test::Fail;
 
@@ -20,7 +20,8 @@ config A /     bool "a" @@ .config: CONFIG_A=y / # a comment / CONFIG_A=m / # CO
 
 #[test]
 fn warnings_are_explained(rt: HostRuntime) -> Result<(), Fail> {
-    wants_rows(&rt, rt.alloc(), WARNINGS, ".config", 0)
+    assert_eq!(rt; wants_rows(&rt, rt.alloc(), WARNINGS, CONFIG, 0)?, 12);
+    Ok(())
 }
 
 #[test]

@@ -20,46 +20,68 @@ pub(crate) fn lines_of(alloc: Global, text: &str) -> Result<String, AllocError> 
     Ok(lines)
 }
 
-// The paths of the files of a row, and their texts.
-fn files_of<'r>(alloc: Global, row: &'r str) -> Result<Vec<(&'r str, String)>, AllocError> {
+// A file of a row, as its path and its text.
+#[derive(Drop)]
+struct RowFile {
+    path: String,
+    text: String,
+}
+
+// The files of a row.
+fn files_of(alloc: Global, row: &str) -> Result<Vec<RowFile>, AllocError> {
     let mut files = Vec::new(alloc);
     for (index, file) in row.split(" @@ ").enumerate() {
         let (path, text) = match index {
             0 => ("Kconfig", file),
             _ => file.split_once(": ").unwrap_or((file, "")),
         };
-        files.push((path, lines_of(alloc, text)?))?;
+        files.push(RowFile {
+            path: String::from_str(alloc, path)?,
+            text: lines_of(alloc, text)?,
+        })?;
     }
     Ok(files)
 }
 
-// Runs `olddefconfig Kconfig` on the files of each row, with a CONFIG and without `--explain` and with it, and wants what
-// the row has and a status.
+// Runs the program on words and the files of a row.
+fn run_on(alloc: Global, words: &[&str], files: &[RowFile]) -> Result<Outcome, AllocError> {
+    let mut lent = Vec::new(alloc);
+    for file in files {
+        lent.push((file.path.as_str(), file.text.as_str().as_bytes()))?;
+    }
+    Ok(run_program(alloc, words, lent.as_slice(), b""))
+}
+
+// The words of a run without a CONFIG, and with one. The last of them is left out for a run without `--explain`.
+pub(crate) const NO_CONFIG: [&str; 5] = ["kconf", "listnewconfig", "Kconfig", "-", "--explain"];
+
+pub(crate) const CONFIG: [&str; 5] = ["kconf", "listnewconfig", "Kconfig", ".config", "--explain"];
+
+// Runs the program on words and the files of each row, without `--explain` and with it, and wants what the row has and a
+// status. Gives how many rows there are.
 pub(crate) fn wants_rows(
     rt: &impl Abort,
     alloc: Global,
     table: &str,
-    config: &str,
+    words: [&str; 5],
     status: u8,
-) -> Result<(), Fail> {
+) -> Result<usize, Fail> {
+    let mut count = 0usize;
+    let [program, target, kconfig, config, _] = words;
+    let without = [program, target, kconfig, config];
     for row in table.lines() {
         let (files, errors) = row.split_once(" => ").unwrap_or((row, ""));
         let (plain, explained) = errors.split_once(" => ").unwrap_or((errors, ""));
-        let owned = files_of(alloc, files)?;
-        let mut files = Vec::new(alloc);
-        for (path, text) in owned.as_slice() {
-            files.push((*path, text.as_str().as_bytes()))?;
-        }
+        let files = files_of(alloc, files)?;
         let plain = lines_of(alloc, plain)?;
         let explained = lines_of(alloc, explained)?;
-        let words = ["kconf", "listnewconfig", "Kconfig", config, "--explain"];
-        let without = words.as_slice().get(..4).unwrap_or(&[]);
-        let outcome = run_program(alloc, without, files.as_slice(), b"");
+        let outcome = run_on(alloc, without.as_slice(), files.as_slice())?;
         wants_errors(rt, &outcome, status, plain.as_str(), row)?;
-        let outcome = run_program(alloc, words.as_slice(), files.as_slice(), b"");
+        let outcome = run_on(alloc, words.as_slice(), files.as_slice())?;
         wants_errors(rt, &outcome, status, explained.as_str(), row)?;
+        count = count.saturating_add(1);
     }
-    Ok(())
+    Ok(count)
 }
 
 // Wants of a run its status, and of what it wrote to standard error this text.
