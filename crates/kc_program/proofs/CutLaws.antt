@@ -1,9 +1,9 @@
 -- Where the bytes of a long file are cut.
-use Rattle.std.proofs.Common.{◌≡◌, ℕ, ◌+◌, ◌<◌, ◌≤◌, List, [], ◌∷◌, ◌++◌, length, take, drop, refl, sym, subst, ap, arith, length-append, length-drop}
+use Rattle.std.proofs.Common.{◌≡◌, ℕ, ◌+◌, ◌<◌, ◌≤◌, List, [], ◌∷◌, ◌++◌, length, take, drop, sym, subst, ap, arith, length-append, length-drop}
 use Rattle.std.specs.Prelude.{IsUtf8, encode_utf8_all}
 use Rattle.std.specs.Str.{IsValidUpTo}
-use Rattle.std.specs.Char.{encode_utf8, len_utf8}
-use Rattle.std.proofs.lemmas.Str.{IsUtf8-take, IsUtf8-drop, IsUtf8-nil, IsCharBoundary-from_take, IsCharBoundary-past_char, len_utf8_bounds}
+use Rattle.std.specs.Char.{len_utf8}
+use Rattle.std.proofs.lemmas.Str.{IsUtf8-take, IsUtf8-drop, IsCharBoundary-from_take, IsCharBoundary-past_char, len_utf8_bounds}
 use Rattle.std.proofs.lemmas.List.{take-append-le}
 use Rattle.kc_program.specs.Cuts.{IsCut}
 
