@@ -96,7 +96,7 @@ NOT_GIVEN = [
     (
         "T = $(shell,$(srctree)/scripts/cc-version.sh)\nN := $(T)\n",
         (),
-        r"^Kconfig:2: srctree is not given: pass srctree=VALUE \(in `/scripts/cc-version.sh`\)\n1 file, 1 command, 0 notes\n$",
+        r"^Kconfig:2: srctree is not given: pass srctree=VALUE \(in `.scripts/cc-version.sh`\)\n1 file, 1 command, 0 notes\n$",
     ),
     (
         "N := $(shell,$(CC) --version)\nM := $(shell,$(CC) --help)\n",
@@ -124,7 +124,7 @@ NOT_GIVEN = [
     (CALLS + "N := $(f0,x)\n", (), r"^Kconfig:901: an expansion nests too deeply\n$"),
     ("comment c\n", ("--root", "/nowhere"), r"error: /nowhere is no folder\n$"),
     ("comment c\n", ("--variables", "/nowhere"), r"error: /nowhere can't be read: "),
-    ("comment c\n", ("--words", "/nowhere/words"), r"\nexpand_kconfig.py: .*No such file or directory: '/nowhere/words'\n$"),
+    ("comment c\n", ("--words", "nowhere/words"), r"\nexpand_kconfig.py: .*No such file or directory: 'nowhere/words'\n$"),
     ("comment c\n", ("X",), r"error: a variable is given as NAME=VALUE, and not as 'X'\n$"),
 ]
 

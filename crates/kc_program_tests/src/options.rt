@@ -12,7 +12,7 @@ const FILES: [(&str, &[u8]); 12] = [
     ),
     ("sub/.config", b"CONFIG_SUB=n\nCONFIG_U=y\n"),
     ("sub/words", b"ARCH=x86\nD=y\n"),
-    ("/abs/Kconfig", b"config ABS\nbool \"a\"\n"),
+    ("/Kconfig", b"config ABS\nbool \"a\"\n"),
     ("words", b"# what the tree wants\n\nD=n\r\n \t\nD=y\n"),
     ("last", b"D=x\nD=n\nE=1=2 #3\nD=y"),
     ("bad", b"D=y\n#\n\nARCH x86\nfrob\n"),
@@ -44,14 +44,14 @@ fn paths_are_taken_from_the_folder(rt: HostRuntime) -> Result<(), Fail> {
             "CONFIG_SUB=y\n",
         ),
         (
-            "olddefconfig -C sub /abs/Kconfig -",
+            "olddefconfig -C sub /Kconfig -",
             "# CONFIG_ABS is not set\n",
         ),
         (
             "olddefconfig -C sub/arch x86/Kconfig - D=y",
             "CONFIG_SUB=y\n",
         ),
-        ("allyesconfig -C . /abs/Kconfig", "CONFIG_ABS=y\n"),
+        ("allyesconfig -C . /Kconfig", "CONFIG_ABS=y\n"),
         (
             "files -C sub Kconfig ARCH=x86",
             "Kconfig\narch/x86/Kconfig\n",
