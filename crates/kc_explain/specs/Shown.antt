@@ -1,4 +1,4 @@
--- By the lines of which first words a fault is shown: this project's own.
+-- The first words of the lines that show a fault: this project's own.
 use Rattle.std.specs.Prelude.{Bool, true, false, ◌||◌}
 use Rattle.kc_statement.specs.declared.keyword.Keyword.{Keyword}
 use Rattle.kc_statement.specs.declared.keyword.Keyword.TheVariants as keyword

@@ -177,7 +177,7 @@ fn member_words(
     counted_words(alloc, names.as_str(), count)
 }
 
-/// The words for so many members, of which the first have these names.
+/// The words for a number of members, with the names of the first ones.
 fn counted_words(alloc: Global, names: &str, count: usize) -> Result<String, AllocError> {
     match count {
         0 => String::from_str(alloc, "it has no members"),

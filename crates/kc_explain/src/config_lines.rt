@@ -13,7 +13,7 @@ pub(crate) struct ConfigLine<'c> {
     pub(crate) number: usize,
     /// Its text without the blanks at its end, if it is UTF-8.
     pub(crate) text: Option<&'c str>,
-    /// The name in it, which is empty where there is none.
+    /// The name in it, which is empty where it has no name.
     pub(crate) name: &'c str,
     /// The value after the name: none where the line says that the name is not set.
     pub(crate) value: Option<&'c str>,
@@ -67,7 +67,7 @@ fn text_of(line: &[u8]) -> Option<&str> {
     Some(text.trim_end_matches([' ', '\t', '\r']))
 }
 
-/// The name in a line, which is empty where there is none, and its value, if it gives one.
+/// The name in a line, which is empty where it has no name, and its value, if it gives one.
 fn name_and_value<'t>(prefix: &str, text: &'t str) -> (&'t str, Option<&'t str>) {
     if let Some(name) = unset_name(prefix, text) {
         return (name, None);
@@ -88,8 +88,8 @@ fn unset_name<'t>(prefix: &str, text: &'t str) -> Option<&'t str> {
         .strip_suffix(" is not set")
 }
 
-/// Of each line with a warning the number of the last usable line before it that has the same name, or 0 where there is none
-/// or the warning is not that of a repeated name. The `.config` is read once.
+/// For each line with a warning, the number of the last usable line before it that has the same name. It is 0 where no
+/// line before has this name, or the warning is not that of a repeated name. The `.config` is read once.
 ///
 /// # Errors
 ///
@@ -120,7 +120,7 @@ pub(crate) fn earlier_lines(
     Ok(earlier)
 }
 
-/// The name in a line, which is empty where there is none.
+/// The name in a line, which is empty where it has no name.
 fn name_of<'c>(prefix: &str, line: &'c [u8]) -> &'c str {
     match text_of(line) {
         Some(text) => name_and_value(prefix, text).0,

@@ -42,7 +42,8 @@ static FORMS: [(&str, &str); 29] = [
     ("help", "help"),
 ];
 
-/// What is said of a line whose tokens are not those of its statement's form: what was wanted, and what was found there.
+/// What is said of a line whose tokens are not those of its statement's form: what was wanted, and what was found
+/// there.
 ///
 /// # Errors
 ///

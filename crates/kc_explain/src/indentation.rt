@@ -3,7 +3,7 @@
 /// The columns of a tab stop, as in help texts.
 const TAB: usize = 8;
 
-/// The line of a number in a text, counted from 1, without its line end. It is empty where there is none.
+/// The line of a number in a text, counted from 1, without its line end. It is empty where the text has no such line.
 pub fn line_of(text: &str, number: usize) -> &str {
     text.lines()
         .skip(number.saturating_sub(1))

@@ -1,5 +1,5 @@
-//! What a message of `--explain` says: words that name what is at fault, and the lines that show it. It is computed only
-//! where there is a fault or a warning, from the lines, which are read again then.
+//! What a message of `--explain` says: words that name what is at fault, and the lines that show it. It is computed
+//! only where there is a fault or a warning, from the lines, which are read again then.
 #![tactic(auto)]
 
 mod blocks;

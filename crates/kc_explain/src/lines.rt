@@ -17,9 +17,9 @@ use kc_outline::LineProblem;
 use kc_text::Line;
 use std::alloc::{AllocError, Global};
 
-/// What is said of the fault of the line of a number in a file, by the lines of its Kconfig and the text of that file. Where
-/// the text can't be had, it is empty. Of a file that is read more than once the line is meant where it is at fault. Each
-/// line that is named is one of the lines.
+/// What is said of the fault of the line of a number in a file, by the lines of its Kconfig and the text of that file.
+/// Where the text can't be had, it is empty. Of a file that is read more than once the line is meant where it is at
+/// fault. Each line that is named is one of the lines.
 ///
 /// # Errors
 ///

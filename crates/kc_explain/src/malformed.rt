@@ -7,8 +7,8 @@ use std::alloc::{AllocError, Global};
 /// How a tool of version control marks the two sides of a conflict.
 static CONFLICT_MARKS: [&str; 4] = ["<<<<<<<", "=======", ">>>>>>>", "|||||||"];
 
-/// What is said of a line that a `.config` does not have: what is wrong with it, and how it may be meant. A line that is no
-/// UTF-8 has no text.
+/// What is said of a line that a `.config` does not have: what is wrong with it, and how it may be meant. A line that
+/// is no UTF-8 has no text.
 ///
 /// # Errors
 ///

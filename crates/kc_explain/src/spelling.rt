@@ -13,7 +13,8 @@ pub(crate) fn line_text(alloc: Global, line: &Line<'_>) -> Result<String, AllocE
     tokens_text(alloc, line.tokens())
 }
 
-/// Tokens as they are quoted: with a blank between them, but after `(` and `!` and before `)`, and of at most 160 bytes.
+/// Tokens as they are quoted: with a blank between them, but after `(` and `!` and before `)`, and of at most 160
+/// bytes.
 ///
 /// # Errors
 ///

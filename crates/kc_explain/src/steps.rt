@@ -174,7 +174,7 @@ fn subject_of<'a>(node: &'a NamedNode, choices: &[usize]) -> Subject<'a> {
     }
 }
 
-/// The line of a choice: past all lines where there is none.
+/// The line of a choice, which is past all lines where no line begins it.
 fn choice_line(choices: &[usize], choice: ChoiceId) -> usize {
     match choices.get(choice.0 as usize) {
         Some(line) => *line,

@@ -12,9 +12,9 @@ use std::alloc::{AllocError, Global};
 /// The most bytes of a line, after lines were joined (docs/LIMITS.md).
 const MOST_LINE: usize = 65_536;
 
-/// What is said of the fault of the line of a number in the file of a path, by the text of that file. Where the text can't
-/// be had, it is empty. The number 0 is that of the whole file, or of a variable that is passed in, whose name is the path
-/// then.
+/// What is said of the fault of the line of a number in the file of a path, by the text of that file. Where the text
+/// can't be had, it is empty. The number 0 is that of the whole file, or of a variable that is passed in, whose name is
+/// the path then.
 ///
 /// # Errors
 ///
@@ -38,7 +38,7 @@ pub fn explain_text(
     }
 }
 
-/// What is said of a fault of which no more is known: the words of its number, and its line.
+/// What is said of a fault where no more is known: the words of its number, and its line.
 ///
 /// # Errors
 ///

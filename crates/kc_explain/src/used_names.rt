@@ -44,7 +44,7 @@ fn expression_start(statements: &Statements<'_, '_>, line: usize) -> Option<usiz
     }
 }
 
-/// How many tokens come before the condition of a line of this first word, all of them where there is none.
+/// How many tokens come before the condition of a line of this first word, all of them where it has no condition.
 fn condition_start(keyword: Option<Keyword>, tokens: &[Token<'_>]) -> usize {
     match keyword {
         Some(Keyword::Depends | Keyword::Visible | Keyword::If) => 0,

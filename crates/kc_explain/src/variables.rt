@@ -127,7 +127,7 @@ fn ring_of<'t>(
     Ok(Vec::new(alloc))
 }
 
-/// A variable of which no reference is followed yet.
+/// A variable whose references are not followed yet.
 fn step_of<'t>(
     alloc: Global,
     definitions: &Definitions<'t>,

@@ -33,7 +33,7 @@ pub fn explain_warnings(
     Ok(all)
 }
 
-/// What is written after the number of the warning of a line: of which symbol, and of which line before it.
+/// What is written after the number of the warning of a line: which symbol it is about, and which line before it.
 fn warning_words(
     alloc: Global,
     prefix: &str,

@@ -11,7 +11,7 @@ edit_of Allnoconfig = Some AllNo
 edit_of Allyesconfig = Some AllYes
 edit_of _ = None
 
--- the command whose text is the output, or of which the output is made; a list of files and a session have none of their own
+-- the command whose text is the output, or is what the output is made from; a list of files and a session have none of their own
 abbrev pub query_of : Target → Option Command
 query_of Olddefconfig = Some Config
 query_of Savedefconfig = Some Defconfig

@@ -25,7 +25,7 @@ pub enum Wording {
 }
 
 impl Wording {
-    /// What is written after the number of a fault of which no more is known.
+    /// What is written after the number of a fault where no more is known.
     pub fn after_fault(self, number: u8) -> Option<&'static str> {
         match self {
             Wording::Number => None,
@@ -33,7 +33,7 @@ impl Wording {
         }
     }
 
-    /// What is written after the number of a warning of which no more is known.
+    /// What is written after the number of a warning where no more is known.
     pub fn after_warning(self, number: u8) -> Option<&'static str> {
         match self {
             Wording::Number => None,

@@ -63,7 +63,7 @@ pub struct Report {
 }
 
 impl Report {
-    /// The report of a fault of which no more is known.
+    /// The report of a fault where no more is known.
     pub fn of(fault: Fault, wording: Wording) -> Report {
         Report {
             fault,

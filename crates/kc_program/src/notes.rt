@@ -95,7 +95,7 @@ impl LineTexts {
         Ok(LineTexts { text, ends })
     }
 
-    /// The line of a number, counted from 1, which is empty where there is none.
+    /// The line of a number, counted from 1, which is empty where the text has no such line.
     fn line(&self, number: usize) -> &str {
         let text = self.text.as_str();
         let start = match number {

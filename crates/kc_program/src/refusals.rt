@@ -24,7 +24,7 @@ pub struct ExplainedReplies<'w, W, E> {
 }
 
 impl<'w, W: Write, E: Write> ExplainedReplies<'w, W, E> {
-    /// An output of which nothing is written yet.
+    /// An output to which nothing is written yet.
     pub fn new(output: &'w mut W, errors: &'w mut E) -> ExplainedReplies<'w, W, E> {
         ExplainedReplies {
             output,

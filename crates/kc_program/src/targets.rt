@@ -191,7 +191,7 @@ impl Target {
         }
     }
 
-    /// The command whose text is the output, or of which the output is made. A list of files needs none, and a session
+    /// The command whose text is the output, or from which the output is made. A list of files needs none, and a session
     /// serves those that it reads.
     pub fn query<'a>(self) -> Option<Command<'a>>
         ensures { result ≡ query_of self }

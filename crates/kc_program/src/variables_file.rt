@@ -24,7 +24,7 @@ pub(crate) enum VariablesFileFault {
     Malformed(usize),
 }
 
-/// The text of a file of variables, each line of which is blank, a comment or `NAME=VALUE`. It is empty without a path.
+/// The text of a file of variables, whose lines are blank, comments or `NAME=VALUE`. It is empty without a path.
 ///
 /// # Errors
 ///
