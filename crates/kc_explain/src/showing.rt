@@ -1,23 +1,18 @@
 //! How a line of a file is shown in a message.
-ghost use Rattle.std.specs.Prelude.{◌≤◌, length};
+ghost use Rattle.std.specs.Prelude.{◌≡◌, ◌≤◌, ◌<◌, length, ℕ, take};
+ghost use Rattle.std.specs.Str.{trim, IsCharBoundary};
 
 /// The most bytes of a line that a message shows.
 const MOST_SHOWN: usize = 160;
 
-/// How many bytes of a character a cut can have passed.
-const MOST_CUT: usize = 3;
-
 /// A line without the blanks around it, and of one that has more than 160 bytes then the first 160, or fewer where
 /// these end within a character.
 pub fn shown_line(line: &str) -> &str
-    ensures { length result.now ≤ 160 }
+    ensures short { length result.now ≤ 160 }
+    ensures beginning { result.now ≡ take (length result.now) (trim line.now) }
+    ensures longest { (n : ℕ) → length result.now < n → n ≤ 160 → ¬ (IsCharBoundary (trim line.now) n) }
 {
     let line = line.trim();
-    let end = line.len().min(MOST_SHOWN);
-    for less in 0..=MOST_CUT {
-        if let Some(cut) = line.get(..end.saturating_sub(less)) {
-            return cut;
-        }
-    }
-    ""
+    let end = line.floor_char_boundary(MOST_SHOWN);
+    &line[..end]
 }
