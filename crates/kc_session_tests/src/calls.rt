@@ -5,8 +5,8 @@ ghost use Rattle.kc_tree.specs.declared.node.Node.TheVariants.{Vis, Sel};
 ghost use Rattle.kc_tree.specs.Nodes.{IsNodeOf};
 
 use crate::serving::{in_session, replies_in};
+use crate::table::{rows, three_fields, two_fields};
 use kc_session::Session;
-use kc_tables::{rows, three_fields, two_fields};
 use kc_tree::{ChoiceId, Node, SymId, Tree, Tri};
 use kc_value::{
     Fresh, KeptValues, Meter, NodeValues, Resolver, User, Value, all_values, assignable, eval, tri,

@@ -1,8 +1,8 @@
 //! Whole streams, where each call fails in turn.
 use crate::failing::{FailingReader, FailingWriter, Failure, NEVER};
 use crate::serving::{serve, want};
+use crate::table::{rows, two_fields};
 use kc_session::IoFault;
-use kc_tables::{rows, two_fields};
 use std::alloc::Global;
 use std::test::Fail;
 

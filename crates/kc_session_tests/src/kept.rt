@@ -1,7 +1,7 @@
 //! What a session keeps: the count of evaluations, and replies that don't depend on it.
 use crate::serving::{in_session, replies_in};
+use crate::table::{rows, two_fields};
 use kc_session::Session;
-use kc_tables::{rows, two_fields};
 use kc_tree::{Node, SymId};
 use kc_value::Resolver;
 use std::alloc::Global;

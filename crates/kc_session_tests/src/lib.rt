@@ -25,4 +25,6 @@ mod replies;
 #[cfg(test)]
 mod serving;
 #[cfg(test)]
+mod table;
+#[cfg(test)]
 mod values;

@@ -2,7 +2,6 @@
 use crate::failing::{FailingReader, FailingWriter, NEVER};
 use crate::serving::{serve, want};
 use kc_session::IoFault;
-use kc_tables::repeated;
 use std::alloc::{AllocError, Global};
 use std::test::Fail;
 
@@ -25,19 +24,19 @@ fn lines_are_cut_at_line_feeds_in_pieces_of_any_size(rt: HostRuntime) -> Result<
 #[test]
 fn many_small_reads_serve_the_whole_stream(rt: HostRuntime) -> Result<(), Fail> {
     let alloc = rt.alloc();
-    let stream = repeated(alloc, "reset\n", 12_000)?;
+    let stream = "reset\n".repeat(alloc, 12_000)?;
     let reader = FailingReader::new(stream.as_bytes(), 1, NEVER);
     let writer = FailingWriter::new(alloc, 4096, NEVER, NEVER);
     let served = serve(alloc, TWO_STRINGS, reader, writer, "set S a\n")?;
     assert_eq!(rt; served.reads, 72_001);
-    let replies = repeated(alloc, "ok\n", 12_000)?;
+    let replies = "ok\n".repeat(alloc, 12_000)?;
     want(alloc, &served, Ok(()), replies.as_str(), "ok\n", 0)
 }
 
 /// A line `set S ..` of so many bytes, with this line end, the line `config` behind it, and their replies where the first
 /// is a command.
 fn long_line(alloc: Global, bytes: usize, end: &str) -> Result<(String, String), AllocError> {
-    let text = repeated(alloc, "x", bytes.saturating_sub("set S ".len()))?;
+    let text = "x".repeat(alloc, bytes.saturating_sub("set S ".len()))?;
     let stream = format!(in alloc; "set S {text}{end}config\n")?;
     let want = format!(in alloc; "ok\nCONFIG_S=\"{text}\"\nCONFIG_T=\"\"\nok\n")?;
     Ok((stream, want))
@@ -68,9 +67,9 @@ fn a_line_is_too_long_past_its_limit(rt: HostRuntime) -> Result<(), Fail> {
 #[test]
 fn a_body_has_at_most_16_mebibytes(rt: HostRuntime) -> Result<(), Fail> {
     let alloc = rt.alloc();
-    let comment = repeated(alloc, "#", 65_535)?;
+    let comment = "#".repeat(alloc, 65_535)?;
     let comment = format!(in alloc; "{comment}\n")?;
-    let comments = repeated(alloc, comment.as_str(), 256)?;
+    let comments = comment.repeat(alloc, 256)?;
     for (lines, end, replies) in [
         (256, "config\n", "ok\nCONFIG_S=\"\"\nCONFIG_T=\"\"\nok\n"),
         (257, "", "refused 5\n"),

@@ -2,7 +2,6 @@
 //! a test may take.
 use crate::serving::{in_session, replies_in};
 use kc_session::Session;
-use kc_tables::repeated;
 use std::alloc::Global;
 use std::test::Fail;
 
@@ -61,7 +60,7 @@ const TIMES: usize = 40;
 
 /// The replies to edits that change each of the symbols that the menu depends on.
 fn edit_often(alloc: Global, session: &mut Session) -> Result<String, Fail> {
-    let stream = repeated(alloc, "set X y\nshow M0\nset X n\nshow M0\n", TIMES)?;
+    let stream = "set X y\nshow M0\nset X n\nshow M0\n".repeat(alloc, TIMES)?;
     replies_in(alloc, session, stream.as_str())
 }
 
@@ -71,7 +70,7 @@ fn an_edit_goes_over_a_long_list_once(rt: HostRuntime) -> Result<(), Fail> {
     let kconfig = menu(alloc)?;
     let found = in_session(alloc, kconfig.as_str(), edit_often)?;
     let reply = "ok\nM0 type=bool value=n vis=n can=- user=-\nok\n";
-    let want = repeated(alloc, reply, TIMES.saturating_mul(2))?;
+    let want = reply.repeat(alloc, TIMES.saturating_mul(2))?;
     assert_eq!(rt; found.as_str(), want.as_str());
     Ok(())
 }

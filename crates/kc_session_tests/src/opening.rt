@@ -2,7 +2,6 @@
 use crate::serving::{in_seeded_session, replies_in};
 use kc_files::Prefix;
 use kc_session::{OpenFault, Session, open};
-use kc_tables::repeated;
 use kc_text::{Sources, Vars};
 use kc_tree::Seed;
 use std::alloc::{AllocError, Global};
@@ -42,9 +41,9 @@ fn outcome_with(alloc: Global, config: &[u8]) -> Result<&'static str, Fail> {
 
 /// 256 comments of 65,536 bytes each, which are 16,777,216 bytes together, with a text behind them.
 fn comments_before(alloc: Global, behind: &str) -> Result<String, AllocError> {
-    let comment = repeated(alloc, "#", 65_535)?;
+    let comment = "#".repeat(alloc, 65_535)?;
     let line = format!(in alloc; "{comment}\n")?;
-    let lines = repeated(alloc, line.as_str(), 256)?;
+    let lines = line.repeat(alloc, 256)?;
     format!(in alloc; "{lines}{behind}")
 }
 

@@ -1,6 +1,6 @@
 //! The values of nodes, as a resolver has them, and one rule alone.
+use crate::table::{rows, three_fields};
 use bumpalo::Bump;
-use kc_tables::{rows, three_fields};
 use kc_text::{Line, Sources, Vars, logical_lines};
 use kc_tree::{Node, Tree};
 use kc_value::{Fresh, KeptValues, NodeValues, Resolver, User, eval, tri_letter};
