@@ -1,54 +1,10 @@
 //! The values of nodes, as a resolver has them, and one rule alone.
 use crate::table::{rows, three_fields};
-use bumpalo::Bump;
-use kc_text::{Line, Sources, Vars, logical_lines};
+use crate::trees::shown;
 use kc_tree::{Node, Tree};
 use kc_value::{Fresh, KeptValues, NodeValues, Resolver, User, eval, tri_letter};
 use std::alloc::Global;
 use std::test::Fail;
-
-/// What a function shows of the tree of lines.
-fn shown_of_lines<F: FnOnce(Global, &Tree) -> Result<String, Fail>>(
-    alloc: Global,
-    lines: &[Line<'_>],
-    show: F,
-) -> Result<String, Fail>
-    requires { F.IsAlwaysCallable show }
-{
-    match Tree::parse(alloc, lines) {
-        Ok(tree) => show(alloc, &tree),
-        Err(fault) => Err(Fail::from(fault)),
-    }
-}
-
-/// What a function shows of the tree of texts.
-fn shown_of_sources<F: FnOnce(Global, &Tree) -> Result<String, Fail>>(
-    alloc: Global,
-    sources: &Sources,
-    show: F,
-) -> Result<String, Fail>
-    requires { F.IsAlwaysCallable show }
-{
-    let vars = Vars::none(alloc);
-    let arena = Bump::new(alloc);
-    match logical_lines(alloc, &arena, sources, &vars, "Kconfig") {
-        Ok(lines) => shown_of_lines(alloc, lines.as_slice(), show),
-        Err(fault) => Err(Fail::from(fault)),
-    }
-}
-
-/// What a function shows of the tree of a Kconfig.
-fn shown<F: FnOnce(Global, &Tree) -> Result<String, Fail>>(
-    alloc: Global,
-    kconfig: &str,
-    show: F,
-) -> Result<String, Fail>
-    requires { F.IsAlwaysCallable show }
-{
-    let mut sources = Sources::new(alloc);
-    sources.add("Kconfig", kconfig)?;
-    shown_of_sources(alloc, &sources, show)
-}
 
 /// The value of R, as a resolver has it without user values.
 fn show_resolved(alloc: Global, tree: &Tree) -> Result<String, Fail> {
