@@ -1,5 +1,5 @@
 //! Lines, tokens and help texts.
-use crate::showing::read_table;
+use crate::line_showing::read_table;
 use std::test::Fail;
 
 /// Texts with their lines, or their first fault.

@@ -1,5 +1,5 @@
 //! Variables, references and what is passed in.
-use crate::showing::{read_table, shown_with_pairs};
+use crate::line_showing::{read_table, shown_with_pairs};
 use std::test::Fail;
 
 /// Texts with references, and what they stand for.

@@ -1,5 +1,5 @@
 //! Trees of whole texts, and the faults of texts that have none.
-use crate::showing::node_word;
+use crate::tree_showing::node_word;
 use bumpalo::Bump;
 use kc_text::{Line, Sources, Vars, logical_lines};
 use kc_tree::{NamedNode, Tree, TreeFault};

@@ -1,6 +1,6 @@
 //! Files in place of `source` lines.
-use crate::showing::lines_of_added;
-use kc_tables::{rows, two_fields};
+use crate::line_showing::lines_of_added;
+use crate::table::{rows, two_fields};
 use kc_text::{Sources, Vars};
 use std::alloc::Global;
 use std::test::Fail;

@@ -1,5 +1,5 @@
 //! Which texts are numerals, by type.
-use kc_tables::{rows, two_fields};
+use crate::table::{rows, two_fields};
 use kc_tree::{SymbolType, numeral};
 use std::alloc::{AllocError, Global};
 use std::process::Abort;

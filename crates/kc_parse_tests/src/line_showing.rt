@@ -1,6 +1,6 @@
 //! Lines of texts, faults, and what was added, as short texts.
+use crate::table::{rows, two_fields};
 use bumpalo::Bump;
-use kc_tables::{rows, two_fields};
 use kc_text::{
     Line, LineKind, Operator, Sources, TextFault, TextProblem, Token, Vars, logical_lines,
 };

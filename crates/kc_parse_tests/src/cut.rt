@@ -1,6 +1,6 @@
 //! Lists of lines that were cut before the end of their file.
 use crate::parsing::fault_of_cut;
-use kc_tables::{repeated, rows, two_fields};
+use crate::table::{rows, two_fields};
 use std::test::Fail;
 
 /// Texts with the fault of their lines without the end of the file.
@@ -28,7 +28,7 @@ fn a_block_is_open_at_the_last_line_of_a_cut_list(rt: HostRuntime) -> Result<(),
 #[test]
 fn an_open_block_comes_before_the_limit_of_blocks(rt: HostRuntime) -> Result<(), Fail> {
     let alloc = rt.alloc();
-    let blocks = repeated(alloc, "if y\n", 65)?;
+    let blocks = "if y\n".repeat(alloc, 65)?;
     let found = fault_of_cut(alloc, blocks.as_str())?;
     assert_eq!(rt; found.as_str(), "K:65: K07");
     Ok(())

@@ -1,7 +1,7 @@
 //! Forms of statements and attributes, by what the tree has of them.
 use crate::parsing::shown;
-use crate::showing::{show_term, type_word};
-use kc_tables::{rows, two_fields};
+use crate::table::{rows, two_fields};
+use crate::tree_showing::{show_term, type_word};
 use kc_tree::{Choice, Definition, Range, Tree};
 use std::alloc::{AllocError, Global};
 use std::test::Fail;

@@ -1,6 +1,6 @@
 //! How much of each kind trees have.
 use crate::parsing::shown;
-use kc_tables::{rows, two_fields};
+use crate::table::{rows, two_fields};
 use kc_tree::Tree;
 use std::alloc::{AllocError, Global};
 use std::test::Fail;

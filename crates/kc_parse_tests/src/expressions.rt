@@ -1,7 +1,7 @@
 //! Expressions, as the tree keeps them.
 use crate::parsing::shown;
-use crate::showing::show_expr;
-use kc_tables::{rows, two_fields};
+use crate::table::{rows, two_fields};
+use crate::tree_showing::show_expr;
 use kc_tree::Tree;
 use std::alloc::{AllocError, Global};
 use std::test::Fail;

@@ -1,6 +1,6 @@
 //! Loops, by their nodes.
 use crate::parsing::fault_of;
-use kc_tables::{rows, two_fields};
+use crate::table::{rows, two_fields};
 use std::test::Fail;
 
 /// Texts with their one loop, from any of its nodes on and back to it.

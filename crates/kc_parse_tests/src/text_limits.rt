@@ -1,6 +1,7 @@
 //! Each limit at its last value and one past it.
-use crate::showing::{lines_of, lines_of_added, show_fault, shown, shown_among, shown_with_pairs};
-use kc_tables::repeated;
+use crate::line_showing::{
+    lines_of, lines_of_added, show_fault, shown, shown_among, shown_with_pairs,
+};
 use kc_text::{Sources, TextFault, Vars};
 use std::alloc::{AllocError, Global};
 use std::test::Fail;
@@ -12,7 +13,7 @@ fn chain(alloc: Global, variables: usize, times: usize) -> Result<String, AllocE
         text.push_str(format!(in alloc; "A{i} = ")?.as_str())?;
         let next = i + 1;
         let reference = format!(in alloc; "$(A{next})")?;
-        text.push_str(repeated(alloc, reference.as_str(), times)?.as_str())?;
+        text.push_str(reference.repeat(alloc, times)?.as_str())?;
         text.push('\n')?;
     }
     text.push_str(format!(in alloc; "A{variables} =\ndefault \"$(A1)\"")?.as_str())?;
@@ -48,7 +49,7 @@ fn keeps_the_limit_of_a_line(rt: HostRuntime) -> Result<(), Fail> {
         ("help", " ", 70_000, "K01 K:1"),
     ];
     for (before, character, times, want) in table {
-        let line = repeated(alloc, character, times)?;
+        let line = character.repeat(alloc, times)?;
         let text = format!(in alloc; "{before}{line}")?;
         let found = shown(alloc, text.as_str())?;
         assert_eq!(rt; found.as_str(), want, "at {before:?} and {times}");
@@ -59,7 +60,7 @@ fn keeps_the_limit_of_a_line(rt: HostRuntime) -> Result<(), Fail> {
 #[test]
 fn a_line_of_a_help_text_has_no_limit(rt: HostRuntime) -> Result<(), Fail> {
     let alloc = rt.alloc();
-    let blanks = repeated(alloc, " ", 70_000)?;
+    let blanks = " ".repeat(alloc, 70_000)?;
     let text = format!(in alloc; "help\n{blanks}\n{blanks}\nA")?;
     let found = shown(alloc, text.as_str())?;
     assert_eq!(rt; found.as_str(), "[1 help {}][4 A][5 end]");
@@ -69,7 +70,7 @@ fn a_line_of_a_help_text_has_no_limit(rt: HostRuntime) -> Result<(), Fail> {
 #[test]
 fn keeps_the_limit_of_an_expanded_text(rt: HostRuntime) -> Result<(), Fail> {
     let alloc = rt.alloc();
-    let half = repeated(alloc, "x", 32_768)?;
+    let half = "x".repeat(alloc, 32_768)?;
     let table = [
         ("B := $(A)$(A)", "[3 end]"),
         ("B := $(A)$(A)y", "K01 K:2"),
@@ -94,7 +95,7 @@ fn keeps_the_limit_of_an_expanded_text(rt: HostRuntime) -> Result<(), Fail> {
 #[test]
 fn keeps_the_limit_of_a_text_that_is_passed_in(rt: HostRuntime) -> Result<(), Fail> {
     let alloc = rt.alloc();
-    let long = repeated(alloc, "x", 65_536)?;
+    let long = "x".repeat(alloc, 65_536)?;
     for (text, want) in [("B := $(A)", "[2 end]"), ("B := $(A)x", "K01 K:1")] {
         let pairs = [("A", long.as_str())];
         let found = shown_with_pairs(alloc, pairs.as_slice(), text)?;
@@ -106,7 +107,7 @@ fn keeps_the_limit_of_a_text_that_is_passed_in(rt: HostRuntime) -> Result<(), Fa
 #[test]
 fn refuses_a_longer_text_that_is_passed_in(rt: HostRuntime) -> Result<(), Fail> {
     let alloc = rt.alloc();
-    let long = repeated(alloc, "x", 65_537)?;
+    let long = "x".repeat(alloc, 65_537)?;
     let pairs = [("B", ""), ("A", long.as_str())];
     let found = shown_with_pairs(alloc, pairs.as_slice(), "")?;
     assert_eq!(rt; found.as_str(), "K01 A:0");
@@ -121,8 +122,8 @@ fn refuses_a_longer_text_that_is_passed_in(rt: HostRuntime) -> Result<(), Fail> 
 fn keeps_the_limit_of_followed_references(rt: HostRuntime) -> Result<(), Fail> {
     let alloc = rt.alloc();
     // A use of V follows 256 references, 255 of them of a name without definition.
-    let empty = repeated(alloc, "$(U)", 255)?;
-    let uses = repeated(alloc, "$(V)", 256)?;
+    let empty = "$(U)".repeat(alloc, 255)?;
+    let uses = "$(V)".repeat(alloc, 256)?;
     let again = format!(in alloc; "\nB := {uses}$(A)")?;
     let table = [
         ("", "[3 end]"),
@@ -144,8 +145,8 @@ fn keeps_the_limit_of_followed_references(rt: HostRuntime) -> Result<(), Fail> {
 fn keeps_the_limit_of_references_of_a_token(rt: HostRuntime) -> Result<(), Fail> {
     let alloc = rt.alloc();
     // A use of V follows 256 references, 255 of them of a name without definition.
-    let empty = repeated(alloc, "$(U)", 255)?;
-    let uses = repeated(alloc, "$(V)", 256)?;
+    let empty = "$(U)".repeat(alloc, 255)?;
+    let uses = "$(V)".repeat(alloc, 256)?;
     let table = [
         ("default \"", "\"", "[2 default \"\"][3 end]"),
         ("default \"", "$(U)\"", "K01 K:2"),
@@ -232,7 +233,7 @@ fn keeps_the_limit_of_followed_lines(rt: HostRuntime) -> Result<(), Fail> {
         (4_096, "source \"K\"", "K09 K:4097"),
     ];
     for (times, last, want) in table {
-        let mut text = repeated(alloc, "source \"b\"\n", times)?;
+        let mut text = "source \"b\"\n".repeat(alloc, times)?;
         text.push_str(last)?;
         let found = shown_among(alloc, &[("K", text.as_str()), ("b", "")])?;
         assert_eq!(rt; found.as_str(), want, "at {times} and {last:?}");
@@ -242,16 +243,16 @@ fn keeps_the_limit_of_followed_lines(rt: HostRuntime) -> Result<(), Fail> {
 
 /// A text of 1,048,576 bytes, of lines with a comment.
 fn long_file(alloc: Global) -> Result<String, AllocError> {
-    let line = repeated(alloc, "#", 1_023)?;
+    let line = "#".repeat(alloc, 1_023)?;
     let line = format!(in alloc; "{line}\n")?;
-    repeated(alloc, line.as_str(), 1_024)
+    line.repeat(alloc, 1_024)
 }
 
 #[test]
 fn keeps_the_limit_of_bytes_put_in_place(rt: HostRuntime) -> Result<(), Fail> {
     let alloc = rt.alloc();
     let long = long_file(alloc)?;
-    let mut text = repeated(alloc, "source \"b\"\n", 16)?;
+    let mut text = "source \"b\"\n".repeat(alloc, 16)?;
     text.push_str("source \"more\"\n@")?;
     for (more, want) in [("", "K02 K:18"), ("\n", "K01 K:17")] {
         let files = [("K", text.as_str()), ("b", long.as_str()), ("more", more)];
@@ -286,7 +287,7 @@ fn replace_when_full(alloc: Global, sources: &mut Sources, text: &str) -> Result
 #[test]
 fn keeps_the_limit_of_all_texts(rt: HostRuntime) -> Result<(), Fail> {
     let alloc = rt.alloc();
-    let text = repeated(alloc, long_file(alloc)?.as_str(), 8)?;
+    let text = long_file(alloc)?.repeat(alloc, 8)?;
     let found = replace_when_full(alloc, &mut Sources::new(alloc), text.as_str())?;
     assert_eq!(rt; found.as_str(), "K01 c:0, [1 A][2 end], K08 d:0 d");
     Ok(())

@@ -3,9 +3,9 @@ ghost use Rattle.std.specs.Prelude.{IsTrue};
 ghost use Rattle.kc_tree.specs.Nodes.{IsNodeOf};
 
 use crate::parsing::shown;
-use crate::showing::node_word;
+use crate::table::{rows, two_fields};
+use crate::tree_showing::node_word;
 use kc_graph::Rows;
-use kc_tables::{rows, two_fields};
 use kc_tree::{Node, NodeRow, Tree};
 use std::alloc::{AllocError, Global};
 use std::test::Fail;
