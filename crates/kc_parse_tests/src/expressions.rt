@@ -50,7 +50,7 @@ fn show_first_block(alloc: Global, tree: &Tree) -> Result<String, AllocError> {
 
 /// How the tree keeps an expression, or the fault of its line.
 fn kept_as(alloc: Global, expression: &str) -> Result<String, Fail> {
-    // Behind `if`, since a line `depends on` with the word `if` is unsupported (K20), whatever else is wrong.
+    // After `if`, since a line `depends on` with the word `if` is unsupported (K20), whatever else is wrong.
     let text = format!(in alloc;
         "IF = if\nconfig A\nbool\nconfig B\nbool\nif {expression}\nendif\n"
     )?;

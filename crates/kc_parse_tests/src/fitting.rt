@@ -24,7 +24,7 @@ config M
 endchoice
 "#;
 
-/// What each takes of the values n, m and y and of the texts 1f, 07 and none. What stands behind them is no symbol of
+/// What each takes of the values n, m and y and of the texts 1f, 07 and none. What comes after them is no symbol of
 /// the tree.
 const TAKEN: &str = r#"
 B: n y

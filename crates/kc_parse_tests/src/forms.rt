@@ -84,7 +84,7 @@ fn show_choice(alloc: Global, out: &mut String, choice: &Choice) -> Result<(), A
     Ok(())
 }
 
-/// Begins a part behind others.
+/// Begins a part after others.
 fn begin_part(out: &mut String) -> Result<(), AllocError> {
     if out.is_empty() {
         Ok(())

@@ -1,7 +1,7 @@
 //! The tests of kc_text and kc_tree, over their public calls alone: lines of texts, what trees have of them, faults and
 //! limits, as definitions and worked examples have them.
 //!
-//! A crate with tests is proved twice, with them and without. As they stand here, each library is proved once.
+//! A crate with tests is proved twice, with them and without. With its tests here, each library is proved once.
 #![tactic(auto)]
 
 #[cfg(test)]

@@ -37,7 +37,7 @@ fn show_token(out: &mut String, token: &Token<'_>) -> Result<(), AllocError> {
     out.push_str(after)
 }
 
-/// The place of a line: its number, in a sourced file behind the path and the run.
+/// The place of a line: its number, in a sourced file after the path and the run.
 fn show_place(alloc: Global, out: &mut String, line: &Line<'_>) -> Result<(), AllocError> {
     let number = line.number();
     let run = line.run();
@@ -87,7 +87,7 @@ pub(crate) fn show_fault(alloc: Global, fault: &TextFault) -> Result<String, All
     }
 }
 
-/// Lines, one behind the other.
+/// Lines, one after the other.
 fn show_lines(alloc: Global, lines: &[Line<'_>]) -> Result<String, AllocError> {
     let mut out = String::new(alloc);
     for line in lines {

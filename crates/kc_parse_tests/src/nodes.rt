@@ -51,7 +51,7 @@ fn used_by(tree: &Tree, node: Node) -> Option<NodeRow<'_>> {
     }
 }
 
-/// Whether each node of a tree stands in its order, and none twice.
+/// Whether each node of a tree is in its order, and none twice.
 fn has_each_node_once(tree: &Tree) -> bool {
     let order = tree.order();
     order.len() == tree.node_count() && tree.nodes().all(|node| order.contains(&node))
@@ -65,7 +65,7 @@ fn uses_only(tree: &Tree, node: Node, nodes: &[Node]) -> bool {
     }
 }
 
-/// Whether each node of a tree stands in its order after all that it uses.
+/// Whether each node of a tree comes in its order after all that it uses.
 fn comes_after_uses(alloc: Global, tree: &Tree) -> Result<bool, AllocError> {
     let mut before = Vec::new(alloc);
     for node in tree.order() {

@@ -11,7 +11,7 @@ const COUNT: u32 = 1_000;
 /// The numbers that a node has in a table, on average, where no long list is there twice.
 const MOST_OF_A_NODE: usize = 8;
 
-/// Adds so many symbols, whose names begin with this letter.
+/// Adds `COUNT` symbols, whose names begin with this letter.
 fn push_symbols(alloc: Global, text: &mut String, letter: &str) -> Result<(), AllocError> {
     for number in 0..COUNT {
         let entry = format!(in alloc; "config {letter}{number}\n\tbool \"p\"\n")?;
@@ -34,7 +34,7 @@ fn menu(alloc: Global, word: &str) -> Result<String, AllocError> {
     Ok(text)
 }
 
-/// How many numbers stand in the rows of a table.
+/// How many numbers the rows of a table have.
 fn numbers_in(table: &Rows) -> usize {
     let mut count: usize = 0;
     for row in 0..table.len() {

@@ -22,7 +22,7 @@ K: D = d\nsource "$(D)/b" & d/b: B | [d/b#1 1 B][d/b#1 2 end][3 end]
 K: source\nsource "b" x\nsource b\n"source" "b"\nS = source\n$(S) "b" | [1 source][2 source "b" x][3 source b][4 "source" "b"][6 <source> "b"][7 end]
 // Paths are compared as they are spelt.
 K: source "./K" | K08 K:1 ./K
-// The faults of the line's tokens come first, and the line's own come before those behind it.
+// The faults of the line's tokens come first, and the line's own come before those of the lines after it.
 K: source "K" @ | K02 K:1
 K: source "b"\n@ & b: \n@ | K02 b:2
 "#;

@@ -11,7 +11,7 @@ use std::test::Fail;
 pub(crate) enum RowFault {
     /// It has fewer fields than are wanted, or more.
     FieldCount,
-    /// A backslash stands before a character that it means nothing with, or ends a field.
+    /// A backslash is before a character that it means nothing with, or ends a field.
     UnknownEscape,
     /// Memory was refused.
     NoMemory,
@@ -37,7 +37,7 @@ pub(crate) fn two_fields(alloc: Global, row: &str) -> Result<(String, String), R
     Ok((unescaped(alloc, first)?, unescaped(alloc, second)?))
 }
 
-/// The text that a field stands for.
+/// The text of a field.
 fn unescaped(alloc: Global, field: &str) -> Result<String, RowFault> {
     if field.contains(" | ") {
         return Err(RowFault::FieldCount);
@@ -60,7 +60,7 @@ fn unescaped(alloc: Global, field: &str) -> Result<String, RowFault> {
     Ok(text)
 }
 
-/// The character that a backslash and this one stand for.
+/// The character that a backslash and this one mean.
 fn escaped(character: char) -> Result<char, RowFault> {
     match character {
         'n' => Ok('\n'),

@@ -77,7 +77,7 @@ fn keeps_the_limit_of_an_expanded_text(rt: HostRuntime) -> Result<(), Fail> {
         ("B = $(A)$(A)y", "[3 end]"),
         ("B := $(A)$(A)\nB += ", "K01 K:3"),
         ("B := $(A)\nB += $(A)", "K01 K:3"),
-        // The space counts before what comes behind it.
+        // The space counts before what comes after it.
         ("B := $(A)$(A)\nB += $X", "K01 K:3"),
         ("default \"$(A)$(A)y\"", "K01 K:2"),
         ("default \"$(A)$(A)y$X", "K01 K:2"),
@@ -184,7 +184,7 @@ fn finds_a_variable_in_itself_before_the_limit_of_open_names(rt: HostRuntime) ->
     Ok(())
 }
 
-/// Adds files that each source the next, of which K is the first and the last has this text.
+/// Adds files that each source the next. K is the first, and the last has this text.
 fn add_nested(alloc: Global, sources: &mut Sources, depth: usize, last: &str) -> Result<(), Fail> {
     sources.add("K", "source \"2\"")?;
     for i in 2..depth {

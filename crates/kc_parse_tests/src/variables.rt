@@ -2,7 +2,7 @@
 use crate::line_showing::{read_table, shown_with_pairs};
 use std::test::Fail;
 
-/// Texts with references, and what they stand for.
+/// Texts with references, and what these give.
 const REFERENCES: &str = r#"
 // `=` is expanded at each use, `:=` at its line.
 A = $(B)\nB = 1\ndefault $(A) | [3 default <1>][4 end]

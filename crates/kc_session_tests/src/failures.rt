@@ -47,7 +47,7 @@ fn first_replies(alloc: Global, count: usize) -> Result<String, Fail> {
     Ok(replies)
 }
 
-/// How many line feeds stand in the first bytes of a text.
+/// How many line feeds the first bytes of a text have.
 fn lines_in(text: &str, count: usize) -> usize {
     text.bytes().take(count).filter(|b| *b == b'\n').count()
 }

@@ -225,7 +225,7 @@ fn a_call_counts_as_the_command_does(rt: HostRuntime) -> Result<(), Fail> {
     Ok(())
 }
 
-/// Symbols of which each depends on the one before.
+/// Symbols that each depend on the one before.
 fn chain(alloc: Global, count: u32) -> Result<String, Fail> {
     let mut text = String::from_str(alloc, "config S0\n\tbool \"s\"\n")?;
     for number in 1..count {
@@ -246,7 +246,7 @@ fn a_chain_is_evaluated_without_repeats(rt: HostRuntime) -> Result<(), Fail> {
     )
 }
 
-/// Symbols of which each is visible only where the one before is y. A value is then computed from its visibility alone, so
+/// Symbols that are each visible only where the one before is y. A value is then computed from its visibility alone, so
 /// that all nodes are in one chain.
 fn chain_of_prompts(alloc: Global, count: u32) -> Result<String, Fail> {
     let mut text = String::from_str(alloc, "config S0\n\tbool \"s\"\n")?;
@@ -385,7 +385,7 @@ fn replies_of_new(
     })
 }
 
-/// To each edit and the queries behind it the session must reply as a new one does to which the edits that were accepted
+/// To each edit and the queries after it the session must reply as a new one does to which the edits that were accepted
 /// before were given. The result says how many are.
 fn compare_with_new(alloc: Global, kconfig: &str, session: &mut Session) -> Result<usize, Fail> {
     let mut accepted = String::new(alloc);

@@ -2,7 +2,7 @@
 //! that fail at a given call, limits of a line and of a `.config`, what a session keeps, prefixes, resolvers, and calls of
 //! kc_files that no command makes.
 //!
-//! A crate with tests is proved twice, with them and without. As they stand here, each library is proved once.
+//! A crate with tests is proved twice, with them and without. With its tests here, each library is proved once.
 #![tactic(auto)]
 
 #[cfg(test)]

@@ -33,7 +33,7 @@ fn many_small_reads_serve_the_whole_stream(rt: HostRuntime) -> Result<(), Fail> 
     want(alloc, &served, Ok(()), replies.as_str(), "ok\n", 0)
 }
 
-/// A line `set S ..` of so many bytes, with this line end, the line `config` behind it, and their replies where the first
+/// A line `set S ..` of this many bytes, with this line end, the line `config` after it, and their replies where the first
 /// is a command.
 fn long_line(alloc: Global, bytes: usize, end: &str) -> Result<(String, String), AllocError> {
     let text = "x".repeat(alloc, bytes.saturating_sub("set S ".len()))?;
@@ -90,7 +90,7 @@ fn a_body_has_at_most_16_mebibytes(rt: HostRuntime) -> Result<(), Fail> {
 
 #[test]
 fn a_failed_read_ends_the_stream(rt: HostRuntime) -> Result<(), Fail> {
-    // One byte a call: the read fails behind the first line and seven bytes of the second, which is not run.
+    // One byte a call: the read fails after the first line and seven bytes of the second, which is not run.
     let reader = FailingReader::new(b"set S a\nset S bc\n", 1, 15);
     let writer = FailingWriter::new(rt.alloc(), 100, NEVER, NEVER);
     let served = serve(rt.alloc(), TWO_STRINGS, reader, writer, "config\n")?;

@@ -43,7 +43,7 @@ fn push_inside(alloc: Global, text: &mut String) -> Result<(), Fail> {
     Ok(())
 }
 
-/// A menu with many symbols, each of which depends on many others, which depend on one.
+/// A menu with many symbols that each depend on many others, which depend on one.
 fn menu(alloc: Global) -> Result<String, Fail> {
     let mut text = String::from_str(alloc, "config X\n\tbool \"x\"\n")?;
     push_names(alloc, &mut text)?;

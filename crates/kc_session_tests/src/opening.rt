@@ -39,25 +39,25 @@ fn outcome_with(alloc: Global, config: &[u8]) -> Result<&'static str, Fail> {
     }
 }
 
-/// 256 comments of 65,536 bytes each, which are 16,777,216 bytes together, with a text behind them.
-fn comments_before(alloc: Global, behind: &str) -> Result<String, AllocError> {
+/// 256 comments of 65,536 bytes each, which are 16,777,216 bytes together, with a text after them.
+fn comments_before(alloc: Global, after: &str) -> Result<String, AllocError> {
     let comment = "#".repeat(alloc, 65_535)?;
     let line = format!(in alloc; "{comment}\n")?;
     let lines = line.repeat(alloc, 256)?;
-    format!(in alloc; "{lines}{behind}")
+    format!(in alloc; "{lines}{after}")
 }
 
 #[test]
 fn a_session_opens_with_at_most_16_mebibytes(rt: HostRuntime) -> Result<(), Fail> {
-    for (behind, want) in [("", "open"), ("\n", "limit")] {
-        let config = comments_before(rt.alloc(), behind)?;
+    for (after, want) in [("", "open"), ("\n", "limit")] {
+        let config = comments_before(rt.alloc(), after)?;
         let found = outcome_with(rt.alloc(), config.as_str().as_bytes())?;
-        assert_eq!(rt; found, want, "behind {behind:?}");
+        assert_eq!(rt; found, want, "with {after:?} at the end");
     }
     Ok(())
 }
 
-/// Two symbols, of which the first depends on the second.
+/// Two symbols. The first depends on the second.
 const TWO: &str = "config B\n\tbool\n\tdefault A\nconfig A\n\tdef_bool y\n";
 
 /// What a session lists.

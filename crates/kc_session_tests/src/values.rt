@@ -16,7 +16,7 @@ fn show_resolved(alloc: Global, tree: &Tree) -> Result<String, Fail> {
 }
 
 /// Texts of S with a default of R that compares something, and the value of R. The first text counts as a number, the
-/// second as none; the third stands beside a constant.
+/// second as none; the third is compared with a constant.
 const COMPARISONS: &str = r#"
 0 | S = "-0" | y
 18446744073709551616 | S > "0x0ffffffffffffffff" | y
