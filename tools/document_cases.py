@@ -575,9 +575,9 @@ LANGUAGE: dict[tuple[str, int], Entry] = {
 
 FAULTS: dict[tuple[str, int], Entry] = {
     ("In short", 1): Without("the words of the faults, which tools/check_explanations.py compares"),
-    ("What a message of `--explain` names", 1): Without("what messages of --explain name, which kc_program_tests has"),
-    ("What a message of `--explain` names", 2): Without("a message of --explain, which kc_program_tests has"),
-    ("Warnings", 1): Without("a warning of --explain, which kc_program_tests has"),
+    ("What a message of `--explain` names", 1): Without("what messages of --explain name, which the cases `explained-*` have"),
+    ("What a message of `--explain` names", 2): Without("a message of --explain, which the cases `explained-*` have"),
+    ("Warnings", 1): Without("a warning of --explain, which the cases `explained-*` have"),
     ("Warnings", 2): Without("the words of the warnings, which tools/check_explanations.py compares"),
     ("Which error is the first", 1): Rows(order_cases),
     ("K01: a limit is passed", 1): Repeated(

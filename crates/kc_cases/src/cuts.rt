@@ -108,7 +108,7 @@ pub(crate) fn cut_outcome(
         last: String::new(alloc),
     };
     let mut number = part.line;
-    for line in part.text.as_str().split_terminator('\n') {
+    for line in part.text().split_terminator('\n') {
         number = number.saturating_add(1);
         if line.is_empty() {
             beginning.keep()?;

@@ -1,30 +1,37 @@
-//! The text that the lines of a section stand for.
+//! The bytes that the lines of a section are.
 
 use crate::blocks::is_stray;
 use crate::malformed::{CaseFault, Problem};
 use std::alloc::{AllocError, Global};
 
-/// What stands behind a backslash.
-enum Escape {
-    /// A character.
-    Character(char),
-    /// The end of a line that ends without a line feed.
-    NoLineFeed,
+/// What was read of a line with escapes.
+#[derive(Clone, Copy)]
+enum State {
+    /// Text, after which text or an escape may follow.
+    Text,
+    /// The backslash of an escape.
+    Backslash,
+    /// `\x`, after which two hexadecimal digits follow.
+    Hex,
+    /// `\x` and this digit.
+    HexDigit(u8),
+    /// `\e`, after which nothing may follow: the line has no line feed.
+    Ended,
 }
 
-/// The text of lines, the first of which has this number.
+/// The bytes of lines, the first of which has this number.
 ///
 /// # Errors
 ///
 /// `CaseFault::Malformed` at a line that begins as a title or a header, that ends with a space, or that has a malformed
 /// escape.
-pub(crate) fn text_of_lines(
+pub(crate) fn bytes_of_lines(
     alloc: Global,
     lines: &str,
     first: usize,
     is_escaped: bool,
-) -> Result<String, CaseFault> {
-    let mut text = String::new(alloc);
+) -> Result<Vec<u8>, CaseFault> {
+    let mut bytes = Vec::new(alloc);
     let mut number = first;
     for line in lines.split('\n') {
         if is_stray(line) {
@@ -33,65 +40,100 @@ pub(crate) fn text_of_lines(
         if line.ends_with(' ') {
             return Err(CaseFault::Malformed(number, Problem::TrailingSpace));
         }
-        if is_escaped {
-            push_escaped(&mut text, line, number)?;
-        } else {
-            text.push_str(line)?;
-            text.push('\n')?;
+        if !is_escaped {
+            bytes.extend_from_slice(line.as_bytes())?;
+            bytes.push(b'\n')?;
+        } else if push_unescaped(&mut bytes, line, number)? {
+            bytes.push(b'\n')?;
         }
         number = number.saturating_add(1);
     }
-    Ok(text)
+    Ok(bytes)
 }
 
-/// Adds what a line with escapes stands for.
-fn push_escaped(text: &mut String, line: &str, number: usize) -> Result<(), CaseFault> {
-    let mut is_escape = false;
-    let mut has_line_feed = true;
+/// Adds the bytes of a line with escapes, of this number, but for its line feed. It gives whether the line has one.
+///
+/// # Errors
+///
+/// `CaseFault::Malformed` where an escape is unknown, or the line cuts it off.
+pub(crate) fn push_unescaped(
+    bytes: &mut Vec<u8>,
+    line: &str,
+    number: usize,
+) -> Result<bool, CaseFault> {
+    let mut state = Some(State::Text);
     for character in line.chars() {
-        if is_escape {
-            match escape_of(character) {
-                Some(Escape::Character(character)) => text.push(character)?,
-                Some(Escape::NoLineFeed) => has_line_feed = false,
-                None => return Err(CaseFault::Malformed(number, Problem::UnknownEscape)),
-            }
-            is_escape = false;
-        } else if !has_line_feed {
-            return Err(CaseFault::Malformed(number, Problem::UnknownEscape));
-        } else if character == '\\' {
-            is_escape = true;
-        } else {
-            text.push(character)?;
-        }
+        state = match state {
+            Some(state) => pushed(bytes, state, character)?,
+            None => None,
+        };
     }
-    if is_escape {
-        return Err(CaseFault::Malformed(number, Problem::UnknownEscape));
+    match state {
+        Some(State::Text) => Ok(true),
+        Some(State::Ended) => Ok(false),
+        _ => Err(CaseFault::Malformed(number, Problem::UnknownEscape)),
     }
-    if has_line_feed {
-        text.push('\n')?;
-    }
-    Ok(())
 }
 
-/// What a backslash and this character stand for.
-fn escape_of(character: char) -> Option<Escape> {
+/// Adds what a character after a state gives. It gives the state after it, `None` after an unknown escape.
+fn pushed(bytes: &mut Vec<u8>, state: State, character: char) -> Result<Option<State>, AllocError> {
+    match (state, character) {
+        (State::Text, '\\') => Ok(Some(State::Backslash)),
+        (State::Text, _) => push_character(bytes, character),
+        (State::Backslash, 'x') => Ok(Some(State::Hex)),
+        (State::Backslash, 'e') => Ok(Some(State::Ended)),
+        (State::Backslash, _) => match escaped(character) {
+            Some(character) => push_character(bytes, character),
+            None => Ok(None),
+        },
+        (State::Hex, _) => Ok(hex_digit(character).map(State::HexDigit)),
+        (State::HexDigit(high), _) => match hex_digit(character) {
+            Some(low) => {
+                bytes.push((high << 4) | low)?;
+                Ok(Some(State::Text))
+            }
+            None => Ok(None),
+        },
+        (State::Ended, _) => Ok(None),
+    }
+}
+
+/// The number that a hexadecimal digit is.
+fn hex_digit(character: char) -> Option<u8> {
+    u8::try_from(character.to_digit(16)?).ok()
+}
+
+/// Adds a character, after which text follows.
+fn push_character(bytes: &mut Vec<u8>, character: char) -> Result<Option<State>, AllocError> {
+    let mut room = [0; 4];
+    bytes.extend_from_slice(character.encode_utf8(&mut room).as_bytes())?;
+    Ok(Some(State::Text))
+}
+
+/// The character that a backslash and this one are.
+fn escaped(character: char) -> Option<char> {
     match character {
-        'r' => Some(Escape::Character('\r')),
-        't' => Some(Escape::Character('\t')),
-        '0' => Some(Escape::Character('\0')),
-        's' => Some(Escape::Character(' ')),
-        '\\' | '-' | '=' => Some(Escape::Character(character)),
-        'e' => Some(Escape::NoLineFeed),
+        'n' => Some('\n'),
+        'r' => Some('\r'),
+        't' => Some('\t'),
+        '0' => Some('\0'),
+        's' => Some(' '),
+        '\\' | '-' | '=' => Some(character),
         _ => None,
     }
 }
 
-/// A text so many times. In each, `{n}` is its number from 0, and `{n+1}` the number of the next one.
-pub(crate) fn repeated(alloc: Global, text: &str, times: usize) -> Result<String, AllocError> {
-    let mut all = String::new(alloc);
+/// A text this often. In each, `{n}` is its number from 0, and `{n+1}` the number of the next one.
+pub(crate) fn repeated(alloc: Global, text: &str, times: usize) -> Result<Vec<u8>, AllocError> {
+    let mut all = Vec::new(alloc);
+    let is_numbered = text.contains("{n");
     for number in 0..times {
-        let one = numbered(alloc, text, number)?;
-        all.push_str(one.as_str())?;
+        if is_numbered {
+            let one = numbered(alloc, text, number)?;
+            all.extend_from_slice(one.as_str().as_bytes())?;
+        } else {
+            all.extend_from_slice(text.as_bytes())?;
+        }
     }
     Ok(all)
 }

@@ -58,7 +58,7 @@ pub(crate) fn is_wanted(
     fault: &str,
     names: &str,
 ) -> Result<bool, AllocError> {
-    let want = part.text.as_str();
+    let want = part.text();
     match part.kind {
         Kind::Fault => Ok(want == fault),
         Kind::Loop => Ok(has_each_line(want, names) && has_each_line(names, want)),
@@ -75,7 +75,7 @@ fn has_each_line(text: &str, lines: &str) -> bool {
 }
 
 /// Whether lines are those of another text from any of them on, and round to it.
-fn is_turned(alloc: Global, lines: &str, text: &str) -> Result<bool, AllocError> {
+pub(crate) fn is_turned(alloc: Global, lines: &str, text: &str) -> Result<bool, AllocError> {
     // The text twice over has its lines from each of them on.
     let twice = format!(in alloc; "\n{text}{text}")?;
     let wanted = format!(in alloc; "\n{lines}")?;

@@ -30,6 +30,18 @@ pub(crate) enum Kind<'a> {
     LoopInOrder,
     /// Rows with a text, and with what each of its beginnings gives.
     Cut(Subject),
+    /// The standard input of the runs after it.
+    Input,
+    /// The standard output of a run of the program with these words.
+    Run(&'a str),
+    /// The last lines of the standard output of the run before it.
+    LastLines,
+    /// The standard error of the run before it.
+    Errors,
+    /// The standard error of the run before it, with the word `--explain` after its words.
+    Explained,
+    /// The status of the run before it.
+    Status(u8),
 }
 
 /// The header of a section.
@@ -88,15 +100,24 @@ fn kind_of(text: &str) -> Option<Kind<'_>> {
         "cut Kconfig" => Some(Kind::Cut(Subject::Kconfig)),
         "cut .config" => Some(Kind::Cut(Subject::Config)),
         "cut commands" => Some(Kind::Cut(Subject::Commands)),
-        _ => file_kind(text),
+        "input" => Some(Kind::Input),
+        "last lines" => Some(Kind::LastLines),
+        "errors" => Some(Kind::Errors),
+        "explained" => Some(Kind::Explained),
+        _ => longer_kind(text),
     }
 }
 
-/// The kind of a header `file PATH`. A path has no spaces.
-fn file_kind(text: &str) -> Option<Kind<'_>> {
-    let path = text.strip_prefix("file ")?;
-    if path.is_empty() || path.contains(' ') {
-        return None;
+/// The kind of a header `file PATH`, `run WORDS` or `status N`. A path has no spaces.
+fn longer_kind(text: &str) -> Option<Kind<'_>> {
+    let (word, rest) = text.split_once(' ').unwrap_or((text, ""));
+    match word {
+        "file" if !rest.is_empty() && !rest.contains(' ') => Some(Kind::File(rest)),
+        "run" => Some(Kind::Run(rest)),
+        "status" => match rest.parse::<u8>() {
+            Ok(status) => Some(Kind::Status(status)),
+            Err(_) => None,
+        },
+        _ => None,
     }
-    Some(Kind::File(path))
 }

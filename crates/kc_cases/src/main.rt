@@ -1,4 +1,5 @@
-//! Runs cases: Kconfigs with commands and the replies that are wanted, or with the fault that is wanted.
+//! Runs cases: Kconfigs with commands and the replies that are wanted, or with the fault that is wanted, and runs of the
+//! whole program over files in memory.
 //!
 //! Each word of the command line names a file of cases. The form of a file is described in docs/CASES.md.
 #![tactic(auto)]
@@ -13,6 +14,8 @@ mod malformed;
 mod outcome;
 mod parts;
 mod piece_reader;
+mod run_results;
+mod runs;
 mod sequence;
 
 use crate::files::run_files;

@@ -36,6 +36,16 @@ pub(crate) enum Problem {
     CutAndOther,
     #[error("a line of a cut that is not WANTED [PIECE]")]
     NoRow,
+    #[error("a section that has to be UTF-8, and is not")]
+    NoText,
+    #[error("an input or a result without a run")]
+    NoRun,
+    #[error("a section that no case with a run has")]
+    RunAndOther,
+    #[error("a second section of its kind after a run")]
+    SecondResult,
+    #[error("a status with a text")]
+    StatusWithText,
     #[error("a case without a Kconfig")]
     NoKconfig,
     #[error("a case without replies and without a fault")]

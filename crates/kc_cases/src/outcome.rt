@@ -5,13 +5,15 @@ use crate::cuts::cut_outcome;
 use crate::fault_text::{fault_text, is_wanted, loop_names};
 use crate::header::Kind;
 use crate::malformed::CaseFault;
-use crate::parts::{Part, file_text, parts_of, variables_of};
+use crate::parts::{Part, file_bytes, parts_of, variables_of};
 use crate::piece_reader::PieceReader;
+use crate::runs::{has_runs, runs_outcome};
 use crate::sequence::check_sequence;
 use kc_files::Prefix;
 use kc_session::{OpenFault, Session, open, run};
 use kc_text::{Sources, TextFault, Vars};
 use std::alloc::{AllocError, Global};
+use std::str::from_utf8;
 
 /// The sizes of the pieces in which the commands of a case are read: each time in the same session, and then it is reset.
 const PIECES: [usize; 2] = [4096, 1];
@@ -39,6 +41,9 @@ pub(crate) struct Texts {
 /// `CaseFault::Malformed` where the block is no case.
 pub(crate) fn outcome_of(alloc: Global, case: &Block<'_>) -> Result<Option<Difference>, CaseFault> {
     let parts = parts_of(alloc, case)?;
+    if has_runs(parts.as_slice()) {
+        return runs_outcome(alloc, parts.as_slice());
+    }
     check_sequence(parts.as_slice(), case.line)?;
     let pairs = variables_of(alloc, parts.as_slice())?;
     let Ok(prefix) = Prefix::new(alloc, "CONFIG_") else {
@@ -57,11 +62,19 @@ fn texts_of(alloc: Global, parts: &[Part<'_>], pairs: &[(&str, &str)]) -> Result
     let mut sources = Sources::new(alloc);
     for part in parts {
         if let Kind::File(path) = part.kind {
-            let text = file_text(alloc, parts, path)?;
-            sources.add(path, text.as_str())?;
+            let bytes = file_bytes(alloc, parts, path)?;
+            sources.add(path, text_of(bytes.as_ref()))?;
         }
     }
     Ok(Texts { sources, vars })
+}
+
+/// The text that the bytes of a file are, which were checked.
+fn text_of(bytes: Option<&Vec<u8>>) -> &str {
+    match bytes {
+        Some(bytes) => from_utf8(bytes.as_slice()).unwrap_or(""),
+        None => "",
+    }
 }
 
 /// Compares what a case wants of its texts: what each beginning of its cuts gives, or the replies or the fault.
@@ -141,17 +154,17 @@ fn replies_outcome(
     parts: &[Part<'_>],
     piece: usize,
 ) -> Result<Option<Difference>, AllocError> {
-    let mut commands = String::new(alloc);
+    let mut commands = Vec::new(alloc);
     for part in parts {
         if let Kind::Commands = part.kind {
-            commands.push_str(part.text.as_str())?;
+            commands.extend_from_slice(part.bytes.as_slice())?;
         }
         if let Kind::Replies = part.kind {
-            let found = replies_to(alloc, commands.as_bytes(), piece, session)?;
-            if found.as_slice() != part.text.as_bytes() {
+            let found = replies_to(alloc, commands.as_slice(), piece, session)?;
+            if found.as_slice() != part.bytes.as_slice() {
                 return Ok(Some(reply_difference(alloc, part, found.as_slice())?));
             }
-            commands = String::new(alloc);
+            commands = Vec::new(alloc);
         }
     }
     Ok(None)
@@ -180,7 +193,7 @@ fn reply_difference(
 ) -> Result<Difference, AllocError> {
     Ok(Difference {
         line: part.line,
-        wanted: String::from_str(alloc, part.text.as_str())?,
+        wanted: String::from_str(alloc, part.text())?,
         found: String::from_utf8_lossy(alloc, found)?,
     })
 }
@@ -194,12 +207,9 @@ fn all_wanted(
     let mut wanted = String::new(alloc);
     let mut line = 0;
     for part in parts {
-        match part.kind {
-            Kind::File(_) | Kind::Variables | Kind::Commands | Kind::Cut(_) => {}
-            Kind::Replies | Kind::Fault | Kind::Loop | Kind::LoopInOrder => {
-                line = part.line;
-                wanted.push_str(part.text.as_str())?;
-            }
+        if let Kind::Replies | Kind::Fault | Kind::Loop | Kind::LoopInOrder = part.kind {
+            line = part.line;
+            wanted.push_str(part.text())?;
         }
     }
     Ok(Some(Difference {

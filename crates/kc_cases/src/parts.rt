@@ -1,10 +1,11 @@
-//! The parts of a case: its sections, with the texts that they stand for.
+//! The parts of a case: its sections, with the texts that they are.
 
 use crate::blocks::{Block, check_comment};
-use crate::escapes::{repeated, text_of_lines};
+use crate::escapes::{bytes_of_lines, repeated};
 use crate::header::{Header, Kind};
 use crate::malformed::{CaseFault, Problem};
 use std::alloc::{AllocError, Global};
+use std::str::from_utf8;
 
 /// A part of a case.
 #[derive(Drop)]
@@ -12,10 +13,20 @@ pub(crate) struct Part<'a> {
     /// The line of its header.
     pub(crate) line: usize,
     pub(crate) kind: Kind<'a>,
-    pub(crate) text: String,
+    /// Whether its header says that it has escapes.
+    pub(crate) is_escaped: bool,
+    /// Its text, which is UTF-8 but in a file, in commands and in an input.
+    pub(crate) bytes: Vec<u8>,
 }
 
-/// The parts of a case as it stands in its file.
+impl Part<'_> {
+    /// The text of a part whose bytes are UTF-8, else none.
+    pub(crate) fn text(&self) -> &str {
+        from_utf8(self.bytes.as_slice()).unwrap_or("")
+    }
+}
+
+/// The parts of a case as it is in its file.
 ///
 /// # Errors
 ///
@@ -43,28 +54,38 @@ fn part_of<'a>(alloc: Global, section: &Block<'a>) -> Result<Part<'a>, CaseFault
     let once = match lines_of(&header, section.body()) {
         Some(lines) => {
             let first = section.line.saturating_add(1);
-            text_of_lines(alloc, lines, first, header.is_escaped)?
+            bytes_of_lines(alloc, lines, first, header.is_escaped)?
         }
-        None => String::new(alloc),
+        None => Vec::new(alloc),
     };
-    let text = match header.times {
-        Some(times) => repeated(alloc, once.as_str(), times)?,
+    if has_to_be_text(&header) && from_utf8(once.as_slice()).is_err() {
+        return Err(CaseFault::Malformed(section.line, Problem::NoText));
+    }
+    let bytes = match header.times {
+        Some(times) => repeated(alloc, from_utf8(once.as_slice()).unwrap_or(""), times)?,
         None => once,
     };
     Ok(Part {
         line: section.line,
         kind: header.kind,
-        text,
+        is_escaped: header.is_escaped,
+        bytes,
     })
 }
 
-/// The lines of a section. Empty lines at the end are no part of replies, of a fault and of a loop.
+/// Whether the bytes of a section have to be UTF-8. Those that are repeated have to be, too.
+fn has_to_be_text(header: &Header<'_>) -> bool {
+    match header.kind {
+        Kind::File(_) | Kind::Commands | Kind::Input => header.times.is_some(),
+        _ => true,
+    }
+}
+
+/// The lines of a section. Empty lines at the end are no part of what is wanted.
 fn lines_of<'a>(header: &Header<'_>, body: Option<&'a str>) -> Option<&'a str> {
     match header.kind {
-        Kind::File(_) | Kind::Variables | Kind::Commands => body,
-        Kind::Replies | Kind::Fault | Kind::Loop | Kind::LoopInOrder | Kind::Cut(_) => {
-            without_empty_lines(body?)
-        }
+        Kind::File(_) | Kind::Variables | Kind::Commands | Kind::Input => body,
+        _ => without_empty_lines(body?),
     }
 }
 
@@ -74,21 +95,24 @@ fn without_empty_lines(lines: &str) -> Option<&str> {
     if lines.is_empty() { None } else { Some(lines) }
 }
 
-/// The text of the file of a path: the texts of all parts that have lines of it, one behind the other.
-pub(crate) fn file_text(
+/// The bytes of the file of a path: those of all parts that have lines of it, one after the other. There are none where
+/// no part has any.
+pub(crate) fn file_bytes(
     alloc: Global,
     parts: &[Part<'_>],
     path: &str,
-) -> Result<String, AllocError> {
-    let mut text = String::new(alloc);
+) -> Result<Option<Vec<u8>>, AllocError> {
+    let mut bytes = Vec::new(alloc);
+    let mut is_there = false;
     for part in parts {
         if let Kind::File(found) = part.kind
             && found == path
         {
-            text.push_str(part.text.as_str())?;
+            bytes.extend_from_slice(part.bytes.as_slice())?;
+            is_there = true;
         }
     }
-    Ok(text)
+    Ok(if is_there { Some(bytes) } else { None })
 }
 
 /// The pairs of a name and a text that the variables of a case are.
@@ -110,7 +134,7 @@ fn push_variables<'a>(
     pairs: &mut Vec<(&'a str, &'a str)>,
     part: &'a Part<'_>,
 ) -> Result<(), CaseFault> {
-    for line in part.text.as_str().split_terminator('\n') {
+    for line in part.text().split_terminator('\n') {
         let Some((name, value)) = line.split_once('=') else {
             return Err(CaseFault::Malformed(part.line, Problem::NoVariable));
         };

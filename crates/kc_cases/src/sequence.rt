@@ -3,6 +3,7 @@
 use crate::header::{Kind, Subject};
 use crate::malformed::{CaseFault, Problem};
 use crate::parts::Part;
+use std::str::from_utf8;
 
 /// What was seen of the parts of a case.
 #[derive(Drop)]
@@ -20,13 +21,28 @@ impl Seen {
     /// Adds a part, and gives what is wrong with it in its place.
     fn add(&mut self, part: &Part<'_>) -> Option<Problem> {
         match part.kind {
-            Kind::File(path) => self.has_kconfig = self.has_kconfig || path == "Kconfig",
+            Kind::File(path) => return self.add_file(part, path),
             Kind::Variables => {}
             Kind::Commands => self.is_waiting = true,
             Kind::Replies => return self.add_replies(),
             Kind::Fault => return self.add_fault(part),
             Kind::Loop | Kind::LoopInOrder => return self.add_loop(part),
             Kind::Cut(subject) => return self.add_cut(part, subject),
+            Kind::Input
+            | Kind::Run(_)
+            | Kind::LastLines
+            | Kind::Errors
+            | Kind::Explained
+            | Kind::Status(_) => return Some(Problem::NoRun),
+        }
+        None
+    }
+
+    /// Adds lines of a file, which have to be a text.
+    fn add_file(&mut self, part: &Part<'_>, path: &str) -> Option<Problem> {
+        self.has_kconfig = self.has_kconfig || path == "Kconfig";
+        if from_utf8(part.bytes.as_slice()).is_err() {
+            return Some(Problem::NoText);
         }
         None
     }
@@ -87,7 +103,7 @@ impl Seen {
 }
 
 fn empty_problem(part: &Part<'_>) -> Option<Problem> {
-    if part.text.is_empty() {
+    if part.bytes.is_empty() {
         Some(Problem::EmptySection)
     } else {
         None

@@ -1,41 +1,20 @@
-//! The tests of the program over folders and streams in memory, and of the files of the system.
+//! The tests of the program that need calls: streams and folders that fail or watch, memory that is refused, and the files
+//! of the system. What words, files and an input can show is in the cases of kc_cases.
 //!
-//! A crate with tests is proved twice, with them and without. As they stand here, kc_program is proved once.
+//! A crate with tests is proved twice, with them and without. As they are here, kc_program is proved once.
 #![tactic(auto)]
 
 #[cfg(test)]
 mod ahead;
 #[cfg(test)]
-mod commands;
-#[cfg(test)]
-mod explain_lines;
-#[cfg(test)]
-mod explain_loops;
-#[cfg(test)]
-mod explain_symbols;
-#[cfg(test)]
-mod explain_texts;
-#[cfg(test)]
-mod explain_warnings;
-#[cfg(test)]
-mod explained;
-#[cfg(test)]
-mod faults;
+mod failing;
 #[cfg(test)]
 mod files;
 #[cfg(test)]
 mod flushes;
 #[cfg(test)]
-mod listing;
-#[cfg(test)]
-mod options;
-#[cfg(test)]
 mod running;
 #[cfg(test)]
 mod system_files;
-#[cfg(test)]
-mod targets;
-#[cfg(test)]
-mod variables;
 #[cfg(test)]
 mod words;

@@ -117,10 +117,3 @@ pub(crate) fn run_in<F: Folder>(
         errors,
     }
 }
-
-// Runs `session Kconfig -` on the text of the Kconfig.
-pub(crate) fn run_session(alloc: Global, kconfig: &[u8], commands: &[u8]) -> Outcome {
-    let words = ["kconf", "session", "Kconfig", "-"];
-    let files = [("Kconfig", kconfig)];
-    run_program(alloc, words.as_slice(), files.as_slice(), commands)
-}
