@@ -3,9 +3,9 @@
 
     tools/check_explanations.py
 
-It is run by hand, after a change of crates/kc_explain/src/meanings.rt or of docs/FAULTS.md. A line is written for each
-number whose words differ or that one of the two lacks, for each fault without a heading in the document, and for a table
-whose numbers are not those from 1 on; the status is 1 where there is one.
+The gate runs it, by tools/check_all.sh. A line is written for each number whose words differ or that one of the two
+lacks, for each fault without a heading in the document, and for a table whose numbers are not those from 1 on; the
+status is 1 where there is one.
 """
 
 import re
@@ -54,8 +54,8 @@ def mistakes() -> list[str]:
 
 def main() -> int:
     found = mistakes()
-    for mistake in found:
-        print(mistake)
+    count = sum(count for *_, count in TABLES)
+    print("\n".join(found) if found else f"{count} explanations")
     return 1 if found else 0
 
 

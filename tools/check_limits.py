@@ -3,9 +3,8 @@
 
     tools/check_limits.py
 
-It is run by hand, after a change of a limit, or of the name of a test or the title of a case. What stands between
-backticks is a case, as `FILE: TITLE`, or tests, as `CRATE/FILE.rt NAME..`. A line is written for each mistake, and the
-status is 1 where there is one:
+The gate runs it, by tools/check_all.sh. What is between backticks is a case, as `FILE: TITLE`, or tests, as
+`CRATE/FILE.rt NAME..`. A line is written for each mistake, and the status is 1 where there is one:
 
 - a row whose last cell names no test and no case;
 - a file that is not there, a case that its file does not have, and a test that its file does not define;

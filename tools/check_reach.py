@@ -3,11 +3,11 @@
 
     tools/check_reach.py [--each]
 
-It is run by hand, after a change of a definition or of a contract. A definition of specs/ is reached where a public
-contract names it, or a definition that is reached does. The others say how the code goes, for proofs alone: who
-relies on an answer of kconf need not read them. The table of docs/PROOFS.md has the files in which nothing is
-reached. A line is written for each file that it lacks or has wrongly, and the status is 1 where there is one. With
---each the definitions of other files that are not reached are written, too, which is no mistake.
+The gate runs it, by tools/check_all.sh. A definition of specs/ is reached where a public contract names it, or a
+definition that is reached does. The others say how the code goes, for proofs alone: who relies on an answer of kconf
+need not read them. The table of docs/PROOFS.md has the files in which nothing is reached. A line is written for each
+file that it lacks or has wrongly, and the status is 1 where there is one. With --each the definitions of other files
+that are not reached are written, too, which is no mistake.
 
 A public contract is what users of a crate see: the clauses of the functions that src/lib.rt exports, and those of the
 methods and traits, the fields and the `ghost` items of the types that it exports. Of kc_program, which nothing calls

@@ -4,9 +4,8 @@ lead somewhere, and that kc_files and kc_session rest on the contracts of other 
 
     tools/check_rules.py
 
-It is run by hand, after a change of a rule: of a heading in docs/, of a definition, a function, a test, a file of
-cases, an edit or a proof. docs/RULES.md says at its beginning what the cells of a row hold. A line is written for each
-mistake, and the status is 1 where there is one:
+The gate runs it, by tools/check_all.sh. docs/RULES.md says at its beginning what the cells of a row hold. A line is
+written for each mistake, and the status is 1 where there is one:
 
 - a row without its five cells, or a cell that names nothing;
 - a document, a file of specs/ or src/, a file of cases or a test that is not there;

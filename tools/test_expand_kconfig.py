@@ -1,10 +1,11 @@
 #!/usr/bin/env python3
-"""Tests of tools/expand_kconfig.py, which the gate does not run.
+"""Tests of tools/expand_kconfig.py.
 
 Most of them are rows: the text of a Kconfig and what it is for kconf, as kconfig-macro-language.rst has it.
 """
 
 import os
+import shutil
 import subprocess
 import sys
 import tempfile
@@ -220,6 +221,7 @@ class Expansion(unittest.TestCase):
             self.assertEqual(done.returncode, 1)
             self.assertRegex(done.stderr, r"\nexpand_kconfig.py: A has a line end, which --words can't write\n$")
 
+    @unittest.skipIf(shutil.which("make") is None, "make is not there")
     def test_the_words_of_a_makefile(self) -> None:
         makefile = "export ARCH := arm\nexport UNUSED := 1\n%config:\n\t$(MAKE) -f sub.mk obj=scripts/kconfig $@\n"
         with tempfile.TemporaryDirectory() as folder:
