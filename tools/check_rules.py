@@ -15,7 +15,8 @@ written for each mistake, and the status is 1 where there is one:
 - a number from K01 to K20 without a row;
 - a file of crates/kc_cases/data that no row names;
 - an edit of crates/NAME/must-fail that docs/EDITS.md does not list below NAME, and one listed there that is not there;
-- an edit, of the gate or by hand, with a text to be replaced that does not occur once in its file;
+- an edit, of the gate or outside it, with a text to be replaced that does not occur once in its file;
+- a name of two edits of a crate, one of the gate and one outside it, and a file of edits/ that is no edit of a crate;
 - a link of a document to a file or a heading that is not there;
 - a line of kc_files or kc_session that names the proofs/ of another crate;
 - a row of the table of crates in docs/PERFORMANCE.md with another count of functions or of edits than the crate has.
@@ -30,6 +31,7 @@ from typing import Callable, Dict, Iterator, List, Set
 ROOT = Path(__file__).resolve().parent.parent
 DOCS = ROOT / "docs"
 CRATES = ROOT / "crates"
+EDITS = ROOT / "edits"
 DATA = CRATES / "kc_cases" / "data"
 
 COLUMNS = ("Rule", "Document", "Definition", "Code", "Cases")
@@ -235,9 +237,29 @@ def edit_mistakes(text: str) -> Iterator[str]:
     yield from (f"docs/EDITS.md: it lists {edit}, which is not there" for edit in sorted(listed - there))
 
 
+def all_edits() -> List[Path]:
+    """The edits of the gate, and those outside it."""
+    return sorted([*CRATES.glob("*/must-fail/*.edit"), *EDITS.glob("*/*.edit")])
+
+
+def crate_of(edit: Path) -> str:
+    return edit.relative_to(ROOT).parts[1]
+
+
+def place_mistakes() -> Iterator[str]:
+    for path in sorted(EDITS.rglob("*")):
+        if path.is_file() and (path.parent.parent != EDITS or path.suffix != ".edit"):
+            yield f"{shown(path)}: an edit is edits/CRATE/NAME.edit"
+        elif path.is_dir() and not (CRATES / path.name).is_dir():
+            yield f"{shown(path)}: no crate {path.name}"
+    for edit in EDITS.glob("*/*.edit"):
+        if (CRATES / crate_of(edit) / "must-fail" / edit.name).is_file():
+            yield f"{shown(edit)}: the gate has an edit of the same name"
+
+
 def stale_texts(edit: Path) -> Iterator[str]:
     """The texts of an edit that do not occur once where they are to be replaced."""
-    crate, file, old = CRATES / edit.relative_to(CRATES).parts[0], "", ""
+    crate, file, old = CRATES / crate_of(edit), "", ""
     texts: Dict[str, str] = {}
     for line in text_of(edit).split("\n"):
         word, _, rest = line.partition(": ")
@@ -253,8 +275,7 @@ def stale_texts(edit: Path) -> Iterator[str]:
 
 
 def stale_mistakes() -> Iterator[str]:
-    edits = sorted([*CRATES.glob("*/must-fail/*.edit"), *CRATES.glob("*/must-fail/by-hand/*.md")])
-    for edit in edits:
+    for edit in all_edits():
         yield from (f"{shown(edit)}: {old!r} does not occur once" for old in stale_texts(edit))
 
 
@@ -307,6 +328,7 @@ def count_mistakes(text: str) -> Iterator[str]:
 def main() -> int:
     rows = list(rows_of(text_of(DOCS / "RULES.md")))
     mistakes = [*mistakes_of(rows), *edit_mistakes(text_of(DOCS / "EDITS.md")), *stale_mistakes()]
+    mistakes += place_mistakes()
     mistakes += count_mistakes(text_of(DOCS / "PERFORMANCE.md"))
     for document in sorted([*DOCS.glob("*.md"), *ROOT.glob("*.md")]):
         mistakes += link_mistakes(document)
