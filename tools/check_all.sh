@@ -1,5 +1,5 @@
 #!/usr/bin/env bash
-# Runs the checks that need Python 3 alone: those that compare the documents with the code, and the tests of two scripts.
+# Runs the checks that need Python 3 alone: those that compare the documents with the code, and the tests of scripts.
 #
 #     tools/check_all.sh
 #
@@ -17,6 +17,7 @@ checks=(
     check_explanations.py
     check_reach.py
     document_cases.py
+    edit_tables.py
     test_expand_kconfig.py
     test_fuzz.py
 )

@@ -1,6 +1,6 @@
 #!/usr/bin/env python3
-"""Checks that docs/RULES.md names what is there, that docs/EDITS.md lists the edits of the gate, that links of documents
-lead somewhere, and that kc_files and kc_session rest on the contracts of other crates, not on their proofs.
+"""Checks that docs/RULES.md names what is there, that edits apply, that links of documents lead somewhere, and that
+kc_files and kc_session rest on the contracts of other crates, not on their proofs.
 
     tools/check_rules.py
 
@@ -14,7 +14,6 @@ written for each mistake, and the status is 1 where there is one:
   not define;
 - a number from K01 to K20 without a row;
 - a file of crates/kc_cases/data that no row names;
-- an edit of crates/NAME/must-fail that docs/EDITS.md does not list below NAME, and one listed there that is not there;
 - an edit, of the gate or outside it, with a text to be replaced that does not occur once in its file;
 - a name of two edits of a crate, one of the gate and one outside it, and a file of edits/ that is no edit of a crate;
 - a link of a document to a file or a heading that is not there;
@@ -47,6 +46,11 @@ def text_of(path: Path) -> str:
 
 def shown(path: Path) -> str:
     return str(path.relative_to(ROOT))
+
+
+def crates_of(text: str) -> List[str]:
+    """The crates of a text of crates.txt, in its order."""
+    return re.findall(r"^(\w+)\b[^:#\n]*:", text, re.MULTILINE)
 
 
 # ------------------------------------------------------------------------------------------------ rows
@@ -217,26 +221,6 @@ def mistakes_of(rows: List[Row]) -> Iterator[str]:
 # ------------------------------------------------------------------------------------------------ edits
 
 
-def listed_edits(text: str) -> Set[str]:
-    """The edits in the second column of the tables, each as CRATE/NAME by the heading above its table."""
-    edits, crate = set(), ""
-    for line in text.split("\n"):
-        if line.startswith("### "):
-            crate = line[4:]
-        elif line.startswith("#"):
-            crate = ""
-        elif crate and line.startswith("|"):
-            edits |= {f"{crate}/{name}" for name in re.findall(r"`([^`]+)`", cells_of(line)[1])}
-    return edits
-
-
-def edit_mistakes(text: str) -> Iterator[str]:
-    listed = listed_edits(text)
-    there = {f"{path.parts[-3]}/{path.stem}" for path in CRATES.glob("*/must-fail/*.edit")}
-    yield from (f"docs/EDITS.md: it does not list {edit}" for edit in sorted(there - listed))
-    yield from (f"docs/EDITS.md: it lists {edit}, which is not there" for edit in sorted(listed - there))
-
-
 def all_edits() -> List[Path]:
     """The edits of the gate, and those outside it."""
     return sorted([*CRATES.glob("*/must-fail/*.edit"), *EDITS.glob("*/*.edit")])
@@ -327,8 +311,7 @@ def count_mistakes(text: str) -> Iterator[str]:
 
 def main() -> int:
     rows = list(rows_of(text_of(DOCS / "RULES.md")))
-    mistakes = [*mistakes_of(rows), *edit_mistakes(text_of(DOCS / "EDITS.md")), *stale_mistakes()]
-    mistakes += place_mistakes()
+    mistakes = [*mistakes_of(rows), *stale_mistakes(), *place_mistakes()]
     mistakes += count_mistakes(text_of(DOCS / "PERFORMANCE.md"))
     for document in sorted([*DOCS.glob("*.md"), *ROOT.glob("*.md")]):
         mistakes += link_mistakes(document)

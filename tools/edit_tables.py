@@ -1,0 +1,87 @@
+#!/usr/bin/env python3
+"""Compares the tables of docs/EDITS.md with the edits of the gate, of which each names its function.
+
+    tools/edit_tables.py [--write]
+
+The gate runs it, by tools/check_all.sh. An edit of crates/CRATE/must-fail has a line `-- function: WHAT`: the row of
+the table of its crate in which it is listed. A line is written for each mistake, and the status is 1 where there is
+one:
+
+- an edit without that line, or with several;
+- a name in backticks of that line that the crate defines neither as a function nor as a type;
+- a table that is not that of the edits. With --write it is written.
+"""
+
+import argparse
+import re
+import sys
+from collections import defaultdict
+from pathlib import Path
+from typing import Dict, Iterator, List
+
+from check_rules import CRATES, DOCS, ROOT, crates_of, shown, text_of
+
+PAGE = DOCS / "EDITS.md"
+HEADING = "## The edits of the gate\n"
+
+MARK = "-- function: "
+
+
+def edits_of(crate: str) -> List[Path]:
+    return sorted((CRATES / crate / "must-fail").glob("*.edit"))
+
+
+def marks_of(edit: Path) -> List[str]:
+    return [line[len(MARK) :] for line in text_of(edit).split("\n") if line.startswith(MARK)]
+
+
+def mark_mistakes(crate: str) -> Iterator[str]:
+    source = "\n".join(text_of(path) for path in sorted((CRATES / crate / "src").rglob("*.rt")))
+    defined = set(re.findall(r"\b(?:fn|struct|enum|trait) (\w+)", source))
+    for edit in edits_of(crate):
+        marks = marks_of(edit)
+        if len(marks) != 1:
+            yield f"{shown(edit)}: {len(marks)} lines `{MARK}`, and not one"
+        names = re.findall(r"\w+", " ".join(re.findall(r"`([^`]+)`", " ".join(marks))))
+        if not names:
+            yield f"{shown(edit)}: no function is named"
+        yield from (f"{shown(edit)}: {crate} defines no {name}" for name in names if name not in defined)
+
+
+def table_of(crate: str) -> str:
+    """The table of a crate below its heading: functions by name, each with its edits."""
+    rows: Dict[str, List[str]] = defaultdict(list)
+    for edit in edits_of(crate):
+        for mark in marks_of(edit):
+            rows[mark].append(f"`{edit.stem}`")
+    by_name = sorted(rows, key=lambda mark: (mark.replace("`", "").lower(), mark))
+    lines = [f"| {mark} | {', '.join(rows[mark])} |" for mark in by_name]
+    return "\n".join([f"### {crate}\n", "| Function | Edits |", "|---|---|", *lines, ""])
+
+
+def with_tables(page: str, crates: List[str]) -> str:
+    """The page with the tables of the edits, which are all after their heading."""
+    before, heading, after = page.partition(HEADING)
+    introduction = after.partition("### ")[0]
+    return before + heading + introduction + "\n".join(table_of(crate) for crate in crates if edits_of(crate))
+
+
+def main() -> int:
+    parser = argparse.ArgumentParser(description="Compares the tables of docs/EDITS.md with the edits of the gate.")
+    parser.add_argument("--write", action="store_true", help="write the tables")
+    options = parser.parse_args()
+    crates = crates_of(text_of(ROOT / "crates.txt"))
+    mistakes = [mistake for crate in crates for mistake in mark_mistakes(crate)]
+    page = text_of(PAGE)
+    wanted = with_tables(page, crates)
+    if options.write:
+        PAGE.write_text(wanted, encoding="utf-8")
+    elif page != wanted:
+        mistakes.append(f"{shown(PAGE)}: not the tables of the edits, which tools/edit_tables.py --write writes")
+    edits = sum(len(edits_of(crate)) for crate in crates)
+    print("\n".join(mistakes) if mistakes else f"{edits} edits of the gate")
+    return 1 if mistakes else 0
+
+
+if __name__ == "__main__":
+    sys.exit(main())
