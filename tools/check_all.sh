@@ -13,6 +13,7 @@ export PYTHONDONTWRITEBYTECODE=1 PYTHONUTF8=1
 
 checks=(
     check_rules.py
+    check_whole.py
     check_limits.py
     check_explanations.py
     check_reach.py

@@ -36,6 +36,9 @@ DATA = CRATES / "kc_cases" / "data"
 COLUMNS = ("Rule", "Document", "Definition", "Code", "Cases")
 NUMBERS = [f"K{number:02}" for number in range(1, 21)]
 
+# The heading of docs/RULES.md after its tables of rules.
+WITHOUT_ROWS = "\n## What has no row\n"
+
 # These use the crates below as any other program may: by their public contracts alone.
 RESTING_ON_CONTRACTS = ("kc_files", "kc_session")
 
@@ -81,8 +84,8 @@ def cells_of(line: str) -> List[str]:
 
 
 def rows_of(text: str) -> Iterator[Row]:
-    """The rows of all tables, without their heads."""
-    for number, line in enumerate(text.split("\n"), start=1):
+    """The rows of all tables before what has no row, without their heads."""
+    for number, line in enumerate(text.split(WITHOUT_ROWS)[0].split("\n"), start=1):
         if line.startswith("|") and not line.startswith(("|---", "| Rule |")):
             yield Row(number, cells_of(line))
 
