@@ -21,6 +21,7 @@ checks=(
     edit_tables.py
     test_expand_kconfig.py
     test_fuzz.py
+    test_gate_times.py
 )
 
 failed=()

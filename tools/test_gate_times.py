@@ -1,0 +1,74 @@
+#!/usr/bin/env python3
+"""Tests of tools/gate_times.py: what a process is, and what a table has. They start no process."""
+
+import unittest
+from typing import List, Optional, Tuple
+
+from check_rules import crates_of
+from gate_times import TICKS, Process, Seen, Work, process_of, table, work_of
+
+CHECK = ["/kit/bin/rattle", "check", "--crate-name", "kc_text", "src/lib.rt"]
+
+# The words of a process, its folder, and its work.
+WORKS: List[Tuple[List[str], str, Optional[Work]]] = [
+    (CHECK, "/tmp/rt-copy-7-a/repo/crates/kc_text", Work("kc_text", "proof")),
+    ([*CHECK, "--test"], "/repo/crates/kc_text", Work("kc_text", "tests")),
+    (CHECK, "/tmp/rt-edit-7-a_b", Work("kc_text", "edits")),
+    ([*CHECK, "--incremental", "/tmp/rt-edits-7-c/12"], "/tmp/rt-edit-7-a_b", Work("kc_text", "edits")),
+    ([*CHECK, "--incremental", "/tmp/rt-edits-7-c/seed"], "/tmp/rt-edit-7-a_b", Work("kc_text", "first")),
+    (["python3", "-c", "code", *CHECK], "/repo/crates/kc_text", Work("kc_text", "proof")),
+    (["/tmp/rt-run-7-a/bin/kconf", "session"], "/tmp/rt-run-7-a/data", Work("kconf", "run")),
+    (["/tmp/rt-run-7-a/bin/kconf.by-rattle"], "/tmp/rt-run-7-a/data", Work("kconf", "run")),
+    (["runner", "--seconds", "60", "/tmp/rt-run-7-a/bin/kc_text_tests_tests"], "/", Work("kc_text_tests", "run")),
+    (["/kit/bin/rattle", "fmt", "src/lib.rt"], "/repo/crates/kc_text", None),
+    (["rattle", "--crate-name"], "/repo/crates/kc_text", None),
+    ([""], "/", None),
+]
+
+
+def seen_of(*looks: Tuple[float, List[Process]]) -> Seen:
+    """What is seen below process 1, of which process 2 is a proof of kc_text and 9 an edit."""
+    seen = Seen()
+    seen.works = {(2, 0): Work("kc_text", "proof"), (9, 0): Work("kc_text", "edits")}
+    for now, processes in looks:
+        seen.look(1, processes, now)
+    return seen
+
+
+class GateTimes(unittest.TestCase):
+    def test_works(self) -> None:
+        for words, folder, wanted in WORKS:
+            with self.subTest(words):
+                self.assertEqual(work_of(words, folder), wanted)
+
+    def test_a_process_is_read(self) -> None:
+        fields = ["S", "7", *["0"] * 9, "1", "2", "3", "4", *["0"] * 4, "99", "0"]
+        process = process_of(f"12 (a (b) c) {' '.join(fields)}\n")
+        self.assertEqual(process, Process(number=12, parent=7, begin=99, seconds=10 / TICKS))
+
+    def test_what_a_process_starts_is_its_own(self) -> None:
+        first = [Process(2, 1, 0, 60.0), Process(3, 2, 0, 30.0), Process(4, 3, 0, 30.0), Process(5, 6, 0, 600.0)]
+        seen = seen_of((0.0, first), (60.0, [Process(2, 1, 0, 180.0)]), (120.0, [Process(9, 1, 0, 6.0)]))
+        self.assertEqual(seen.minutes("kc_text", "proof"), 3.0)
+        self.assertAlmostEqual(seen.minutes("kc_text", "edits"), 0.1)
+        self.assertEqual(seen.times, {"kc_text": (0.0, 120.0)})
+
+    def test_a_process_takes_the_most_that_was_seen(self) -> None:
+        with_one_below = [Process(2, 1, 0, 60.0), Process(3, 2, 0, 60.0)]
+        seen = seen_of((0.0, with_one_below), (1.0, [Process(2, 1, 0, 61.0)]))
+        self.assertEqual(seen.minutes("kc_text", "proof"), 2.0)
+
+    def test_a_table_has_the_crates_that_were_seen(self) -> None:
+        seen = seen_of((0.0, [Process(2, 1, 0, 90.0)]), (30.0, [Process(9, 1, 0, 60.0)]))
+        head, line, row, total, _, counted = table(seen, ["kc_graph", "kc_text"], 2.75, 1.5)
+        self.assertEqual(head.count("|"), line.count("|"))
+        self.assertRegex(row, r"^\| kc_text \| \d+ \| 1\.5 \| \| \| 1\.0 \| \| 0\.5 \| \d+ \|$")
+        self.assertEqual(total, "| all | | 1.5 | | | 1.0 | | 1.5 | |")
+        self.assertEqual(counted, "The system counted 2.8 minutes of user and system time.")
+
+    def test_crates_are_in_their_order(self) -> None:
+        self.assertEqual(crates_of("# one: none\nb: a\na staticlib: c\n\nc:\n"), ["b", "a", "c"])
+
+
+if __name__ == "__main__":
+    unittest.main()
