@@ -22,6 +22,7 @@ checks=(
     test_expand_kconfig.py
     test_fuzz.py
     test_gate_times.py
+    test_tables.py
 )
 
 failed=()

@@ -48,22 +48,27 @@ def mark_mistakes(crate: str) -> Iterator[str]:
         yield from (f"{shown(edit)}: {crate} defines no {name}" for name in names if name not in defined)
 
 
-def table_of(crate: str) -> str:
-    """The table of a crate below its heading: functions by name, each with its edits."""
+def rows_of(crate: str) -> Dict[str, List[str]]:
+    """What the marks of a crate's edits name, each with its edits."""
     rows: Dict[str, List[str]] = defaultdict(list)
     for edit in edits_of(crate):
         for mark in marks_of(edit):
-            rows[mark].append(f"`{edit.stem}`")
+            rows[mark].append(edit.stem)
+    return rows
+
+
+def table_of(crate: str, rows: Dict[str, List[str]]) -> str:
+    """The table of a crate below its heading, by the names of functions."""
     by_name = sorted(rows, key=lambda mark: (mark.replace("`", "").lower(), mark))
-    lines = [f"| {mark} | {', '.join(rows[mark])} |" for mark in by_name]
+    lines = [f"| {mark} | {', '.join(f'`{edit}`' for edit in rows[mark])} |" for mark in by_name]
     return "\n".join([f"### {crate}\n", "| Function | Edits |", "|---|---|", *lines, ""])
 
 
-def with_tables(page: str, crates: List[str]) -> str:
-    """The page with the tables of the edits, which are all after their heading."""
+def with_tables(page: str, tables: List[str]) -> str:
+    """A page with these tables in place of those after their heading."""
     before, heading, after = page.partition(HEADING)
     introduction = after.partition("### ")[0]
-    return before + heading + introduction + "\n".join(table_of(crate) for crate in crates if edits_of(crate))
+    return before + heading + introduction + "\n".join(tables)
 
 
 def main() -> int:
@@ -73,7 +78,7 @@ def main() -> int:
     crates = crates_of(text_of(ROOT / "crates.txt"))
     mistakes = [mistake for crate in crates for mistake in mark_mistakes(crate)]
     page = text_of(PAGE)
-    wanted = with_tables(page, crates)
+    wanted = with_tables(page, [table_of(crate, rows_of(crate)) for crate in crates if edits_of(crate)])
     if options.write:
         PAGE.write_text(wanted, encoding="utf-8")
     elif page != wanted:
