@@ -8,7 +8,7 @@ use kc_statement::{Keyword, SymbolType};
 use std::alloc::{AllocError, Global};
 
 /// In which way a line has a node use the next.
-#[derive(Clone, Copy, Debug, PartialEq, Eq)]
+#[derive(Clone, Copy, PartialEq, Eq)]
 pub(crate) enum Way {
     /// It is a line of the node's own.
     Own,
@@ -33,7 +33,7 @@ pub(crate) enum Way {
 }
 
 /// The line by which a node uses the next.
-#[derive(Clone, Copy, Debug, PartialEq, Eq)]
+#[derive(Clone, Copy, PartialEq, Eq)]
 pub(crate) struct Cause {
     pub line: usize,
     pub way: Way,

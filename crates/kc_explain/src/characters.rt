@@ -29,7 +29,7 @@ static NAMES: [(char, &str); 22] = [
 ];
 
 /// A character of a text.
-#[derive(Clone, Copy, Debug, PartialEq, Eq)]
+#[derive(Clone, Copy, PartialEq, Eq)]
 pub(crate) struct Spot {
     /// The number of its line, counted from 1.
     pub(crate) line: usize,

@@ -3,7 +3,7 @@
 use std::alloc::{AllocError, Global};
 
 /// What a dollar begins.
-#[derive(Clone, Copy, Debug, PartialEq, Eq)]
+#[derive(Clone, Copy, PartialEq, Eq)]
 pub(crate) enum Dollar<'t> {
     /// A reference to a variable, by its name.
     Reference(&'t str),

@@ -4,7 +4,7 @@ use kc_statement::{Keyword, is_name, is_word};
 use kc_text::{Operator, Token};
 
 /// What a form wants in a place.
-#[derive(Clone, Copy, Debug, PartialEq, Eq)]
+#[derive(Clone, Copy, PartialEq, Eq)]
 pub(crate) enum Wanted {
     Name,
     Title,
@@ -43,7 +43,7 @@ impl Wanted {
 }
 
 /// Where a line goes another way than its form, and what is wanted there.
-#[derive(Clone, Copy, Debug, PartialEq, Eq)]
+#[derive(Clone, Copy, PartialEq, Eq)]
 pub(crate) struct Mistake {
     /// The number of the token, counted from 0. It is that after the last where the line ends too early.
     pub(crate) at: usize,
@@ -201,7 +201,7 @@ impl Form<'_, '_> {
 }
 
 /// What an expression goes on with.
-#[derive(Clone, Copy, Debug, PartialEq, Eq)]
+#[derive(Clone, Copy, PartialEq, Eq)]
 enum Next {
     /// A term, `!` or `(`.
     Operand,
@@ -214,7 +214,7 @@ enum Next {
 }
 
 /// Where the reading of an expression is.
-#[derive(Clone, Copy, Debug)]
+#[derive(Clone, Copy)]
 struct State {
     next: Next,
     /// How many parentheses are open.

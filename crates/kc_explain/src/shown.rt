@@ -8,7 +8,7 @@ use kc_statement::Keyword;
 use kc_tree::{ChoiceProblem, SymbolProblem};
 
 /// A fault that lines show.
-#[derive(Clone, Copy, Debug, PartialEq, Eq)]
+#[derive(Clone, Copy, PartialEq, Eq)]
 pub(crate) enum Fault {
     /// Of a symbol.
     Symbol(SymbolProblem),

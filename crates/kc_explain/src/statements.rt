@@ -8,7 +8,7 @@ use kc_text::{Line, Token};
 use std::alloc::{AllocError, Global};
 
 /// What a line is. Other lines are named by their numbers among all lines, from 0.
-#[derive(Clone, Copy, Debug, PartialEq, Eq)]
+#[derive(Clone, Copy, PartialEq, Eq)]
 pub(crate) struct Statement {
     /// Its first word. The end of a file has none.
     pub keyword: Option<Keyword>,

@@ -7,7 +7,7 @@ use std::alloc::{AllocError, Global};
 use std::collections::BTreeMap;
 
 /// The type of a symbol, and the first line that gives it; of a member of a choice without a type its first `config` line.
-#[derive(Debug, Drop)]
+#[derive(Drop)]
 pub(crate) struct SymbolPlace {
     pub(crate) symbol_type: SymbolType,
     pub(crate) path: Text,

@@ -12,7 +12,7 @@ use std::alloc::{AllocError, Global};
 use std::collections::BTreeSet;
 
 /// Why a default or a range does not fit a type.
-#[derive(Debug, Drop)]
+#[derive(Drop)]
 pub(crate) enum Unfit<'a> {
     /// A text in quotes is no numeral of the type.
     Text(&'a str),

@@ -10,7 +10,7 @@ use kc_text::TextRef;
 use std::str;
 
 /// What a line says.
-#[derive(Debug, Drop)]
+#[derive(Drop)]
 pub(crate) enum LineForm<'a> {
     /// A name has a value.
     Assigned(TextRef<'a>, TextRef<'a>),

@@ -14,7 +14,7 @@ use kc_tree::{SymId, SymbolType, Tree, UserVal};
 use std::alloc::{AllocError, Global};
 
 /// What a line gives.
-#[derive(Debug, Drop)]
+#[derive(Drop)]
 pub(crate) enum Reading {
     /// A value for a symbol.
     Usable(Assign),

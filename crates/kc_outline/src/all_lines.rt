@@ -22,7 +22,7 @@ use kc_text::{Line, Text};
 use std::alloc::{AllocError, Global};
 
 /// Why a line was not added.
-#[derive(Clone, Copy, Debug, PartialEq, Eq)]
+#[derive(Clone, Copy, PartialEq, Eq)]
 enum Stop {
     Problem(LineProblem),
     NoMemory,

@@ -16,7 +16,7 @@ use std::alloc::{AllocError, Global};
 use std::marker::Model;
 
 /// What attributes belong to.
-#[derive(Clone, Copy, Debug, PartialEq, Eq)]
+#[derive(Clone, Copy, PartialEq, Eq)]
 pub(crate) enum Owner {
     /// A definition of a symbol, by its number.
     Definition(SymId, usize),
@@ -29,7 +29,7 @@ pub(crate) enum Owner {
 }
 
 /// A block that is open.
-#[derive(Clone, Copy, Debug, PartialEq, Eq)]
+#[derive(Clone, Copy, PartialEq, Eq)]
 pub(crate) struct OpenBlock {
     pub(crate) id: BlockId,
     /// The word that opened it.

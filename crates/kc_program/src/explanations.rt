@@ -16,7 +16,7 @@ use kc_tree::TreeFault;
 use std::alloc::{AllocError, Global};
 
 /// Whether words are written after the numbers of faults and warnings.
-#[derive(Clone, Copy, Debug, PartialEq, Eq)]
+#[derive(Clone, Copy, PartialEq, Eq)]
 pub enum Wording {
     /// The number alone.
     Number,

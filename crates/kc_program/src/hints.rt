@@ -9,7 +9,7 @@ use crate::variables::is_variable;
 use std::fmt;
 
 /// What is wrong with a word after the files.
-#[derive(Clone, Copy, Debug, PartialEq, Eq)]
+#[derive(Clone, Copy, PartialEq, Eq)]
 pub enum HintKind {
     /// The target takes no CONFIG, and the word has no `=`, so it may be one.
     TakesNoConfig,
@@ -20,7 +20,7 @@ pub enum HintKind {
 }
 
 /// A line that names a word which is no variable, and says what is wrong with it.
-#[derive(Clone, Copy, Debug, Drop)]
+#[derive(Clone, Copy, Drop)]
 pub struct Hint<'a> {
     /// The name of the target.
     target: &'static str,

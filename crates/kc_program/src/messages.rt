@@ -33,7 +33,7 @@ impl Status {
 }
 
 /// Why what the command line asked for was not done.
-#[derive(Debug, Drop)]
+#[derive(Drop)]
 pub enum Fault {
     /// The file of a path cannot be read.
     CannotRead(Text),
@@ -54,7 +54,7 @@ pub enum Fault {
 }
 
 /// A fault, and what is reported of it.
-#[derive(Debug, Drop)]
+#[derive(Drop)]
 pub struct Report {
     pub fault: Fault,
     pub wording: Wording,

@@ -8,7 +8,7 @@ use std::alloc::{AllocError, Global};
 use std::collections::BTreeMap;
 
 /// An explanation as it is written.
-#[derive(Debug, Drop)]
+#[derive(Drop)]
 pub struct Note {
     /// What is written after the number and `: `.
     pub words: String,

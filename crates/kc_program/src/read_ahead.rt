@@ -15,7 +15,7 @@ use std::collections::hash_set::Iter;
 const SOURCE: &str = "source";
 
 /// Which of the files that a text names are read before they are wanted.
-#[derive(Clone, Copy, Debug, PartialEq, Eq)]
+#[derive(Clone, Copy, PartialEq, Eq)]
 pub(crate) enum Reach {
     /// All.
     Everything,

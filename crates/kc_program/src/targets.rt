@@ -5,7 +5,7 @@ ghost use Rattle.kc_program.specs.Targets.{edit_of, query_of};
 use kc_session::Command;
 
 /// What a subcommand writes to standard output.
-#[derive(Clone, Copy, Debug, PartialEq, Eq)]
+#[derive(Clone, Copy, PartialEq, Eq)]
 pub enum Target {
     /// The `.config` text.
     Olddefconfig,

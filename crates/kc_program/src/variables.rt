@@ -6,7 +6,7 @@ ghost use Rattle.kc_program.specs.Variables.{is_name, is_name_byte, variable_of}
 use std::alloc::{AllocFailed, Global};
 
 /// Why words give no variables.
-#[derive(Clone, Copy, Debug, PartialEq, Eq)]
+#[derive(Clone, Copy, PartialEq, Eq)]
 pub enum VariableFault {
     /// A word is not `NAME=VALUE`.
     Malformed,

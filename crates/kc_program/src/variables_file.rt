@@ -16,7 +16,7 @@ use std::alloc::{AllocError, Global};
 const MAX_BYTES: usize = 16_777_216;
 
 /// Why a file gives no variables.
-#[derive(Debug, Drop)]
+#[derive(Drop)]
 pub(crate) enum VariablesFileFault {
     /// It is not read.
     Unread(Fault),

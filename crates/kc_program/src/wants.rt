@@ -10,7 +10,7 @@ use std::alloc::{AllocError, Global};
 const MOST_OPEN: usize = 64;
 
 /// A `source` line that wants a file, by the path of its file and its number.
-#[derive(Debug, Drop)]
+#[derive(Drop)]
 pub struct SourceLine {
     pub path: Text,
     pub line: usize,

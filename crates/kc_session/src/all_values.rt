@@ -12,7 +12,7 @@ use kc_tree::{SymId, SymbolType, Tree, Tri, UserVal};
 use kc_value::User;
 
 /// Which value each bool and each tristate is given that is no member of a choice.
-#[derive(Clone, Copy, Debug, PartialEq, Eq)]
+#[derive(Clone, Copy, PartialEq, Eq)]
 pub(crate) enum AllValue {
     /// n, but y where a line `option allnoconfig_y` names the symbol.
     No,

@@ -19,7 +19,7 @@ const MOST_LINES: u64 = 9_999_999;
 const MOST_DIGITS: usize = 7;
 
 /// What a line asks for.
-#[derive(Debug, Drop)]
+#[derive(Drop)]
 pub(crate) enum Request<'a> {
     /// A command that is this line.
     Whole(Command<'a>),

@@ -15,7 +15,7 @@ use crate::next_line::{LineRead, read_line};
 use std::io::Read;
 
 /// What `read_command` found where the stream stood.
-#[derive(Clone, Copy, PartialEq, Eq, Debug)]
+#[derive(Clone, Copy, PartialEq, Eq)]
 pub(crate) enum CommandRead {
     /// A command, after which more may come.
     Whole,

@@ -9,7 +9,7 @@ use crate::line::LineBuffer;
 use std::io::Read;
 
 /// What `read_line` found where the stream stood.
-#[derive(Clone, Copy, PartialEq, Eq, Debug)]
+#[derive(Clone, Copy, PartialEq, Eq)]
 pub(crate) enum LineRead {
     /// A line with its line feed, after which more may come.
     Ended,

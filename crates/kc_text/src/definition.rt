@@ -7,7 +7,7 @@ use crate::bytes::{behind, behind_blanks, name_len, trimmed};
 use crate::text::TextRef;
 
 /// How a line gives a variable its text.
-#[derive(Clone, Copy, Debug, PartialEq, Eq)]
+#[derive(Clone, Copy, PartialEq, Eq)]
 pub(crate) enum Assignment {
     /// `=`: the text is expanded at each use.
     Later,

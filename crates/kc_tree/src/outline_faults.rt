@@ -11,7 +11,7 @@ use kc_outline::{ChoiceId, Outline};
 use kc_statement::SymId;
 
 /// A fault of a symbol, or of a choice.
-#[derive(Clone, Copy, Debug, PartialEq, Eq)]
+#[derive(Clone, Copy, PartialEq, Eq)]
 pub(crate) enum OutlineFault {
     Symbol(SymbolProblem, SymId),
     Choice(ChoiceProblem, ChoiceId),

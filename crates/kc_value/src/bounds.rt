@@ -10,7 +10,7 @@ use kc_tree::{SymbolType, numeral};
 use std::alloc::{AllocError, Global};
 
 /// The bounds of a range, by the numerals of a symbol's type.
-#[derive(Clone, Copy, Debug, PartialEq, Eq)]
+#[derive(Clone, Copy, PartialEq, Eq)]
 pub struct Bounds {
     pub(crate) low: i128,
     pub(crate) high: i128,
