@@ -5,8 +5,8 @@
 
 The gate runs it, by tools/check_all.sh. The documents are docs/VALUES.md, docs/CHOICES.md, docs/LANGUAGE.md and
 docs/FAULTS.md. Each code block of these is an example, and so is each row of the tables that are named below. What an
-example lacks to be a case stands in the tables of this script: the lines around a fragment, the files that it sources,
-and what is wanted where the document says it in words. An example that can't be a case stands there with the reason.
+example lacks to be a case is in the tables of this script: the lines around a fragment, the files that it sources,
+and what is wanted where the document says it in words. An example that can't be a case is there with the reason.
 The status is 1 where an example has no entry, an entry has no example, or the cases are not those of the documents,
 each named by the document and the line. With --write it writes the cases.
 """

@@ -1,5 +1,5 @@
 #!/usr/bin/env python3
-"""Compares the tables of docs/EDITS.md with the edits of the gate, of which each names its function.
+"""Compares the tables of docs/EDITS.md with the edits of the gate, each with the function that it names.
 
     tools/edit_tables.py [--write]
 

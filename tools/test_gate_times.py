@@ -27,7 +27,7 @@ WORKS: List[Tuple[List[str], str, Optional[Work]]] = [
 
 
 def seen_of(*looks: Tuple[float, List[Process]]) -> Seen:
-    """What is seen below process 1, of which process 2 is a proof of kc_text and 9 an edit."""
+    """What is seen below process 1, where process 2 is a proof of kc_text and 9 the try of an edit."""
     seen = Seen()
     seen.works = {(2, 0): Work("kc_text", "proof"), (9, 0): Work("kc_text", "edits")}
     for now, processes in looks:
