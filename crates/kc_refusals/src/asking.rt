@@ -1,31 +1,25 @@
 //! The nodes of a symbol, as a resolver answers them.
 
-use crate::finding::{Stop, want};
+use crate::finding::{Stop, Wrong, want};
 use kc_tree::Node;
 use kc_value::Resolver;
 
-/// Wants a symbol to have this visibility, and stops where that is out of memory.
-pub(crate) fn want_visibility<R: Resolver>(
+/// Wants a symbol to have this visibility and this value.
+pub(crate) fn want_nodes<R: Resolver>(
     resolver: &mut R,
     name: &str,
-    wanted: &str,
+    visibility: &str,
+    value: &str,
 ) -> Result<(), Stop> {
     let Some(symbol) = resolver.tree().find(name) else {
-        return Err(Stop::Wrong("a symbol is missing"));
+        return Err(Stop::Wrong(Wrong::Missing));
     };
-    let value = resolver.node(Node::Vis(symbol))?;
-    want(value.as_text() == wanted, "another visibility")
-}
-
-/// Wants a symbol to have this value, and stops where that is out of memory.
-pub(crate) fn want_value<R: Resolver>(
-    resolver: &mut R,
-    name: &str,
-    wanted: &str,
-) -> Result<(), Stop> {
-    let Some(symbol) = resolver.tree().find(name) else {
-        return Err(Stop::Wrong("a symbol is missing"));
+    let Ok(found) = resolver.node(Node::Vis(symbol)) else {
+        return Err(Stop::Refused);
     };
-    let value = resolver.node(Node::Val(symbol))?;
-    want(value.as_text() == wanted, "another value")
+    want(found.as_text() == visibility, Wrong::Value)?;
+    let Ok(found) = resolver.node(Node::Val(symbol)) else {
+        return Err(Stop::Refused);
+    };
+    want(found.as_text() == value, Wrong::Value)
 }

@@ -1,37 +1,53 @@
 //! The checks by their words, and what the program writes of them.
 
-use crate::commands::{Edit, Query, check_edit, check_query, check_set_after_list};
 use crate::finding::{Call, Stop};
-use crate::sessions::{check_new_session, check_open};
-use crate::streams::check_run;
-use crate::text_calls::{check_add, check_from_pairs, check_logical_lines};
-use crate::tree_calls::{TreeCall, check_on_tree, check_parse};
+use crate::sessions::{SessionCall, Word, check_session};
+use crate::tables::{ADDITIONS, LINE_READINGS, OPENINGS, PAIR_READINGS};
+use crate::text_calls::{TextCall, Texts, check_texts};
+use crate::tree_calls::{TreeCall, check_parse, check_tree};
 use std::alloc::Global;
 use std::io::{self, Write};
 
-/// The words of all checks, in the order of the layers that the calls belong to.
-const WORDS: [&str; 21] = [
-    "add",
-    "from_pairs",
-    "logical_lines",
-    "parse",
-    "empty",
-    "node",
-    "read_config",
-    "new_session",
-    "open",
-    "set",
-    "load",
-    "merge",
-    "list",
-    "choices",
-    "config",
-    "header",
-    "defconfig",
-    "new",
-    "run",
-    "set_after_list",
-    "set_after_nodes",
+/// A check.
+#[derive(Clone, Copy)]
+enum Check {
+    /// Of calls on texts, each with what it comes to.
+    Texts(&'static [(TextCall, &'static str)]),
+    /// Of `Tree::parse`.
+    Parse,
+    Tree(TreeCall),
+    Session(SessionCall),
+}
+
+/// All checks by their words, in the order of the layers that the calls belong to.
+const CHECKS: [(&str, Check); 21] = [
+    ("add", Check::Texts(&ADDITIONS)),
+    ("from_pairs", Check::Texts(&PAIR_READINGS)),
+    ("logical_lines", Check::Texts(&LINE_READINGS)),
+    ("parse", Check::Parse),
+    ("empty", Check::Tree(TreeCall::Empty)),
+    ("node", Check::Tree(TreeCall::Node)),
+    ("read_config", Check::Tree(TreeCall::ReadConfig)),
+    ("new_session", Check::Tree(TreeCall::NewSession)),
+    ("open", Check::Texts(&OPENINGS)),
+    ("set", Check::Session(SessionCall::Apply(Word::Set))),
+    ("load", Check::Session(SessionCall::Apply(Word::Load))),
+    ("merge", Check::Session(SessionCall::Apply(Word::Merge))),
+    ("list", Check::Session(SessionCall::Apply(Word::List))),
+    ("choices", Check::Session(SessionCall::Apply(Word::Choices))),
+    ("config", Check::Session(SessionCall::Apply(Word::Config))),
+    ("header", Check::Session(SessionCall::Apply(Word::Header))),
+    (
+        "defconfig",
+        Check::Session(SessionCall::Apply(Word::Defconfig)),
+    ),
+    ("new", Check::Session(SessionCall::Apply(Word::New))),
+    ("run", Check::Session(SessionCall::Run)),
+    ("set_after_list", Check::Session(SessionCall::SetAfterList)),
+    (
+        "set_after_nodes",
+        Check::Session(SessionCall::SetAfterNodes),
+    ),
 ];
 
 /// How a run of the program ends.
@@ -60,69 +76,35 @@ impl Ending {
             Ending::Refused => 4,
         }
     }
-}
 
-/// Runs the check of a word of the layers below the session.
-fn check_below(alloc: Global, word: &str) -> Option<Result<Call, Stop>> {
-    match word {
-        "add" => Some(check_add(alloc)),
-        "from_pairs" => Some(check_from_pairs(alloc)),
-        "logical_lines" => Some(check_logical_lines(alloc)),
-        "parse" => Some(check_parse(alloc)),
-        "empty" => Some(check_on_tree(alloc, TreeCall::Empty)),
-        "node" => Some(check_on_tree(alloc, TreeCall::Node)),
-        "read_config" => Some(check_on_tree(alloc, TreeCall::ReadConfig)),
-        _ => None,
+    /// The ending of two checks: that something is wrong counts before all else.
+    fn and(self, other: Ending) -> Ending {
+        match (self, other) {
+            (Ending::Wrong, _) | (_, Ending::Wrong) => Ending::Wrong,
+            (Ending::Answered, other) => other,
+            (other, _) => other,
+        }
     }
 }
 
-/// Runs the check of a word of the session, but for queries.
-fn check_session(alloc: Global, word: &str) -> Option<Result<Call, Stop>> {
-    match word {
-        "new_session" => Some(check_new_session(alloc)),
-        "open" => Some(check_open(alloc)),
-        "set" => Some(check_edit(alloc, Edit::Set)),
-        "load" => Some(check_edit(alloc, Edit::Load)),
-        "merge" => Some(check_edit(alloc, Edit::Merge)),
-        "run" => Some(check_run(alloc)),
-        "set_after_list" => Some(check_set_after_list(alloc, false)),
-        "set_after_nodes" => Some(check_set_after_list(alloc, true)),
-        _ => None,
-    }
-}
-
-/// The query of a word.
-fn query_of(word: &str) -> Option<Query> {
-    match word {
-        "list" => Some(Query::List),
-        "choices" => Some(Query::Choices),
-        "config" => Some(Query::Config),
-        "header" => Some(Query::Header),
-        "defconfig" => Some(Query::Defconfig),
-        "new" => Some(Query::New),
-        _ => None,
-    }
-}
-
-/// Runs the check of a word. There is none of other words.
-fn check(alloc: Global, word: &str) -> Option<Result<Call, Stop>> {
-    if let Some(query) = query_of(word) {
-        return Some(check_query(alloc, query));
-    }
-    match check_below(alloc, word) {
-        Some(result) => Some(result),
-        None => check_session(alloc, word),
+/// Runs a check.
+fn run_check(alloc: Global, check: Check) -> Result<Call, Stop> {
+    let mut texts = Texts::new(alloc)?;
+    match check {
+        Check::Texts(calls) => check_texts(&mut texts, calls),
+        Check::Parse => check_parse(&texts),
+        Check::Tree(call) => check_tree(&texts, call),
+        Check::Session(call) => check_session(&texts, call),
     }
 }
 
 /// Runs the check of a word and writes what it finds. A check that was refused memory of its own finds nothing.
-fn run_word<W: Write>(alloc: Global, word: &str, out: &mut W) -> io::Result<Ending> {
-    let (text, ending) = match check(alloc, word) {
-        None => return Ok(Ending::Usage),
-        Some(Err(Stop::Unprepared)) => return Ok(Ending::Unprepared),
-        Some(Err(Stop::Wrong(wrong))) => (wrong, Ending::Wrong),
-        Some(Ok(Call::Answered)) => ("as it should be", Ending::Answered),
-        Some(Ok(Call::Refused)) => ("as it should be", Ending::Refused),
+fn run_word<W: Write>(alloc: Global, word: &str, check: Check, out: &mut W) -> io::Result<Ending> {
+    let (text, ending) = match run_check(alloc, check) {
+        Ok(Call::Answered) => ("as it should be", Ending::Answered),
+        Ok(Call::Refused) => ("as it should be", Ending::Refused),
+        Err(Stop::Refused | Stop::Unprepared) => return Ok(Ending::Unprepared),
+        Err(Stop::Wrong(wrong)) => (wrong.text(), Ending::Wrong),
     };
     out.write_all(word.as_bytes())?;
     out.write_all(b": ")?;
@@ -137,30 +119,15 @@ pub(crate) fn run_words<W: Write>(
     words: &[String],
     out: &mut W,
 ) -> io::Result<Ending> {
-    if words.is_empty() {
-        return run_all(alloc, out);
+    let is_check = |word: &String| CHECKS.iter().any(|(known, _)| *known == word.as_str());
+    if !words.iter().all(is_check) {
+        return Ok(Ending::Usage);
     }
     let mut ending = Ending::Answered;
-    for word in words {
-        ending = worse(ending, run_word(alloc, word.as_str(), out)?);
+    for (known, check) in CHECKS {
+        if words.is_empty() || words.iter().any(|word| word.as_str() == known) {
+            ending = ending.and(run_word(alloc, known, check, out)?);
+        }
     }
     Ok(ending)
-}
-
-/// Runs all checks.
-fn run_all<W: Write>(alloc: Global, out: &mut W) -> io::Result<Ending> {
-    let mut ending = Ending::Answered;
-    for word in WORDS {
-        ending = worse(ending, run_word(alloc, word, out)?);
-    }
-    Ok(ending)
-}
-
-/// The ending of two checks: that something is wrong counts before all else.
-fn worse(first: Ending, second: Ending) -> Ending {
-    match (first, second) {
-        (Ending::Wrong, _) | (_, Ending::Wrong) => Ending::Wrong,
-        (Ending::Answered, other) => other,
-        (other, _) => other,
-    }
 }

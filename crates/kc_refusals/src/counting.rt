@@ -1,6 +1,5 @@
 //! A reader and a writer that count their calls.
 
-use std::alloc::{AllocError, Global};
 use std::io::{self, Read, Write};
 
 /// The most bytes that a read gives.
@@ -10,22 +9,9 @@ const PIECE: usize = 7;
 #[derive(Drop)]
 pub(crate) struct CountingReader<'a> {
     /// What was not read yet.
-    rest: &'a [u8],
-    calls: u64,
-}
-
-impl<'a> CountingReader<'a> {
-    pub(crate) fn new(bytes: &'a [u8]) -> CountingReader<'a> {
-        CountingReader {
-            rest: bytes,
-            calls: 0,
-        }
-    }
-
+    pub(crate) rest: &'a [u8],
     /// How many reads were made.
-    pub(crate) fn calls(&self) -> u64 {
-        self.calls
-    }
+    pub(crate) calls: u64,
 }
 
 impl Read for CountingReader<'_> {
@@ -39,30 +25,13 @@ impl Read for CountingReader<'_> {
     }
 }
 
-/// Takes all bytes. There is room for them from the start, so it takes no memory later.
+/// Takes all bytes. With room for them from the start it takes no memory later.
 #[derive(Drop)]
 pub(crate) struct CountingWriter {
-    taken: Vec<u8>,
-    calls: u64,
-}
-
-impl CountingWriter {
-    pub(crate) fn new(alloc: Global, room: usize) -> Result<CountingWriter, AllocError> {
-        Ok(CountingWriter {
-            taken: Vec::with_capacity(alloc, room)?,
-            calls: 0,
-        })
-    }
-
-    /// How many writes and flushes were made.
-    pub(crate) fn calls(&self) -> u64 {
-        self.calls
-    }
-
     /// What was written.
-    pub(crate) fn taken(&self) -> &[u8] {
-        self.taken.as_slice()
-    }
+    pub(crate) taken: Vec<u8>,
+    /// How many writes and flushes were made.
+    pub(crate) calls: u64,
 }
 
 impl Write for CountingWriter {

@@ -1,5 +1,5 @@
-//! Makes calls that can be refused memory, and checks what they answer, what stands behind them where they are out of
-//! memory, and that they answer the next time.
+//! Makes calls that can be refused memory, and checks what they answer, what is left where they are out of memory, and
+//! that they answer the next time.
 //!
 //! Each word of the command line names a call, and without words all are made. It writes a line for each, the same
 //! whether the call was refused memory or not. The status is 0 where none was, 4 where one was and all is as it should
@@ -9,12 +9,13 @@
 
 mod asking;
 mod checks;
-mod commands;
 mod counting;
 mod finding;
+mod opening;
 mod sessions;
 mod showing;
 mod streams;
+mod tables;
 mod text_calls;
 mod texts;
 mod tree_calls;
@@ -29,7 +30,7 @@ fn read_words<R: Env + AllocGlobal>(rt: &R) -> io::Result<Vec<String>> {
     Ok(env::args(rt)?.collect(rt.alloc())?)
 }
 
-/// Runs the checks of the words behind the program's name.
+/// Runs the checks of the words after the program's name.
 fn run_checks(rt: &HostRuntime) -> io::Result<Ending> {
     let words = read_words(rt)?;
     match words.as_slice().split_first() {

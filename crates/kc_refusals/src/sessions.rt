@@ -1,17 +1,20 @@
-//! Sessions: how they are made, what they hold, and how they are compared with what they held before.
+//! The calls on sessions: commands, and what a session holds where one is refused.
 
-use crate::finding::{Call, Stop, answered, refused, want};
-use crate::showing::{user_text, warnings_text};
-use crate::text_calls::{sources_of, vars_of, want_fault};
-use crate::texts::{CONFIG, CONFIG_TEXT, DEFAULT_CONFIG_TEXT, USER, WARNINGS};
-use crate::tree_calls::{LOOP, prefix_of, want_loop};
-use bumpalo::Bump;
-use kc_files::{Prefix, Warning};
-use kc_session::{Command, OpenFault, Refusal, Reply, Session, open};
-use kc_text::{Line, Sources, TextFault, TextProblem, Vars, logical_lines};
-use kc_tree::Tree;
+use crate::asking::want_nodes;
+use crate::finding::{Call, Stop, Time, Wrong, made, want};
+use crate::opening::open_top;
+use crate::showing::user_text;
+use crate::streams::check_run;
+use crate::text_calls::Texts;
+use crate::texts::{
+    BODY, BODY_WARNINGS, CHOICES, CONFIG, CONFIG_TEXT, DEFCONFIG, HEADER, LIST, NEW, USER,
+    USER_LOADED, USER_MERGED, USER_SET,
+};
+use crate::tree_calls::want_user;
+use kc_session::{Body, Command, OpenFault, Refusal, Reply, Session};
+use kc_text::TextRef;
 use kc_value::Resolver;
-use std::alloc::Global;
+use std::alloc::{AllocError, Global};
 
 /// What a session held: its user values, which nodes were kept, and the count of evaluations.
 #[derive(Drop)]
@@ -22,7 +25,7 @@ pub(crate) struct Held {
 }
 
 /// What a session holds.
-pub(crate) fn held_by(alloc: Global, session: &Session) -> Result<Held, Stop> {
+pub(crate) fn held_by(alloc: Global, session: &Session) -> Result<Held, AllocError> {
     let mut kept = Vec::new(alloc);
     for node in session.tree().nodes() {
         kept.push(session.is_kept(node))?;
@@ -34,250 +37,173 @@ pub(crate) fn held_by(alloc: Global, session: &Session) -> Result<Held, Stop> {
     })
 }
 
-/// Wants a session to hold what it held before.
-pub(crate) fn want_unchanged(alloc: Global, session: &Session, before: &Held) -> Result<(), Stop> {
+/// Wants a session to hold what it held before. Where more nodes may be kept than before, each of these was counted.
+pub(crate) fn want_held(
+    alloc: Global,
+    session: &Session,
+    before: &Held,
+    may_keep_more: bool,
+) -> Result<(), Stop> {
     let now = held_by(alloc, session)?;
-    want(
-        now.user.as_str() == before.user.as_str(),
-        "other user values",
-    )?;
-    want(now.evals == before.evals, "another count of evaluations")?;
-    want(
-        now.kept.as_slice() == before.kept.as_slice(),
-        "other nodes are kept",
-    )
-}
-
-/// Wants a session to hold what it held before, but for nodes that came to be kept, each of which was counted.
-pub(crate) fn want_grown(alloc: Global, session: &Session, before: &Held) -> Result<(), Stop> {
-    let now = held_by(alloc, session)?;
-    want(
-        now.user.as_str() == before.user.as_str(),
-        "other user values",
-    )?;
-    let mut evals = before.evals;
+    let is_same = now.user.as_str() == before.user.as_str();
+    want(is_same, Wrong::UserValues)?;
+    want(now.kept.len() == before.kept.len(), Wrong::Kept)?;
+    let mut added: u64 = 0;
     for (was_kept, is_kept) in before.kept.iter().zip(now.kept.iter()) {
-        want(*is_kept || !*was_kept, "a node is not kept any more")?;
+        want(*is_kept || !*was_kept, Wrong::Kept)?;
         if *is_kept && !*was_kept {
-            evals = evals.saturating_add(1);
+            added = added.saturating_add(1);
         }
     }
-    want(now.evals == evals, "another count of evaluations")
+    want(may_keep_more || added == 0, Wrong::Kept)?;
+    let evals = before.evals.saturating_add(added);
+    want(now.evals == evals, Wrong::Evaluations)
 }
 
-/// Wants a session to have these user values.
-pub(crate) fn want_user(alloc: Global, session: &Session, wanted: &str) -> Result<(), Stop> {
-    let user = user_text(alloc, session.tree(), session.user())?;
-    want(user.as_str() == wanted, "other user values")
-}
-
-/// Wants this reply to a command, and stops where it is out of memory.
+/// Wants this reply to a command.
 pub(crate) fn want_reply(
     session: &mut Session,
     command: Command<'_>,
     wanted: &str,
 ) -> Result<(), Stop> {
     match session.apply(command) {
-        Reply::Done(text) => want(text.as_str() == wanted, "another reply"),
-        Reply::Refused(Refusal::NoMemory) => Err(Stop::Unprepared),
-        Reply::Refused(_) => Err(Stop::Wrong("a refusal")),
+        Reply::Done(text) => want(text.as_str() == wanted, Wrong::Reply),
+        Reply::Refused(Refusal::NoMemory) => Err(Stop::Refused),
+        Reply::Refused(_) => Err(Stop::Wrong(Wrong::Refusal)),
     }
 }
 
-/// The texts and the variables of the Kconfig.
+/// The word of a command that can be refused memory.
+#[derive(Clone, Copy)]
+pub(crate) enum Word {
+    Set,
+    Load,
+    Merge,
+    List,
+    Choices,
+    Config,
+    Header,
+    Defconfig,
+    New,
+}
+
+/// A command, and what it comes to in the session of the Kconfig.
 #[derive(Drop)]
-struct Texts {
-    sources: Sources,
-    vars: Vars,
-    prefix: Prefix,
+struct CommandRow {
+    command: Command<'static>,
+    reply: &'static str,
+    /// The user values after it.
+    user: &'static str,
+    /// Whether it is a query, after which more nodes may be kept, also where it is refused.
+    is_query: bool,
 }
 
-/// The texts of the Kconfig, with a file that has a loop, and one that sources a file that is not there.
-fn texts_of(alloc: Global) -> Result<Texts, Stop> {
-    let mut sources = sources_of(alloc)?;
-    sources.add("loop", LOOP)?;
-    sources.add("hole", "config A\n\tbool\nsource \"hole/$(BUS)\"\n")?;
-    Ok(Texts {
-        sources,
-        vars: vars_of(alloc)?,
-        prefix: prefix_of(alloc)?,
-    })
-}
-
-/// Opens a top file of the texts.
-fn open_top(
-    alloc: Global,
-    texts: &Texts,
-    top: &str,
-    config: &[u8],
-) -> Result<(Session, Vec<Warning>), OpenFault> {
-    open(
-        alloc,
-        &texts.sources,
-        &texts.vars,
-        top,
-        &texts.prefix,
-        config,
-    )
-}
-
-/// A session of the Kconfig with the user values of the checks.
-pub(crate) fn opened(alloc: Global) -> Result<Session, Stop> {
-    let texts = texts_of(alloc)?;
-    match open_top(alloc, &texts, "Kconfig", CONFIG.as_bytes()) {
-        Ok((session, _)) => Ok(session),
-        Err(fault) => Err(Stop::from(fault)),
-    }
-}
-
-/// A session of one file, without user values.
-pub(crate) fn opened_alone(alloc: Global, kconfig: &str) -> Result<Session, Stop> {
-    let mut sources = Sources::new(alloc);
-    sources.add("Kconfig", kconfig)?;
-    let prefix = prefix_of(alloc)?;
-    match open(alloc, &sources, &Vars::none(alloc), "Kconfig", &prefix, b"") {
-        Ok((session, _)) => Ok(session),
-        Err(fault) => Err(Stop::from(fault)),
-    }
-}
-
-/// Checks `open`: of the Kconfig, of one that sources a file that is not there (K08), and of a loop (K19).
-pub(crate) fn check_open(alloc: Global) -> Result<Call, Stop> {
-    let texts = texts_of(alloc)?;
-    let whole = open_whole(alloc, &texts)?;
-    let hole = open_hole(alloc, &texts)?;
-    let ring = open_loop(alloc, &texts)?;
-    Ok(whole.and(hole).and(ring))
-}
-
-/// Opens the Kconfig.
-fn open_whole(alloc: Global, texts: &Texts) -> Result<Call, Stop> {
-    match open_top(alloc, texts, "Kconfig", CONFIG.as_bytes()) {
-        Ok((mut session, warnings)) => {
-            answered(want_opened(alloc, &mut session, warnings.as_slice()))
+impl Word {
+    fn row(self) -> CommandRow {
+        let body = Body::new(BODY.as_bytes());
+        let (command, reply, user) = match self {
+            Word::Set => (
+                Command::Set(TextRef::new("S"), TextRef::new("x")),
+                "",
+                USER_SET,
+            ),
+            Word::Load => (Command::Load(body), BODY_WARNINGS, USER_LOADED),
+            Word::Merge => (Command::Merge(body), BODY_WARNINGS, USER_MERGED),
+            Word::List => (Command::List, LIST, USER),
+            Word::Choices => (Command::Choices, CHOICES, USER),
+            Word::Config => (Command::Config, CONFIG_TEXT, USER),
+            Word::Header => (Command::Header, HEADER, USER),
+            Word::Defconfig => (Command::Defconfig, DEFCONFIG, USER),
+            Word::New => (Command::New, NEW, USER),
+        };
+        CommandRow {
+            command,
+            reply,
+            user,
+            is_query: !matches!(self, Word::Set | Word::Load | Word::Merge),
         }
-        Err(OpenFault::NoMemory) => refused(open_again(alloc, texts)),
-        Err(_) => Err(Stop::Wrong("a fault")),
     }
 }
 
-/// Opens the Kconfig after it was refused.
-fn open_again(alloc: Global, texts: &Texts) -> Result<(), Stop> {
-    match open_top(alloc, texts, "Kconfig", CONFIG.as_bytes()) {
-        Ok((mut session, warnings)) => want_opened(alloc, &mut session, warnings.as_slice()),
-        Err(fault) => Err(Stop::from(fault)),
+/// A call on a session.
+#[derive(Clone, Copy)]
+pub(crate) enum SessionCall {
+    /// `apply` of the command of a word.
+    Apply(Word),
+    /// `run`.
+    Run,
+    /// `set S x` after `list`.
+    SetAfterList,
+    /// The same, with calls of `node` for S between the two.
+    SetAfterNodes,
+}
+
+/// Checks a call on a session.
+pub(crate) fn check_session(texts: &Texts, call: SessionCall) -> Result<Call, Stop> {
+    let (top, config) = match call {
+        SessionCall::SetAfterList | SessionCall::SetAfterNodes => ("string", ""),
+        SessionCall::Apply(_) | SessionCall::Run => ("Kconfig", CONFIG),
+    };
+    match open_top(texts, top, config) {
+        Ok((mut session, _)) => check_opened(texts.alloc, &mut session, call),
+        Err(OpenFault::NoMemory) => Err(Stop::Unprepared),
+        Err(_) => Err(Stop::Wrong(Wrong::Fault)),
     }
 }
 
-/// Wants the session of the Kconfig, as it is opened, and the warnings of the `.config`.
-fn want_opened(alloc: Global, session: &mut Session, warnings: &[Warning]) -> Result<(), Stop> {
-    want(
-        warnings_text(alloc, warnings)?.as_str() == WARNINGS,
-        "other warnings",
+/// Checks a call on a session that was opened for it.
+fn check_opened(alloc: Global, session: &mut Session, call: SessionCall) -> Result<Call, Stop> {
+    match call {
+        SessionCall::Apply(word) => check_command(alloc, session, word),
+        SessionCall::Run => check_run(alloc, session),
+        SessionCall::SetAfterList => check_set_after_list(session, false),
+        SessionCall::SetAfterNodes => check_set_after_list(session, true),
+    }
+}
+
+/// Checks a command in a session of which some nodes are kept.
+fn check_command(alloc: Global, session: &mut Session, word: Word) -> Result<Call, Stop> {
+    want_reply(
+        session,
+        Command::Show(TextRef::new("S")),
+        "S type=string value=\"u\" vis=y can=- user=\"u\"\n",
     )?;
-    want_user(alloc, session, USER)?;
-    want(session.evals() == 0, "an evaluation")?;
-    want_reply(session, Command::Config, CONFIG_TEXT)
+    let before = held_by(alloc, session)?;
+    made(|time| make_command(alloc, session, word, &before, time))
 }
 
-/// Opens a file that sources one that is not there.
-fn open_hole(alloc: Global, texts: &Texts) -> Result<Call, Stop> {
-    match open_top(alloc, texts, "hole", b"") {
-        Err(OpenFault::NoMemory) => refused(open_hole_again(alloc, texts)),
-        Err(fault) => answered(want_hole(&fault)),
-        Ok(_) => Err(Stop::Wrong("no fault")),
+/// Makes a command. Where an edit is refused, nothing has changed; where a query is, what was kept stays, and so do the
+/// user values.
+fn make_command(
+    alloc: Global,
+    session: &mut Session,
+    word: Word,
+    before: &Held,
+    time: Time,
+) -> Result<(), Stop> {
+    let row = word.row();
+    if let Time::Second = time {
+        want_held(alloc, session, before, row.is_query)?;
     }
-}
-
-/// Opens it after it was refused.
-fn open_hole_again(alloc: Global, texts: &Texts) -> Result<(), Stop> {
-    match open_top(alloc, texts, "hole", b"") {
-        Err(fault) => want_hole(&fault),
-        Ok(_) => Err(Stop::Wrong("no fault")),
+    want_reply(session, row.command, row.reply)?;
+    if row.is_query {
+        want_held(alloc, session, before, true)?;
     }
+    want_user(alloc, session.tree(), session.user(), row.user)
 }
 
-/// Wants the fault of a file that is not there, with its path.
-fn want_hole(fault: &OpenFault) -> Result<(), Stop> {
-    match fault {
-        OpenFault::Text(fault) => {
-            want_fault(fault, 8, "hole", 3)?;
-            want(wanted_path(fault) == "hole/Bus", "another wanted path")
-        }
-        OpenFault::NoMemory => Err(Stop::Unprepared),
-        _ => Err(Stop::Wrong("another fault")),
+/// Checks `set S x` after `list`. Where the nodes of S, which are kept then, are asked between these two, that takes no
+/// memory: the edit is refused at the same request.
+fn check_set_after_list(session: &mut Session, asks_nodes: bool) -> Result<Call, Stop> {
+    want_reply(
+        session,
+        Command::List,
+        "S type=string value=\"d\" vis=y can=- user=-\n",
+    )?;
+    let before = session.evals();
+    if asks_nodes {
+        want_nodes(session, "S", "y", "d")?;
     }
-}
-
-/// The path of the file that is not there.
-fn wanted_path(fault: &TextFault) -> &str {
-    match fault {
-        TextFault::At(TextProblem::MissingSource(path), _, _) => path.as_str(),
-        _ => "",
-    }
-}
-
-/// Opens a file with a loop.
-fn open_loop(alloc: Global, texts: &Texts) -> Result<Call, Stop> {
-    match open_top(alloc, texts, "loop", b"") {
-        Err(OpenFault::NoMemory) => refused(open_loop_again(alloc, texts)),
-        Err(fault) => answered(want_open_loop(&fault)),
-        Ok(_) => Err(Stop::Wrong("no fault")),
-    }
-}
-
-/// Opens it after it was refused.
-fn open_loop_again(alloc: Global, texts: &Texts) -> Result<(), Stop> {
-    match open_top(alloc, texts, "loop", b"") {
-        Err(fault) => want_open_loop(&fault),
-        Ok(_) => Err(Stop::Wrong("no fault")),
-    }
-}
-
-/// Wants the fault of a loop.
-fn want_open_loop(fault: &OpenFault) -> Result<(), Stop> {
-    match fault {
-        OpenFault::Tree(fault) => want_loop(fault),
-        OpenFault::NoMemory => Err(Stop::Unprepared),
-        _ => Err(Stop::Wrong("another fault")),
-    }
-}
-
-/// Checks `Session::new`: where it is refused, the tree and the prefix that it gives back make a session.
-pub(crate) fn check_new_session(alloc: Global) -> Result<Call, Stop> {
-    let texts = texts_of(alloc)?;
-    let arena = Bump::new(alloc);
-    let lines = logical_lines(alloc, &arena, &texts.sources, &texts.vars, "Kconfig")?;
-    new_of_lines(alloc, lines.as_slice(), texts.prefix.copy(alloc)?)
-}
-
-/// Makes a session of the tree of lines.
-fn new_of_lines(alloc: Global, lines: &[Line<'_>], prefix: Prefix) -> Result<Call, Stop> {
-    match Tree::parse(alloc, lines) {
-        Ok(tree) => new_of_tree(alloc, tree, prefix),
-        Err(fault) => Err(Stop::from(fault)),
-    }
-}
-
-/// Makes a session of a tree.
-fn new_of_tree(alloc: Global, tree: Tree, prefix: Prefix) -> Result<Call, Stop> {
-    match Session::new(alloc, tree, prefix) {
-        Ok(mut session) => answered(want_new(alloc, &mut session)),
-        Err((tree, prefix, _)) => refused(new_again(alloc, tree, prefix)),
-    }
-}
-
-/// Makes a session of what was given back.
-fn new_again(alloc: Global, tree: Tree, prefix: Prefix) -> Result<(), Stop> {
-    match Session::new(alloc, tree, prefix) {
-        Ok(mut session) => want_new(alloc, &mut session),
-        Err(_) => Err(Stop::Unprepared),
-    }
-}
-
-/// Wants a session of the Kconfig without user values.
-fn want_new(alloc: Global, session: &mut Session) -> Result<(), Stop> {
-    want_user(alloc, session, "")?;
-    want(session.evals() == 0, "an evaluation")?;
-    want_reply(session, Command::Config, DEFAULT_CONFIG_TEXT)
+    want(session.evals() == before, Wrong::Evaluations)?;
+    made(|_time| want_reply(session, Word::Set.row().command, ""))
 }

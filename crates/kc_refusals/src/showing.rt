@@ -2,7 +2,7 @@
 
 use kc_files::{Assign, Warning};
 use kc_text::{Line, LineKind, Operator, Token};
-use kc_tree::{ChoiceId, Node, Tree, UserVal};
+use kc_tree::{Node, Tree, UserVal};
 use kc_value::{User, tri_letter};
 use std::alloc::{AllocError, Global};
 
@@ -37,23 +37,17 @@ fn push_token(out: &mut String, token: &Token<'_>) -> Result<(), AllocError> {
     out.push_str(after)
 }
 
-/// Appends the help text of a line that has one.
-fn push_help(alloc: Global, out: &mut String, line: &Line<'_>) -> Result<(), AllocError> {
-    if let Some(help) = line.help() {
-        let help = help.to_text(alloc)?;
-        out.push_str(format!(in alloc; " {{{help}}}")?.as_str())?;
-    }
-    Ok(())
-}
-
-/// Appends a line, as `texts::LINES` has it.
+/// Appends a line, as `texts::LINES` has it: with its help text, where it has one.
 fn push_line(alloc: Global, out: &mut String, line: &Line<'_>) -> Result<(), AllocError> {
     let (path, number) = (line.path(), line.number());
     out.push_str(format!(in alloc; "{path}:{number}")?.as_str())?;
     for token in line.tokens() {
         push_token(out, token)?;
     }
-    push_help(alloc, out, line)?;
+    if let Some(help) = line.help() {
+        let help = help.to_text(alloc)?;
+        out.push_str(format!(in alloc; " {{{help}}}")?.as_str())?;
+    }
     if line.kind() == LineKind::EndOfFile {
         out.push_str(" end")?;
     }
@@ -69,15 +63,7 @@ pub(crate) fn lines_text(alloc: Global, lines: &[Line<'_>]) -> Result<String, Al
     Ok(out)
 }
 
-/// Appends a word behind a space, or the first one.
-fn push_word(out: &mut String, word: &str) -> Result<(), AllocError> {
-    if !out.is_empty() {
-        out.push_str(" ")?;
-    }
-    out.push_str(word)
-}
-
-/// Appends a user value behind the name of its symbol.
+/// Appends a line with a user value after the name of its symbol.
 fn push_value(
     alloc: Global,
     out: &mut String,
@@ -88,42 +74,33 @@ fn push_value(
         UserVal::Tri(tri) => tri_letter(*tri),
         UserVal::Text(text) => text.as_str(),
     };
-    push_word(out, format!(in alloc; "{name}={value}")?.as_str())
+    out.push_str(format!(in alloc; "{name}={value}\n")?.as_str())
 }
 
-/// Appends warnings: the line and the number of each.
-fn push_warnings(alloc: Global, out: &mut String, warnings: &[Warning]) -> Result<(), AllocError> {
-    for warning in warnings {
-        let (line, number) = (warning.line, warning.kind.number());
-        push_word(out, format!(in alloc; "{line}:{number}")?.as_str())?;
-    }
-    Ok(())
-}
-
-/// Warnings, as `texts::WARNINGS` has them.
-pub(crate) fn warnings_text(alloc: Global, warnings: &[Warning]) -> Result<String, AllocError> {
-    let mut out = String::new(alloc);
-    push_warnings(alloc, &mut out, warnings)?;
-    Ok(out)
-}
-
-/// What was read of a `.config`, as `texts::READING` has it.
-pub(crate) fn reading_text(
+/// The values that were read of a `.config`, as `texts::ASSIGNS` has them.
+pub(crate) fn assigns_text(
     alloc: Global,
     tree: &Tree,
     assigns: &[Assign],
-    warnings: &[Warning],
 ) -> Result<String, AllocError> {
     let mut out = String::new(alloc);
     for assign in assigns {
         push_value(alloc, &mut out, tree.name(assign.symbol), &assign.value)?;
     }
-    out.push_str(" |")?;
-    push_warnings(alloc, &mut out, warnings)?;
     Ok(out)
 }
 
-/// Appends what the user gave of a node: the value of its symbol, or the chosen member of its choice.
+/// Warnings, as `texts::WARNINGS` has them.
+pub(crate) fn warnings_text(alloc: Global, warnings: &[Warning]) -> Result<String, AllocError> {
+    let mut out = String::new(alloc);
+    for warning in warnings {
+        let (line, number) = (warning.line, warning.kind.number());
+        out.push_str(format!(in alloc; "{line}:{number}\n")?.as_str())?;
+    }
+    Ok(out)
+}
+
+/// Appends a line with what the user gave of a node: the value of its symbol, or the chosen member of its choice.
 fn push_given(
     alloc: Global,
     out: &mut String,
@@ -137,22 +114,14 @@ fn push_given(
             None => Ok(()),
         },
         Node::Sel(choice) => match user.chosen(choice) {
-            Some(member) => push_chosen(alloc, out, choice, tree.name(member)),
+            Some(member) => {
+                let (number, name) = (choice.0, tree.name(member));
+                out.push_str(format!(in alloc; "{number}={name}\n")?.as_str())
+            }
             None => Ok(()),
         },
         Node::Vis(_) | Node::Mode(_) => Ok(()),
     }
-}
-
-/// Appends the chosen member of a choice behind its number.
-fn push_chosen(
-    alloc: Global,
-    out: &mut String,
-    choice: ChoiceId,
-    name: &str,
-) -> Result<(), AllocError> {
-    let number = choice.0;
-    push_word(out, format!(in alloc; "{number}={name}")?.as_str())
 }
 
 /// The user values and the chosen members, as `texts::USER` has them.

@@ -1,205 +1,117 @@
-//! The calls of kc_text: what sources, variables and lines are where memory is refused.
+//! The calls on texts: what sources, variables and lines are where memory is refused, and what `open` gives.
 
-use crate::finding::{Call, Stop, answered, refused, want};
+use crate::finding::{Call, Stop, Time, Wrong, made, own, want};
+use crate::opening::want_open;
 use crate::showing::lines_text;
-use crate::texts::{DRIVERS, DRIVERS_PATH, KCONFIG, LINES, OTHER_DRIVERS, OTHER_LINES, PAIRS};
+use crate::texts::{FILES, PAIRS};
 use bumpalo::Bump;
-use kc_text::{Line, Sources, TextFault, TextProblem, Vars, logical_lines};
+use kc_files::Prefix;
+use kc_text::{Sources, TextFault, TextProblem, Vars, logical_lines};
 use std::alloc::Global;
 
-/// Adds the files of the Kconfig.
-fn add_files(sources: &mut Sources) -> Result<(), TextFault> {
-    sources.add("Kconfig", KCONFIG)?;
-    sources.add(DRIVERS_PATH, DRIVERS)
+/// What the calls are made on.
+#[derive(Drop)]
+pub(crate) struct Texts {
+    pub(crate) alloc: Global,
+    pub(crate) sources: Sources,
+    pub(crate) vars: Vars,
+    pub(crate) prefix: Prefix,
 }
 
-/// The sources of the Kconfig.
-pub(crate) fn sources_of(alloc: Global) -> Result<Sources, TextFault> {
-    let mut sources = Sources::new(alloc);
-    match add_files(&mut sources) {
-        Ok(()) => Ok(sources),
-        Err(fault) => Err(fault),
-    }
-}
-
-/// The variables that are passed in.
-pub(crate) fn vars_of(alloc: Global) -> Result<Vars, TextFault> {
-    Vars::from_pairs(alloc, PAIRS.as_slice())
-}
-
-/// Wants these lines.
-fn compare_lines(alloc: Global, lines: &[Line<'_>], wanted: &str) -> Result<(), Stop> {
-    let found = lines_text(alloc, lines)?;
-    want(found.as_str() == wanted, "other lines")
-}
-
-/// Wants a file to have these lines.
-fn want_lines(
-    alloc: Global,
-    sources: &Sources,
-    vars: &Vars,
-    top: &str,
-    wanted: &str,
-) -> Result<(), Stop> {
-    let arena = Bump::new(alloc);
-    let lines = logical_lines(alloc, &arena, sources, vars, top)?;
-    compare_lines(alloc, lines.as_slice(), wanted)
-}
-
-/// Checks `Sources::add` in the place of a file: where it is refused, the sources are as they were.
-pub(crate) fn check_add(alloc: Global) -> Result<Call, Stop> {
-    let mut sources = sources_of(alloc)?;
-    let vars = vars_of(alloc)?;
-    let new = add_new(alloc, &mut sources, &vars)?;
-    let replaced = replace(alloc, &mut sources, &vars)?;
-    Ok(new.and(replaced))
-}
-
-/// Adds a file of a new path.
-fn add_new(alloc: Global, sources: &mut Sources, vars: &Vars) -> Result<Call, Stop> {
-    match sources.add("other", "config X\n") {
-        Ok(()) => answered(want_lines(
+impl Texts {
+    /// The files, the variables and the prefix of the checks.
+    pub(crate) fn new(alloc: Global) -> Result<Texts, Stop> {
+        let mut sources = Sources::new(alloc);
+        for (path, text) in FILES {
+            sources.add(path, text)?;
+        }
+        Ok(Texts {
             alloc,
             sources,
-            vars,
-            "other",
-            "other:1 config X\nother:2 end\n",
-        )),
-        Err(TextFault::NoMemory) => refused(add_new_again(alloc, sources, vars)),
-        Err(TextFault::At(_, _, _)) => Err(Stop::Wrong("a fault")),
+            vars: Vars::from_pairs(alloc, PAIRS.as_slice())?,
+            prefix: Prefix::new(alloc, "CONFIG_")?,
+        })
     }
 }
 
-/// Adds a file of a new path after it was refused: it was not there, and the others are as they were.
-fn add_new_again(alloc: Global, sources: &mut Sources, vars: &Vars) -> Result<(), Stop> {
-    want_lines(alloc, sources, vars, "Kconfig", LINES)?;
-    want_missing(alloc, sources, vars, "other")?;
-    sources.add("other", "config X\n")?;
-    want_lines(
-        alloc,
-        sources,
-        vars,
-        "other",
-        "other:1 config X\nother:2 end\n",
-    )
+/// Top files, each with its lines or its fault.
+pub(crate) type Tops = &'static [(&'static str, &'static str)];
+
+/// A call on texts.
+#[derive(Clone, Copy)]
+pub(crate) enum TextCall {
+    /// `Sources::add` of a path and a text. Where it is refused, the top files are as they were.
+    Add(&'static str, &'static str, Tops),
+    /// `Vars::from_pairs`.
+    FromPairs(&'static [(&'static str, &'static str)]),
+    /// `logical_lines` of a top file.
+    LogicalLines(&'static str),
+    /// `open` of a top file, with a `.config`.
+    Open(&'static str, &'static str),
 }
 
-/// Wants no file of this path among the sources.
-fn want_missing(alloc: Global, sources: &Sources, vars: &Vars, path: &str) -> Result<(), Stop> {
-    let arena = Bump::new(alloc);
-    match logical_lines(alloc, &arena, sources, vars, path) {
-        Err(TextFault::At(TextProblem::MissingSource(_), _, _)) => Ok(()),
-        Err(TextFault::NoMemory) => Err(Stop::Unprepared),
-        Ok(_) | Err(_) => Err(Stop::Wrong("a file that was refused is there")),
+/// Checks calls, each with what it comes to: the lines that there are then, the `.config` of the session that is
+/// opened, or the fault. Where one is refused, the texts still give that.
+pub(crate) fn check_texts(
+    texts: &mut Texts,
+    calls: &[(TextCall, &'static str)],
+) -> Result<Call, Stop> {
+    let mut call = Call::Answered;
+    for (text_call, wanted) in calls {
+        call = call.and(made(|time| make_text_call(texts, *text_call, wanted, time))?);
+    }
+    Ok(call)
+}
+
+/// Makes a call on texts.
+fn make_text_call(texts: &mut Texts, call: TextCall, wanted: &str, time: Time) -> Result<(), Stop> {
+    match call {
+        TextCall::Add(path, text, tops) => {
+            if let Time::Second = time {
+                want_tops(texts, tops)?;
+            }
+            texts.sources.add(path, text)?;
+            own(want_lines(texts, &texts.vars, path, wanted))
+        }
+        TextCall::FromPairs(pairs) => match Vars::from_pairs(texts.alloc, pairs) {
+            Ok(vars) => own(want_lines(texts, &vars, "Kconfig", wanted)),
+            Err(fault) => want_text_fault(texts.alloc, &fault, wanted),
+        },
+        TextCall::LogicalLines(top) => want_lines(texts, &texts.vars, top, wanted),
+        TextCall::Open(top, config) => want_open(texts, top, config, wanted),
     }
 }
 
-/// Adds a file in the place of another one.
-fn replace(alloc: Global, sources: &mut Sources, vars: &Vars) -> Result<Call, Stop> {
-    match sources.add(DRIVERS_PATH, OTHER_DRIVERS) {
-        Ok(()) => answered(want_lines(alloc, sources, vars, DRIVERS_PATH, OTHER_LINES)),
-        Err(TextFault::NoMemory) => refused(replace_again(alloc, sources, vars)),
-        Err(TextFault::At(_, _, _)) => Err(Stop::Wrong("a fault")),
+/// Wants the lines or the faults of top files.
+fn want_tops(texts: &Texts, tops: Tops) -> Result<(), Stop> {
+    for (top, wanted) in tops {
+        want_lines(texts, &texts.vars, top, wanted)?;
+    }
+    Ok(())
+}
+
+/// Wants the lines or the fault of a top file, with these variables in place of those of the texts.
+fn want_lines(texts: &Texts, vars: &Vars, top: &str, wanted: &str) -> Result<(), Stop> {
+    let arena = Bump::new(texts.alloc);
+    match logical_lines(texts.alloc, &arena, &texts.sources, vars, top) {
+        Ok(lines) => {
+            let found = lines_text(texts.alloc, lines.as_slice())?;
+            want(found.as_str() == wanted, Wrong::Lines)
+        }
+        Err(fault) => want_text_fault(texts.alloc, &fault, wanted),
     }
 }
 
-/// Adds a file in the place of another one after it was refused: the other one was still there.
-fn replace_again(alloc: Global, sources: &mut Sources, vars: &Vars) -> Result<(), Stop> {
-    want_lines(alloc, sources, vars, "Kconfig", LINES)?;
-    sources.add(DRIVERS_PATH, OTHER_DRIVERS)?;
-    want_lines(alloc, sources, vars, DRIVERS_PATH, OTHER_LINES)
-}
-
-/// Checks `Vars::from_pairs`, also of a text with a line feed, which is K02.
-pub(crate) fn check_from_pairs(alloc: Global) -> Result<Call, Stop> {
-    let sources = sources_of(alloc)?;
-    let good = check_good_pairs(alloc, &sources)?;
-    Ok(good.and(check_bad_pair(alloc)?))
-}
-
-/// Passes in the variables of the Kconfig.
-fn check_good_pairs(alloc: Global, sources: &Sources) -> Result<Call, Stop> {
-    match vars_of(alloc) {
-        Ok(vars) => answered(want_lines(alloc, sources, &vars, "Kconfig", LINES)),
-        Err(TextFault::NoMemory) => refused(want_pairs(alloc, sources)),
-        Err(TextFault::At(_, _, _)) => Err(Stop::Wrong("a fault")),
-    }
-}
-
-/// Wants the variables of the pairs.
-fn want_pairs(alloc: Global, sources: &Sources) -> Result<(), Stop> {
-    let vars = vars_of(alloc)?;
-    want_lines(alloc, sources, &vars, "Kconfig", LINES)
-}
-
-/// Passes in a variable whose text has a line feed.
-fn check_bad_pair(alloc: Global) -> Result<Call, Stop> {
-    match bad_pair(alloc) {
-        Err(TextFault::NoMemory) => refused(match bad_pair(alloc) {
-            Err(fault) => want_fault(&fault, 2, "BAD", 0),
-            Ok(_) => Err(Stop::Wrong("no fault")),
-        }),
-        Err(fault) => answered(want_fault(&fault, 2, "BAD", 0)),
-        Ok(_) => Err(Stop::Wrong("no fault")),
-    }
-}
-
-fn bad_pair(alloc: Global) -> Result<Vars, TextFault> {
-    Vars::from_pairs(alloc, [("A", "a"), ("BAD", "a\nb"), ("C", "\n")].as_slice())
-}
-
-/// Wants this fault of a text.
-pub(crate) fn want_fault(
-    fault: &TextFault,
-    number: u8,
-    path: &str,
-    line: usize,
-) -> Result<(), Stop> {
-    match fault {
-        TextFault::At(problem, at, number_of_line) => want(
-            problem.number() == number && at.as_str() == path && *number_of_line == line,
-            "another fault",
-        ),
-        TextFault::NoMemory => Err(Stop::Unprepared),
-    }
-}
-
-/// Checks `logical_lines`: where it is refused, sources and variables still give the lines. Also of a file that sources
-/// itself, which is K09.
-pub(crate) fn check_logical_lines(alloc: Global) -> Result<Call, Stop> {
-    let mut sources = sources_of(alloc)?;
-    let vars = vars_of(alloc)?;
-    sources.add("ring", "config A\nsource \"ring\"\n")?;
-    let lines = check_lines(alloc, &sources, &vars)?;
-    let ring = check_ring(alloc, &sources, &vars)?;
-    Ok(lines.and(ring))
-}
-
-/// Reads the lines of the Kconfig.
-fn check_lines(alloc: Global, sources: &Sources, vars: &Vars) -> Result<Call, Stop> {
-    let arena = Bump::new(alloc);
-    match logical_lines(alloc, &arena, sources, vars, "Kconfig") {
-        Ok(lines) => answered(compare_lines(alloc, lines.as_slice(), LINES)),
-        Err(TextFault::NoMemory) => refused(want_lines(alloc, sources, vars, "Kconfig", LINES)),
-        Err(TextFault::At(_, _, _)) => Err(Stop::Wrong("a fault")),
-    }
-}
-
-/// Reads the lines of a file that sources itself.
-fn check_ring(alloc: Global, sources: &Sources, vars: &Vars) -> Result<Call, Stop> {
-    let arena = Bump::new(alloc);
-    match logical_lines(alloc, &arena, sources, vars, "ring") {
-        Err(TextFault::NoMemory) => refused(want_ring(alloc, sources, vars)),
-        Err(fault) => answered(want_fault(&fault, 9, "ring", 2)),
-        Ok(_) => Err(Stop::Wrong("no fault")),
-    }
-}
-
-/// Wants the fault of a file that sources itself.
-fn want_ring(alloc: Global, sources: &Sources, vars: &Vars) -> Result<(), Stop> {
-    let arena = Bump::new(alloc);
-    match logical_lines(alloc, &arena, sources, vars, "ring") {
-        Err(fault) => want_fault(&fault, 9, "ring", 2),
-        Ok(_) => Err(Stop::Wrong("no fault")),
-    }
+/// Wants a fault of a text: its number, its place, and the path of a file that is missing.
+pub(crate) fn want_text_fault(alloc: Global, fault: &TextFault, wanted: &str) -> Result<(), Stop> {
+    let TextFault::At(problem, path, line) = fault else {
+        return Err(Stop::Refused);
+    };
+    let missing = match problem {
+        TextProblem::MissingSource(missing) => missing.as_str(),
+        _ => "-",
+    };
+    let (number, path) = (problem.number(), path.as_str());
+    let found = format!(in alloc; "{number} {path}:{line} {missing}")?;
+    want(found.as_str() == wanted, Wrong::Fault)
 }

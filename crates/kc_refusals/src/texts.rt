@@ -42,10 +42,28 @@ config PORT
     default 0x1F
 "#;
 
+/// The files: the two of the Kconfig; a file that sources itself, one with a loop, and one that sources a file that is
+/// missing; and a string with a default.
+pub(crate) const FILES: [(&str, &str); 6] = [
+    ("Kconfig", KCONFIG),
+    (DRIVERS_PATH, DRIVERS),
+    ("ring", "config A\nsource \"ring\"\n"),
+    ("loop", LOOP),
+    ("hole", "config A\n\tbool\nsource \"hole/$(BUS)\"\n"),
+    ("string", "config S\n\tstring \"s\"\n\tdefault \"d\"\n"),
+];
+
+/// A Kconfig with a dependency loop.
+const LOOP: &str =
+    "config A\n\tbool \"a\"\n\tdepends on B\nconfig B\n\tbool \"b\"\n\tdepends on A\n";
+
+/// The names in that loop.
+pub(crate) const LOOP_NODES: &str = "A B";
+
 /// The variables that are passed in. Of those with one name the last counts.
 pub(crate) const PAIRS: [(&str, &str); 3] = [("BUS", "PCI"), ("OTHER", "o"), ("BUS", "Bus")];
 
-/// Their logical lines: a path, a number, and the tokens, with the help text behind them.
+/// Their logical lines: a path, a number, and the tokens, with the help text after them.
 pub(crate) const LINES: &str = r#"Kconfig:2 config NET
 Kconfig:3 bool "Network"
 Kconfig:4 default y
@@ -93,24 +111,25 @@ CONFIG_S="u"
 CONFIG_FAST=y
 "#;
 
-/// What the lines of that `.config` come to: the values that count, in the order of their lines, and the warnings.
-pub(crate) const READING: &str = "S=u LOG=n FAST=y | 2:1 3:5";
+/// The values of that `.config` that count, in the order of their lines.
+pub(crate) const ASSIGNS: &str = "S=u\nLOG=n\nFAST=y\n";
 
-/// The warnings alone.
-pub(crate) const WARNINGS: &str = "2:1 3:5";
+/// Its warnings: the line and the number of each.
+pub(crate) const WARNINGS: &str = "2:1\n3:5\n";
 
 /// The user values that it gives: of each symbol, and the chosen member of each choice.
-pub(crate) const USER: &str = "S=u LOG=n 0=FAST";
+pub(crate) const USER: &str = "S=u\nLOG=n\n0=FAST\n";
 
-/// The visibility and the value of each symbol behind that.
-pub(crate) const NODE_VALUES: &str = r#"NET y y
-S y u
-SPEED y 5
-LOG y n
-PORT y 0x1F
-FAST y y
-SLOW y n
-"#;
+/// The visibility and the value of each symbol after that.
+pub(crate) const NODE_VALUES: [(&str, &str, &str); 7] = [
+    ("NET", "y", "y"),
+    ("S", "y", "u"),
+    ("SPEED", "y", "5"),
+    ("LOG", "y", "n"),
+    ("PORT", "y", "0x1F"),
+    ("FAST", "y", "y"),
+    ("SLOW", "y", "n"),
+];
 
 /// The reply to `list`.
 pub(crate) const LIST: &str = r#"NET type=bool value=y vis=y can=n,y user=-
@@ -192,10 +211,31 @@ CONFIG_S="w"
 pub(crate) const BODY_WARNINGS: &str = "warning 4 1\nwarning 8 5\n";
 
 /// The user values after a load of that body.
-pub(crate) const USER_LOADED: &str = "NET=y S=w";
+pub(crate) const USER_LOADED: &str = "NET=y\nS=w\n";
 
 /// The user values after a merge of that body.
-pub(crate) const USER_MERGED: &str = "NET=y S=w LOG=n 0=FAST";
+pub(crate) const USER_MERGED: &str = "NET=y\nS=w\nLOG=n\n0=FAST\n";
 
 /// The user values after `set S x`.
-pub(crate) const USER_SET: &str = "S=x LOG=n 0=FAST";
+pub(crate) const USER_SET: &str = "S=x\nLOG=n\n0=FAST\n";
+
+/// The replies to a stream of `set S x`, a load of the body, `show S` and a line that is no command.
+pub(crate) const REPLIES: &str =
+    "ok\nwarning 4 1\nwarning 8 5\nok\nS type=string value=\"w\" vis=y can=- user=\"w\"\nok\nrefused 1\n";
+
+/// The replies where `set S x` is refused, the load, or `show S`, each with the user values that it leaves. The lines of
+/// the load's body are taken in each case.
+pub(crate) const REFUSED_REPLIES: [(&str, &str); 3] = [
+    (
+        "refused 7\nwarning 4 1\nwarning 8 5\nok\nS type=string value=\"w\" vis=y can=- user=\"w\"\nok\nrefused 1\n",
+        USER_LOADED,
+    ),
+    (
+        "ok\nrefused 7\nS type=string value=\"x\" vis=y can=- user=\"x\"\nok\nrefused 1\n",
+        USER_SET,
+    ),
+    (
+        "ok\nwarning 4 1\nwarning 8 5\nok\nrefused 7\nrefused 1\n",
+        USER_LOADED,
+    ),
+];

@@ -1,0 +1,68 @@
+//! `open`, and the sessions that it gives.
+
+use crate::finding::{Stop, Wrong, own, want};
+use crate::sessions::want_reply;
+use crate::showing::warnings_text;
+use crate::text_calls::{Texts, want_text_fault};
+use crate::texts::{USER, WARNINGS};
+use crate::tree_calls::{want_loop, want_user};
+use kc_files::Warning;
+use kc_session::{Command, OpenFault, Session, open};
+use kc_value::Resolver;
+use std::alloc::Global;
+
+/// Opens a top file of the texts, with a `.config`.
+pub(crate) fn open_top(
+    texts: &Texts,
+    top: &str,
+    config: &str,
+) -> Result<(Session, Vec<Warning>), OpenFault> {
+    open(
+        texts.alloc,
+        &texts.sources,
+        &texts.vars,
+        top,
+        &texts.prefix,
+        config.as_bytes(),
+    )
+}
+
+/// Opens a top file, and wants the user values of the checks and this text of the `.config`, or this fault.
+pub(crate) fn want_open(texts: &Texts, top: &str, config: &str, wanted: &str) -> Result<(), Stop> {
+    match open_top(texts, top, config) {
+        Ok((mut session, warnings)) => own(want_opened(
+            texts.alloc,
+            &mut session,
+            warnings.as_slice(),
+            wanted,
+        )),
+        Err(OpenFault::NoMemory) => Err(Stop::Refused),
+        Err(OpenFault::Text(fault)) => own(want_text_fault(texts.alloc, &fault, wanted)),
+        Err(OpenFault::Tree(fault)) => own(want_loop(&fault, wanted)),
+        Err(OpenFault::Limit) => Err(Stop::Wrong(Wrong::Fault)),
+    }
+}
+
+/// Wants a session as it is opened with the user values of the checks, and the warnings of their `.config`.
+fn want_opened(
+    alloc: Global,
+    session: &mut Session,
+    warnings: &[Warning],
+    config_text: &str,
+) -> Result<(), Stop> {
+    let found = warnings_text(alloc, warnings)?;
+    want(found.as_str() == WARNINGS, Wrong::Warnings)?;
+    want_unasked(alloc, session, USER, config_text)
+}
+
+/// Wants a session of which no node was asked yet, with these user values and this text of the `.config`.
+pub(crate) fn want_unasked(
+    alloc: Global,
+    session: &mut Session,
+    user: &str,
+    config_text: &str,
+) -> Result<(), Stop> {
+    want_user(alloc, session.tree(), session.user(), user)?;
+    want(session.evals() == 0, Wrong::Evaluations)?;
+    want_reply(session, Command::Config, config_text)
+}
