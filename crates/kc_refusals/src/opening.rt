@@ -55,7 +55,7 @@ fn want_opened(
     want_unasked(alloc, session, USER, config_text)
 }
 
-/// Wants a session of which no node was asked yet, with these user values and this text of the `.config`.
+/// Wants a session whose nodes were not asked yet, with these user values and this text of the `.config`.
 pub(crate) fn want_unasked(
     alloc: Global,
     session: &mut Session,

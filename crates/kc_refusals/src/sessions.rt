@@ -161,7 +161,7 @@ fn check_opened(alloc: Global, session: &mut Session, call: SessionCall) -> Resu
     }
 }
 
-/// Checks a command in a session of which some nodes are kept.
+/// Checks a command in a session that keeps some nodes.
 fn check_command(alloc: Global, session: &mut Session, word: Word) -> Result<Call, Stop> {
     want_reply(
         session,

@@ -41,7 +41,7 @@ fn serve(alloc: Global, session: &mut Session, stream: &[u8], before: &Held) -> 
     }
 }
 
-/// Wants the replies of which one at most is refused, and the user values that they leave.
+/// Wants replies with one refusal at most, and the user values that they leave.
 fn want_replies(alloc: Global, session: &Session, replies: &[u8]) -> Result<(), Stop> {
     if replies == REPLIES.as_bytes() {
         return want_user(alloc, session.tree(), session.user(), USER_LOADED);

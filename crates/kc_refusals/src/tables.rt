@@ -26,7 +26,7 @@ pub(crate) const ADDITIONS: [(TextCall, &str); 2] = [
     ),
 ];
 
-/// Pairs of which the second is at fault.
+/// Pairs with a fault in the second.
 const BAD_PAIRS: [(&str, &str); 3] = [("A", "a"), ("BAD", "a\nb"), ("C", "\n")];
 
 /// The variables of the Kconfig, and a text with a line feed, which is K02.
