@@ -23,6 +23,7 @@ checks=(
     test_fuzz.py
     test_gate_times.py
     test_tables.py
+    test_try_edits.py
 )
 
 failed=()
