@@ -18,7 +18,8 @@ written for each mistake, and the status is 1 where there is one:
 - a name of two edits of a crate, one of the gate and one outside it, and a file of edits/ that is no edit of a crate;
 - a link of a document to a file or a heading that is not there;
 - a line of kc_files or kc_session that names the proofs/ of another crate;
-- a row of the table of crates in docs/PERFORMANCE.md with another count of functions or of edits than the crate has.
+- a row of the table of crates in docs/PERFORMANCE.md with another count of functions or of edits than the crate has;
+- a count of cases in crates/kc_cases/stdout, README.md or docs/PROOFS.md that is not that of the files.
 """
 
 import re
@@ -312,9 +313,25 @@ def count_mistakes(text: str) -> Iterator[str]:
             yield f"docs/PERFORMANCE.md: the edits of {crates} are {wanted_edits}"
 
 
+def title_count(file: Path) -> int:
+    return len(re.findall(r"^=== ", text_of(file), re.MULTILINE))
+
+
+def case_count_mistakes() -> Iterator[str]:
+    """The mistakes in the counts of cases: in what kc_cases has to write, and in documents that say how many there are."""
+    counts = {file.name: title_count(file) for file in sorted(DATA.glob("*.cases"))}
+    total = sum(counts.values())
+    wanted = "".join(f"{name}: {count}\n" for name, count in counts.items()) + f"all: {total}\n"
+    if text_of(CRATES / "kc_cases" / "stdout") != wanted:
+        yield f"crates/kc_cases/stdout: it does not count the titles of the files, {total} in all"
+    for document in (ROOT / "README.md", DOCS / "PROOFS.md"):
+        for said in set(re.findall(r"(\d,\d{3}) cases", text_of(document))) - {f"{total:,}"}:
+            yield f"{shown(document)}: it has {said} cases, and there are {total:,}"
+
+
 def main() -> int:
     rows = list(rows_of(text_of(DOCS / "RULES.md")))
-    mistakes = [*mistakes_of(rows), *stale_mistakes(), *place_mistakes()]
+    mistakes = [*mistakes_of(rows), *stale_mistakes(), *place_mistakes(), *case_count_mistakes()]
     mistakes += count_mistakes(text_of(DOCS / "PERFORMANCE.md"))
     for document in sorted([*DOCS.glob("*.md"), *ROOT.glob("*.md")]):
         mistakes += link_mistakes(document)
