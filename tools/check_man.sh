@@ -3,7 +3,7 @@
 #
 #     tools/check_man.sh
 #
-# It is run by hand, after a change of the page, of the command line or of the version, and needs groff. A line is
+# It is not part of the gate. Run it after a change of the page, of the command line or of the version, and needs groff. A line is
 # printed, and the status is 1,
 #
 # - for what groff warns of;

@@ -4,7 +4,7 @@
     tools/fuzz.py --program PROGRAM [--seed S] [--from N] [--runs M] [--target TARGET].. [--tree FOLDER]..
                   [--limit SECONDS] [--memory BYTES] [--keep FOLDER] [--go-on]
 
-It is run by hand. The texts that are changed are the cases of crates/kc_cases/data, random trees of
+It is not part of the gate. The texts that are changed are the cases of crates/kc_cases/data, random trees of
 tools/random_kconfig.py and, with --tree, the Kconfigs of a tree on disk, each by itself. The seed and the number of a
 run make it again exactly, in the same checkout and with the same --tree.
 

@@ -3,7 +3,7 @@
 
     tools/refuse_program_memory.py --program PROGRAM [--target TARGET]..
 
-It is run by hand, and needs `cc`: tools/refuse_allocation.c is built into a temporary folder and loaded before the C
+It is not part of the gate, and needs `cc`: tools/refuse_allocation.c is built into a temporary folder and loaded before the C
 library. Each target is run twice for each N: with the Nth request alone refused, and with all from the Nth on.
 
 A run is right where its status, its standard output and its standard error are those without refusal; or where the
