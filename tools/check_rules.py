@@ -318,7 +318,7 @@ def title_count(file: Path) -> int:
 
 
 def case_count_mistakes() -> Iterator[str]:
-    """The mistakes in the counts of cases: in what kc_cases has to write, and in documents that say how many there are."""
+    """The mistakes in the counts of cases: in what kc_cases has to write, and in documents."""
     counts = {file.name: title_count(file) for file in sorted(DATA.glob("*.cases"))}
     total = sum(counts.values())
     wanted = "".join(f"{name}: {count}\n" for name, count in counts.items()) + f"all: {total}\n"

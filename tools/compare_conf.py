@@ -4,8 +4,8 @@
     tools/compare_conf.py --kconf PROGRAM --conf PROGRAM [--edits 300] [--seeds 3] [--original FOLDER] [--lines 5]
                           FOLDER KCONFIG [NAME=VALUE]...
 
-It is not part of the gate. Both read KCONFIG in FOLDER (conf in the folder of --original, where it is given), kconf with the
-words NAME=VALUE as variables, conf with them in its environment. conf is that of Debian's package linux-kbuild-6.1.
+It is not part of the gate. Both read KCONFIG in FOLDER (conf in the folder of --original, where it is given), kconf
+with the words NAME=VALUE as variables, conf with them in its environment. conf is that of Debian's package linux-kbuild-6.1.
 
 Each target is run without a .config, and on one .config of random lines for each seed; allnoconfig and allyesconfig
 take none. For each target and kind of difference the number of differing lines is printed, with some of them. The status

@@ -3,7 +3,8 @@
 
     tools/compare_kconfiglib.py [--kconf PROGRAM] [--trees 2000] [--seed 1] [--first 0] [--examples]
 
-It is not part of the gate, and runs with Debian's python3. Without PROGRAM it builds kconf as the measurements of bench/ do.
+It is not part of the gate, and runs with Debian's python3. Without PROGRAM it builds kconf as the measurements of
+bench/ do.
 
 For each tree, one `kconf session` answers `list`, `choices` and `config` at the start and after each edit; the same is
 asked of Kconfiglib. Where both differ on purpose (docs/DECISIONS.md), the difference has a kind, and for each kind

@@ -1,10 +1,12 @@
 #!/usr/bin/env python3
-"""Tests of tools/gate_times.py: what a process is, and what a table has. They start no process."""
+"""Tests of tools/gate_times.py and tools/dearest_functions.py: what a process is, what a table has, and what a module is
+about. They start no process."""
 
 import unittest
 from typing import List, Optional, Tuple
 
 from check_rules import crates_of
+from dearest_functions import function_of, times_of
 from gate_times import TICKS, Process, Seen, Work, process_of, table, work_of
 
 CHECK = ["/kit/bin/rattle", "check", "--crate-name", "kc_text", "src/lib.rt"]
@@ -68,6 +70,18 @@ class GateTimes(unittest.TestCase):
 
     def test_crates_are_in_their_order(self) -> None:
         self.assertEqual(crates_of("# one: none\nb: a\na staticlib: c\n\nc:\n"), ["b", "a", "c"])
+
+
+class Functions(unittest.TestCase):
+    def test_the_modules_of_a_function_have_its_path(self) -> None:
+        for part in ("Lts", "Code.Mir.decls", "Lts.View", "Carried-1-0-2", "Proof.decls"):
+            self.assertEqual(function_of(f"Rattle-kc_a-proofs.help.Help.to_text.{part}.oantt"), "help.Help.to_text")
+        for module in ("Rattle-kc_a.below.bumpalo.oantt", "Rattle-kc_a-proofs.ReadingLaws.decls.oantt"):
+            self.assertIsNone(function_of(module))
+
+    def test_a_module_takes_the_time_since_the_one_before(self) -> None:
+        modules = [(3.0, "Rattle-kc_a-proofs.f.Proof.oantt"), (1.0, "Rattle-kc_a.oantt"), (2.5, "Rattle-kc_a-proofs.f.Lts.oantt")]
+        self.assertEqual(dict(times_of(modules)), {"f": 2.0})
 
 
 if __name__ == "__main__":
