@@ -9,12 +9,12 @@ const TITLE_MARK: &str = "\n=== ";
 /// What a line begins with that is the header of a section, with the line feed before it.
 const HEADER_MARK: &str = "\n--- ";
 
-/// A case, or a section of one, as it stands in its file.
+/// A case, or a section of one, as it is in its file.
 #[derive(Clone, Copy)]
 pub(crate) struct Block<'a> {
     /// The number of its first line, from 1.
     pub(crate) line: usize,
-    /// Its first line, without the mark before it, and the lines behind that.
+    /// Its first line, without the mark before it, and the lines after that.
     text: &'a str,
 }
 
@@ -27,7 +27,7 @@ impl<'a> Block<'a> {
         }
     }
 
-    /// The lines behind the first one, without the last line feed. There are none where it is the last.
+    /// The lines after the first one, without the last line feed. There are none if it is the last.
     pub(crate) fn body(&self) -> Option<&'a str> {
         match self.text.split_once('\n') {
             Some((_head, body)) => Some(body),
@@ -35,7 +35,7 @@ impl<'a> Block<'a> {
         }
     }
 
-    /// What stands before the sections of a case: its title and a comment.
+    /// What is before the sections of a case: its title and a comment.
     pub(crate) fn comment(&self) -> &'a str {
         match self.text.split_once(HEADER_MARK) {
             Some((comment, _sections)) => comment,
@@ -43,19 +43,19 @@ impl<'a> Block<'a> {
         }
     }
 
-    /// The sections of a case. What stands between the title and the first of them is a comment.
+    /// The sections of a case. What is between the title and the first of them is a comment.
     pub(crate) fn sections(&self, alloc: Global) -> Result<Vec<Block<'a>>, AllocFailed<Block<'a>>> {
-        blocks_behind(alloc, self.text, HEADER_MARK, self.line)
+        blocks_after(alloc, self.text, HEADER_MARK, self.line)
     }
 }
 
-/// The cases of a file whose text begins with a line feed that the file itself has not. What stands before the first of
+/// The cases of a file whose text begins with a line feed that the file itself has not. What is before the first of
 /// them is a comment.
 pub(crate) fn cases_of<'a>(
     alloc: Global,
     text: &'a str,
 ) -> Result<Vec<Block<'a>>, AllocFailed<Block<'a>>> {
-    blocks_behind(alloc, text, TITLE_MARK, 0)
+    blocks_after(alloc, text, TITLE_MARK, 0)
 }
 
 /// The text of a file with a line feed before it, so that its first line can be a title.
@@ -63,7 +63,7 @@ pub(crate) fn marked_text(alloc: Global, text: &str) -> Result<String, AllocErro
     format!(in alloc; "\n{text}")
 }
 
-/// Checks what no case of a marked text is asked for: that no line has a carriage return, which stands there as an
+/// Checks what no case of a marked text is asked for: that no line has a carriage return, which is there as an
 /// escape alone, and that nothing before the first title begins as a title or a header does.
 ///
 /// # Errors
@@ -79,7 +79,7 @@ pub(crate) fn check_text(text: &str) -> Result<(), CaseFault> {
     }
 }
 
-/// Checks that no line of a comment behind the line of this number begins as a title or a header does.
+/// Checks that no line of a comment after the line of this number begins as a title or a header does.
 ///
 /// # Errors
 ///
@@ -100,8 +100,8 @@ pub(crate) fn is_stray(line: &str) -> bool {
     line.starts_with("===") || (line.starts_with("---") && !line.starts_with("---help---"))
 }
 
-/// The blocks of a text that begins at this line. Each begins behind a mark, and goes on to the next one.
-fn blocks_behind<'a>(
+/// The blocks of a text that begins at this line. Each begins after a mark, and goes on to the next one.
+fn blocks_after<'a>(
     alloc: Global,
     text: &'a str,
     mark: &str,

@@ -28,7 +28,7 @@ impl Tally {
 }
 
 /// Runs the cases of the files of these paths, and writes a line for each file with the number of its cases, and a last
-/// one with the sum. Before the line of a file stands what does not pass of it.
+/// one with the sum. Before the line of a file is what does not pass of it.
 ///
 /// It gives whether there are cases and all passed. It is a fault, too, where the working directory has files of cases
 /// that are not named.

@@ -34,7 +34,7 @@ pub(crate) struct Texts {
     pub(crate) vars: Vars,
 }
 
-/// Runs a case as it stands in its file. It gives the first difference, `None` where the case passes.
+/// Runs a case as it is in its file. It gives the first difference, `None` where the case passes.
 ///
 /// # Errors
 ///

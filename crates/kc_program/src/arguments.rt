@@ -98,7 +98,7 @@ const MALFORMED_PREFIX: &str =
 
 /// What is said of a word that is no variable.
 const BAD_VARIABLE: &str =
-    "a word behind the files is not NAME=VALUE, with ASCII letters, digits, '_' and '-' in NAME, and '-' not first";
+    "a word after the files is not NAME=VALUE, with ASCII letters, digits, '_' and '-' in NAME, and '-' not first";
 
 /// The arguments of the subcommand that was found in the words.
 fn read_matches<'a>(
