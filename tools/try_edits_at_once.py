@@ -33,6 +33,8 @@ from check_rules import EDITS, ROOT, text_of
 
 ITEM = re.compile(r"^ *(?:pub(?:\(crate\))? )?(?:const )?(fn|const|static|enum|struct|trait) (\w+)", re.MULTILINE)
 VERDICT = re.compile(r"^(?:so far: )?fn ([\w:+]+): (.*)$", re.MULTILINE)
+PROBLEM = re.compile(r"^(?:so far: )?(?:note: )?(?:\./)?((?:src|proofs)/[^:\s]+):(\d+):\d+: (?:error: )?(.*)$", re.MULTILINE)
+TAKEN_AWAY = re.compile(r"has no field|is not in scope|has no `|was not admitted")
 
 
 @dataclass(frozen=True)
@@ -71,6 +73,8 @@ class Edit:
 class Function:
     place: Place
     text: str
+    # The numbers of its lines.
+    lines: range
 
 
 # ------------------------------------------------------------------------------------------------ edits and code
@@ -109,7 +113,8 @@ def functions_of(crate: Path) -> Iterator[Function]:
         ends = [begin for begin, _, _ in items[1:]] + [len(text)]
         for (begin, kind, name), end in zip(items, ends):
             if kind == "fn":
-                yield Function(Place(file, name), text[begin:end])
+                lines = range(text.count("\n", 0, begin) + 1, text.count("\n", 0, end) + 1)
+                yield Function(Place(file, name), text[begin:end], lines)
 
 
 def users_of(place: Place, functions: List[Function]) -> List[Function]:
@@ -216,6 +221,18 @@ def check(crate: Path, texts: Dict[str, str], jobs: int) -> subprocess.Completed
             (crate / file).write_text(text, encoding="utf-8")
 
 
+def says_little(said: str, function: Function) -> bool:
+    """Whether a function is only refused since a file of its proof names what an edit took away."""
+    place = function.place
+    folder = re.escape(place.file.removeprefix("src/").removesuffix(".rt"))
+    proof = re.compile(rf"proofs/{folder}/(?:.*/)?{re.escape(place.name)}/")
+    problems = PROBLEM.findall(said)
+    if any(path == place.file and int(line) in function.lines for path, line, _ in problems):
+        return False
+    of_proof = [words for path, _, words in problems if proof.match(path) and "large solution" not in words]
+    return bool(of_proof) and all(map(TAKEN_AWAY.search, of_proof))
+
+
 def refusals(chosen: List[Edit], said: str, name: str, functions: List[Function]) -> Dict[str, str]:
     """Which edits of a round are refused, each with what refuses it. One that was made alone is refused by any report."""
     if "logic=not-proved" not in said:
@@ -225,7 +242,11 @@ def refusals(chosen: List[Edit], said: str, name: str, functions: List[Function]
     verdicts = verdicts_of(said, name)
     taken = {place for edit in chosen for place in edit.places}
     found = {edit.name: refused_by(edit, verdicts, functions, taken) for edit in chosen}
-    return {edit: f"{place.name} of {place.file}" for edit, place in found.items() if place}
+    little = {function.place for function in functions if says_little(said, function)}
+    remark = ", only as its proof names what the edit took away, which says little of the contract"
+    return {
+        edit: f"{place.name} of {place.file}{remark if place in little else ''}" for edit, place in found.items() if place
+    }
 
 
 def try_edits(root: Path, name: str, jobs: int) -> int:
