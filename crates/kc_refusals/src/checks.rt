@@ -119,8 +119,7 @@ pub(crate) fn run_words<W: Write>(
     words: &[String],
     out: &mut W,
 ) -> io::Result<Ending> {
-    let is_check = |word: &String| CHECKS.iter().any(|(known, _)| *known == word.as_str());
-    if !words.iter().all(is_check) {
+    if !words.iter().all(|word| is_check(word.as_str())) {
         return Ok(Ending::Usage);
     }
     let mut ending = Ending::Answered;
@@ -130,4 +129,9 @@ pub(crate) fn run_words<W: Write>(
         }
     }
     Ok(ending)
+}
+
+/// Whether there is a check of a word.
+fn is_check(word: &str) -> bool {
+    CHECKS.iter().any(|(known, _)| *known == word)
 }

@@ -22,17 +22,11 @@ mod tree_calls;
 
 use crate::checks::{Ending, run_words};
 use std::process::ExitCode;
-use std::rt::Env;
 use std::{env, io};
-
-/// The words of the command line.
-fn read_words<R: Env + AllocGlobal>(rt: &R) -> io::Result<Vec<String>> {
-    Ok(env::args(rt)?.collect(rt.alloc())?)
-}
 
 /// Runs the checks of the words after the program's name.
 fn run_checks(rt: &HostRuntime) -> io::Result<Ending> {
-    let words = read_words(rt)?;
+    let words: Vec<String> = env::args(rt)?.collect(rt.alloc())?;
     match words.as_slice().split_first() {
         Some((_program, words)) => run_words(rt.alloc(), words, &mut rt.stdout()),
         None => Ok(Ending::Usage),

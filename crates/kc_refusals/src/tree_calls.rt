@@ -94,9 +94,9 @@ pub(crate) fn check_tree(texts: &Texts, call: TreeCall) -> Result<Call, Stop> {
     let lines = logical_lines(texts.alloc, &arena, &texts.sources, &texts.vars, "Kconfig")?;
     match Tree::parse(texts.alloc, lines.as_slice()) {
         Ok(tree) => match call {
-            TreeCall::Empty => made(|_time| make_user(texts, &tree)),
+            TreeCall::Empty => check_user(texts, &tree),
             TreeCall::Node => check_nodes(texts, &tree),
-            TreeCall::ReadConfig => made(|_time| read(texts, &tree)),
+            TreeCall::ReadConfig => check_reading(texts, &tree),
             TreeCall::NewSession => check_new(texts, tree),
         },
         Err(TreeFault::NoMemory) => Err(Stop::Unprepared),
@@ -104,12 +104,12 @@ pub(crate) fn check_tree(texts: &Texts, call: TreeCall) -> Result<Call, Stop> {
     }
 }
 
-/// Makes user values.
-fn make_user(texts: &Texts, tree: &Tree) -> Result<(), Stop> {
-    match User::empty(texts.alloc, tree) {
+/// Checks `User::empty`.
+fn check_user(texts: &Texts, tree: &Tree) -> Result<Call, Stop> {
+    made(|_time| match User::empty(texts.alloc, tree) {
         Ok(mut user) => own(want_empty(texts, tree, &mut user)),
         Err(_) => Err(Stop::Refused),
-    }
+    })
 }
 
 /// Wants user values without any, and room for those of the checks.
@@ -145,13 +145,15 @@ fn ask_nodes(fresh: &mut Fresh<'_>) -> Result<Call, Stop> {
     Ok(call)
 }
 
-/// Reads the `.config` of the checks.
-fn read(texts: &Texts, tree: &Tree) -> Result<(), Stop> {
-    let (assigns, warnings) = read_config(texts.alloc, tree, &texts.prefix, CONFIG.as_bytes())?;
-    let found = assigns_text(texts.alloc, tree, assigns.as_slice())?;
-    want(found.as_str() == ASSIGNS, Wrong::Reading)?;
-    let found = warnings_text(texts.alloc, warnings.as_slice())?;
-    want(found.as_str() == WARNINGS, Wrong::Warnings)
+/// Checks `read_config`.
+fn check_reading(texts: &Texts, tree: &Tree) -> Result<Call, Stop> {
+    made(|_time| {
+        let (assigns, warnings) = read_config(texts.alloc, tree, &texts.prefix, CONFIG.as_bytes())?;
+        let found = assigns_text(texts.alloc, tree, assigns.as_slice())?;
+        want(found.as_str() == ASSIGNS, Wrong::Reading)?;
+        let found = warnings_text(texts.alloc, warnings.as_slice())?;
+        want(found.as_str() == WARNINGS, Wrong::Warnings)
+    })
 }
 
 /// Checks `Session::new`: where it is refused, the tree and the prefix that it gives back make a session.
