@@ -106,7 +106,14 @@ fn a_failing_input_is_reported(rt: HostRuntime) {
         &mut output,
     );
     assert_eq!(rt; output.as_slice(), b"".as_slice());
-    want(&rt, &outcome, 1, "", "kconf: cannot read\n", "a failing input");
+    want(
+        &rt,
+        &outcome,
+        1,
+        "",
+        "kconf: cannot read\n",
+        "a failing input",
+    );
 }
 
 #[test]
