@@ -9,22 +9,23 @@ from check_rules import crates_of
 from dearest_functions import function_of, times_of
 from gate_times import TICKS, Process, Seen, Work, process_of, table, work_of
 
-CHECK = ["/kit/bin/rattle", "check", "--crate-name", "kc_text", "src/lib.rt"]
+CHECK = ["bin/rattle", "check", "--crate-name", "kc_text", "src/lib.rt"]
+CRATE, EDIT, EDITS, RUN = "copy/crates/kc_text", "room/rt-edit-7-a_b", "room/rt-edits-7-c", "room/rt-run-7-a"
 
 # The words of a process, its folder, and its work.
 WORKS: List[Tuple[List[str], str, Optional[Work]]] = [
-    (CHECK, "/tmp/rt-copy-7-a/repo/crates/kc_text", Work("kc_text", "proof")),
-    ([*CHECK, "--test"], "/repo/crates/kc_text", Work("kc_text", "tests")),
-    (CHECK, "/tmp/rt-edit-7-a_b", Work("kc_text", "edits")),
-    ([*CHECK, "--incremental", "/tmp/rt-edits-7-c/12"], "/tmp/rt-edit-7-a_b", Work("kc_text", "edits")),
-    ([*CHECK, "--incremental", "/tmp/rt-edits-7-c/seed"], "/tmp/rt-edit-7-a_b", Work("kc_text", "first")),
-    (["python3", "-c", "code", *CHECK], "/repo/crates/kc_text", Work("kc_text", "proof")),
-    (["/tmp/rt-run-7-a/bin/kconf", "session"], "/tmp/rt-run-7-a/data", Work("kconf", "run")),
-    (["/tmp/rt-run-7-a/bin/kconf.by-rattle"], "/tmp/rt-run-7-a/data", Work("kconf", "run")),
-    (["runner", "--seconds", "60", "/tmp/rt-run-7-a/bin/kc_text_tests_tests"], "/", Work("kc_text_tests", "run")),
-    (["/kit/bin/rattle", "fmt", "src/lib.rt"], "/repo/crates/kc_text", None),
-    (["rattle", "--crate-name"], "/repo/crates/kc_text", None),
-    ([""], "/", None),
+    (CHECK, CRATE, Work("kc_text", "proof")),
+    ([*CHECK, "--test"], CRATE, Work("kc_text", "tests")),
+    (CHECK, EDIT, Work("kc_text", "edits")),
+    ([*CHECK, "--incremental", f"{EDITS}/12"], EDIT, Work("kc_text", "edits")),
+    ([*CHECK, "--incremental", f"{EDITS}/seed"], EDIT, Work("kc_text", "first")),
+    (["python3", "-c", "code", *CHECK], CRATE, Work("kc_text", "proof")),
+    ([f"{RUN}/bin/kconf", "session"], f"{RUN}/data", Work("kconf", "run")),
+    ([f"{RUN}/bin/kconf.by-rattle"], f"{RUN}/data", Work("kconf", "run")),
+    (["runner", "--seconds", "60", f"{RUN}/bin/kc_parse_tests_tests"], ".", Work("kc_parse_tests", "run")),
+    (["bin/rattle", "fmt", "src/lib.rt"], CRATE, None),
+    (["rattle", "--crate-name"], CRATE, None),
+    ([""], ".", None),
 ]
 
 

@@ -19,7 +19,7 @@ enum State {
     Ended,
 }
 
-/// The bytes of lines, the first of which has this number.
+/// The bytes of lines. The first line has this number.
 ///
 /// # Errors
 ///

@@ -105,7 +105,7 @@ fn runs_of<'a>(alloc: Global, parts: &'a [Part<'a>]) -> Result<Vec<Run<'a>>, Cas
     Ok(runs)
 }
 
-/// A run of a part with these words, of which nothing but the output is wanted yet.
+/// The run of a part with these words. It wants nothing but its output yet.
 fn new_run<'a>(
     alloc: Global,
     part: &'a Part<'a>,
