@@ -1,5 +1,4 @@
 pub mod FilterPlaces
-pub mod FirstRooms
 pub mod GraphLaws
 pub mod ListLaws
 pub mod MarkLaws

@@ -1,252 +1,233 @@
--- Rows that are filled in rooms which were laid out for them.
-use Rattle.std.proofs.Common.{◌≡◌, ℕ, ◌+◌, ◌-◌, ◌<◌, ◌≤◌, ◌^◌, ◌⊎◌, List, [], ◌∷◌, ◌++◌, length, get_or, set, take, drop, replicate, cond, eqb, All, inl, inr, refl, sym, ap, subst, ◌∙◌, arith, length-set, get_or-set_same, get_or-set_other}
-use Rattle.std.proofs.lemmas.Bool.{cases_lt, cases_order, eq-eqb}
-use Rattle.std.proofs.lemmas.List.{get_or-map, get_or_default, length-map, map_push, drop_more, get_or_append_left, get_or_push, length_push, replicate_more, drop-set-add, drop-set-lt, take-set-le, take_more_set, ext_get_or, length-drop}
-use Rattle.std.proofs.lemmas.List.Sums.{sum_by-cons}
-use Rattle.kc_graph.specs.declared.rows.Span.{Span}
+-- Rows of users that are filled in the room that all uses make for them.
+use Rattle.std.proofs.Common.{◌≡◌, ◌≢◌, Bool, true, false, ℕ, ◌+◌, ◌-◌, ◌<◌, ◌≤◌, ◌⊎◌, zero, suc, List, [], ◌∷◌, ◌++◌, length, get_or, set, take, drop, replicate, cond, eqb, ltb, inl, inr, refl, sym, ap, subst, ◌∙◌, arith, length-set, get_or-set_same, get_or-set_other}
+use Rattle.std.specs.List.{slice_index, slice_range, sum}
+use Rattle.std.proofs.lemmas.Bool.{cases_lt, cases_order, eq-eqb, ne_eqb, le-ltb, lt-ltb}
+use Rattle.std.proofs.lemmas.List.{drop_more, drop-set-add, drop-set-lt, get_or_past, length-drop, length-replicate, take_all, take-set-le, take_more_set}
+use Rattle.std.proofs.lemmas.List.Sums.{sum_by-cons, sum_by_more}
 use Rattle.kc_graph.specs.Graph.{row}
-use Rattle.kc_graph.specs.Rows.{row_in, rows_in, number_count, AreRowsIn, FitsIn}
-use Rattle.kc_graph.specs.Users.{times, start_at, end_at, HasRoom, HasPlace, AddsUser}
+use Rattle.kc_graph.specs.Rows.{rows_in, AreEnds}
+use Rattle.kc_graph.specs.Users.{times, first_place, uses_in, users_so_far, AddsCounts, HasRoom}
 use Rattle.kc_graph.proofs.ListLaws.{set_cases}
-use Rattle.kc_graph.proofs.UsersSteps.{AddsUser-more}
+use Rattle.kc_graph.proofs.RowLaws.{get_or-rows_from, length-rows_from}
+use Rattle.kc_graph.proofs.UseCounts.{count_is, if_so, length-uses_in, total_is}
 
--- spans with room fit
-pub fit-from_room : (spans : List Span) (n : ℕ) (room : ℕ → ℕ) → HasRoom spans n room → All (FitsIn n) spans
-fit-from_room spans n room r = λ k d h.
-    let same = get_or_default spans k d (record { start = 0; end = 0 }) h in
-    let ordered = r.ordered k h in
-    let within = r.within k h in
-    subst (FitsIn n) (sym same) (record { ordered = ordered; within = omega arith })
+one : {b : Bool} → b ≡ true → if_so b ≡ 1
+one e = ap if_so e
 
--- so they are rows of the numbers, where the rows hold no more numbers than these
-pub AreRowsIn-from_room : (numbers : List ℕ) (spans : List Span) (room : ℕ → ℕ) → HasRoom spans (length numbers) room → length (rows_in numbers spans) < 2 ^ 32 → number_count (rows_in numbers spans) ≡ length numbers → AreRowsIn numbers spans
-AreRowsIn-from_room numbers spans room r few held = record {
-  fit = fit-from_room spans (length numbers) room r;
-  few = omega (arith, length-map spans (row_in numbers));
-  few_numbers = r.small;
-  held = omega (arith, held);
-}
+none : {b : Bool} → b ≡ false → if_so b ≡ 0
+none e = ap if_so e
 
--- less room
-pub HasRoom-less : (spans : List Span) (n : ℕ) (room room' : ℕ → ℕ) → ((i : ℕ) → i < length spans → room' i ≤ room i) → HasRoom spans n room → HasRoom spans n room'
-HasRoom-less spans n room room' less r = record {
-  small = r.small;
-  ordered = r.ordered;
-  within = λ i h. let a = less i h in let b = r.within i h in omega arith;
-  apart = λ i j h k. let a = less i (omega arith) in let b = r.apart i j h k in omega arith;
-}
+-- no use names a node before the first one
+pub first-none : (uses : List ℕ) → first_place uses 0 ≡ 0
+first-none [] = refl
+first-none (u ∷ us) =
+    omega (arith, first-none us, sum_by-cons (λ k. cond (ltb k 0) 1 0) u us, none (le-ltb u 0 (omega arith)))
 
--- a span with room has a place behind it
-pub HasPlace-from_room : (spans : List Span) (n : ℕ) (room : ℕ → ℕ) (q : ℕ) → HasRoom spans n room → q < length spans → 0 < room q → HasPlace spans n q
-HasPlace-from_room spans n room q r inside some = record {
-  small = r.small;
-  ordered = r.ordered q inside;
-  within = let a = r.within q inside in omega arith;
-  apart = λ i h other. elim (cases_order i q) [
-    | inl e ↦ absurd (other e)
-    | inr side ↦ elim side [
-      | inl k ↦ let a = r.apart i q k inside in let b = r.ordered q inside in inl (omega arith)
-      | inr k ↦ let a = r.apart q i k h in inr (omega arith)
+-- a use names a node before the next one where it names this one, or one before it
+before_next : (u q : ℕ) → cond (ltb u (q + 1)) 1 0 ≡ cond (ltb u q) 1 0 + cond (eqb u q) 1 0
+before_next u q =
+    elim (cases_order u q) [
+      | inl e ↦ omega (arith, one (lt-ltb u (q + 1) (omega (arith, e))), none (le-ltb u q (omega (arith, e))), one (eq-eqb u q e))
+      | inr side ↦ elim side [
+        | inl h ↦ omega (arith, one (lt-ltb u (q + 1) (omega (arith, h))), one (lt-ltb u q h), none (ne_eqb u q (λ e. omega (arith, h, e))))
+        | inr h ↦ omega (arith, none (le-ltb u (q + 1) (omega (arith, h))), none (le-ltb u q (omega (arith, h))), none (ne_eqb u q (λ e. omega (arith, h, e))))
+      ]
     ]
-  ];
-}
 
-abbrev none : Span
-none = record { start = 0; end = 0 }
+pub first-next : (uses : List ℕ) (q : ℕ) → first_place uses (q + 1) ≡ first_place uses q + times uses q
+first-next [] q = refl
+first-next (u ∷ us) q =
+    omega (arith, first-next us q, before_next u q, sum_by-cons (λ k. cond (ltb k (q + 1)) 1 0) u us, sum_by-cons (λ k. cond (ltb k q) 1 0) u us, sum_by-cons (λ k. cond (eqb k q) 1 0) u us)
 
--- span q with one more place
-abbrev grown : List Span → ℕ → Span
-grown spans q = record { start = start_at spans q; end = end_at spans q + 1 }
+first-suc : (uses : List ℕ) (q : ℕ) → first_place uses (suc q) ≡ first_place uses q + times uses q
+first-suc uses q = let same : suc q ≡ q + 1 = omega arith in ap (first_place uses) same ∙ first-next uses q
 
-module _ (spans : List Span) (n : ℕ) (room room' : ℕ → ℕ) (q : ℕ) (inside : q < length spans) (less : (i : ℕ) → room' i ≤ room i) (one : room' q + 1 ≤ room q) where
-  starts : (i : ℕ) → start_at (set spans q (grown spans q)) i ≡ start_at spans i
-  starts i = elim (set_cases spans q (grown spans q) none i inside) [
-    | inl h ↦ ap (λ s. s.start) h.1 ∙ ap (start_at spans) (sym h.0)
-    | inr h ↦ ap (λ s. s.start) h.1
-  ]
-
-  reach : (i : ℕ) → end_at (set spans q (grown spans q)) i + room' i ≤ end_at spans i + room i
-  reach i = elim (set_cases spans q (grown spans q) none i inside) [
-    | inl h ↦ let e : end_at (set spans q (grown spans q)) i ≡ end_at spans q + 1 = ap (λ s. s.end) h.1 in let f : end_at spans i ≡ end_at spans q = ap (end_at spans) h.0 in omega (arith, ap room h.0, ap room' h.0, e, f)
-    | inr h ↦ let e : end_at (set spans q (grown spans q)) i ≡ end_at spans i = ap (λ s. s.end) h.1 in omega (arith, less i)
-  ]
-
-  longer : (i : ℕ) → end_at spans i ≤ end_at (set spans q (grown spans q)) i
-  longer i = elim (set_cases spans q (grown spans q) none i inside) [
-    | inl h ↦ let e : end_at (set spans q (grown spans q)) i ≡ end_at spans q + 1 = ap (λ s. s.end) h.1 in let f : end_at spans i ≡ end_at spans q = ap (end_at spans) h.0 in omega arith
-    | inr h ↦ let e : end_at (set spans q (grown spans q)) i ≡ end_at spans i = ap (λ s. s.end) h.1 in omega arith
-  ]
-
-  -- a place of the room is taken
-  HasRoom-place : HasRoom spans n room → HasRoom (set spans q (grown spans q)) n room'
-  HasRoom-place r =
-      let long = length-set spans q (grown spans q) in
-      record {
-        small = r.small;
-        ordered = λ i h. let a = r.ordered i (omega arith) in omega (arith, starts i, longer i);
-        within = λ i h. let a = r.within i (omega arith) in omega (arith, reach i);
-        apart = λ i j h k. let a = r.apart i j h (omega arith) in omega (arith, reach i, starts j);
-      }
+-- the places of later nodes are not before those of earlier ones
+pub first-ordered : (uses : List ℕ) (a b : ℕ) → a ≤ b → first_place uses a ≤ first_place uses b
+first-ordered uses a zero h = let e : a ≡ 0 = omega arith in omega (arith, ap (first_place uses) e)
+first-ordered uses a (suc b) h =
+    elim (cases_lt b a) [
+      | inl k ↦ let e : a ≡ suc b = omega arith in omega (arith, ap (first_place uses) e)
+      | inr k ↦ omega (arith, first-ordered uses a b k, first-suc uses b)
+    ]
 
 module _ (x : ℕ) (left : List ℕ) where
   times-cons : (i : ℕ) → times (x ∷ left) i ≡ cond (eqb x i) 1 0 + times left i
   times-cons i = sum_by-cons (λ k. cond (eqb k i) 1 0) x left
 
-  one_more : times left x + 1 ≤ times (x ∷ left) x
-  one_more =
-      let yes : cond (eqb x x) 1 0 ≡ 1 = ap {B = ℕ} (λ b. cond b 1 0) (eq-eqb x x refl) in
-      omega (arith, times-cons x, yes)
+  times-one : times (x ∷ left) x ≡ times left x + 1
+  times-one = omega (arith, times-cons x, one (eq-eqb x x refl))
 
-  no_less : (i : ℕ) → times left i ≤ times (x ∷ left) i
-  no_less i = omega (arith, times-cons i)
+  times-other : (i : ℕ) → i ≢ x → times (x ∷ left) i ≡ times left i
+  times-other i other = omega (arith, times-cons i, none (ne_eqb x i (λ e. other (sym e))))
 
-  module _ (spans : List Span) (n : ℕ) (inside : x < length spans) where
-    -- the first use that is left has a place
-    pub HasPlace-next : HasRoom spans n (times (x ∷ left)) → HasPlace spans n x
-    HasPlace-next r = HasPlace-from_room spans n (times (x ∷ left)) x r inside (omega (arith, one_more))
-
-    -- and where it was put there, the others have theirs
-    pub HasRoom-next : HasRoom spans n (times (x ∷ left)) → HasRoom (set spans x (grown spans x)) n (times left)
-    HasRoom-next r = HasRoom-place spans n (times (x ∷ left)) (times left) x inside no_less one_more r
-
--- a write behind a span, or before it, leaves its row
-row_in-other : (numbers : List ℕ) (e : ℕ) (user : ℕ) (s : Span) → (s.end ≤ e) ⊎ (e < s.start) → row_in (set numbers e user) s ≡ row_in numbers s
-row_in-other numbers e user s side = elim (cases_lt e s.start) [
-  | inl before ↦ ap (take (s.end - s.start)) (drop-set-lt s.start numbers e user before)
-  | inr behind ↦
-      let m : ℕ = e - s.start in
-      let at : e ≡ s.start + m = omega arith in
-      let short : s.end - s.start ≤ m = elim side [ inl h ↦ omega arith | inr h ↦ absurd (omega arith) ] in
-      ap (λ k. take (s.end - s.start) (drop s.start (set numbers k user))) at
-      ∙ ap (take (s.end - s.start)) (drop-set-add s.start numbers m user)
-      ∙ take-set-le (s.end - s.start) (drop s.start numbers) m user short
+-- a write after a part of a list, or before it, leaves the part
+range-other : (xs : List ℕ) (place x start end : ℕ) → (end ≤ place) ⊎ (place < start) → slice_range (set xs place x) start end ≡ slice_range xs start end
+range-other xs place x start end side = elim (cases_lt place start) [
+  | inl before ↦ ap (take (end - start)) (drop-set-lt start xs place x before)
+  | inr after ↦
+      let m : ℕ = place - start in
+      let at : place ≡ start + m = omega arith in
+      let short : end - start ≤ m = elim side [ inl h ↦ omega arith | inr h ↦ absurd (omega arith) ] in
+      ap (λ k. take (end - start) (drop start (set xs k x))) at
+      ∙ ap (take (end - start)) (drop-set-add start xs m x)
+      ∙ take-set-le (end - start) (drop start xs) m x short
 ]
 
--- a write at the place behind a span, which takes that place
-row_in-grown : (numbers : List ℕ) (a b : ℕ) (user : ℕ) → a ≤ b → b < length numbers → row_in (set numbers b user) (record { start = a; end = b + 1 }) ≡ row_in numbers (record { start = a; end = b }) ++ user ∷ []
-row_in-grown numbers a b user ordered within =
+-- a write at the place where a part of a list ends, which takes that place
+range-grown : (xs : List ℕ) (a b x : ℕ) → a ≤ b → b < length xs → slice_range (set xs b x) a (b + 1) ≡ slice_range xs a b ++ x ∷ []
+range-grown xs a b x ordered within =
     let m : ℕ = b - a in
     let at : b ≡ a + m = omega arith in
     let more : (b + 1) - a ≡ m + 1 = omega arith in
-    let left = length-drop a numbers in
-    let inside : m < length (drop a numbers) = omega arith in
-    ap (λ k. take k (drop a (set numbers b user))) more
-    ∙ ap (λ k. take (m + 1) (drop a (set numbers k user))) at
-    ∙ ap (take (m + 1)) (drop-set-add a numbers m user)
-    ∙ take_more_set (drop a numbers) m user inside
+    let left = length-drop a xs in
+    let inside : m < length (drop a xs) = omega arith in
+    ap (λ k. take k (drop a (set xs b x))) more
+    ∙ ap (λ k. take (m + 1) (drop a (set xs k x))) at
+    ∙ ap (take (m + 1)) (drop-set-add a xs m x)
+    ∙ take_more_set (drop a xs) m x inside
 
-module _ (numbers : List ℕ) (spans : List Span) (q : ℕ) (user : ℕ) (inside : q < length spans) (place : HasPlace spans (length numbers) q) where
-  abbrev after : List ℕ
-  after = set numbers (end_at spans q) user
+range-none : (xs : List ℕ) (start end : ℕ) → end ≤ start → slice_range xs start end ≡ []
+range-none xs start end h = let nothing : end - start ≡ 0 = omega arith in ap (λ n. take n (drop start xs)) nothing
 
-  abbrev rows : List (List ℕ)
-  rows = rows_in numbers spans
+-- the uses that are left begin with the next one of a row
+pub next_left : (row rest : List ℕ) (k x : ℕ) → k < length row → get_or row k 0 ≡ x → drop k row ++ rest ≡ x ∷ (drop (k + 1) row ++ rest)
+next_left row rest k x inside is =
+    ap (λ us. us ++ rest) (drop_more row k 0 inside) ∙ ap (λ u. u ∷ (drop (k + 1) row ++ rest)) is
 
-  -- the row of the span is the one of its number
-  row_is : row rows q ≡ row_in numbers (get_or spans q none)
-  row_is = get_or-map (row_in numbers) spans q none [] inside
+-- the first of the uses that are left is put at its place
+module _ (places users uses left : List ℕ) (x user : ℕ) (inside : x < length places) (r : HasRoom places (length users) uses (x ∷ left)) where
+  abbrev place : ℕ
+  place = slice_index places x
 
-  row_at : (i : ℕ) → i < length spans → get_or (rows_in after (set spans q (grown spans q))) i [] ≡ get_or (set rows q (row rows q ++ user ∷ [])) i []
-  row_at i h =
-      let full = row rows q ++ user ∷ [] in
-      let long = length-set spans q (grown spans q) in
-      let wide = length-map spans (row_in numbers) in
-      let here = get_or-map (row_in after) (set spans q (grown spans q)) i none [] (omega arith) in
-      elim (set_cases spans q (grown spans q) none i inside) [
-        | inl e ↦
-            here ∙ ap (row_in after) e.1 ∙ row_in-grown numbers (start_at spans q) (end_at spans q) user place.ordered place.within
-            ∙ ap (λ r. r ++ user ∷ []) (sym row_is)
-            ∙ sym (ap (λ k. get_or (set rows q full) k []) e.0 ∙ get_or-set_same rows q full [] (omega arith))
-        | inr e ↦
-            here ∙ ap (row_in after) e.1 ∙ row_in-other numbers (end_at spans q) user (get_or spans i none) (place.apart i h e.0)
-            ∙ sym (get_or-set_other rows q i full [] e.0 ∙ get_or-map (row_in numbers) spans i none [] h)
-      ]
+  before_end : place + 1 ≤ first_place uses (x + 1)
+  before_end = omega (arith, r.room x inside, times-one x left)
 
-  -- the row has the user at its end, and the others are as they were
-  pub rows_in-place : rows_in after (set spans q (grown spans q)) ≡ set rows q (row rows q ++ user ∷ [])
-  rows_in-place =
-      let full = row rows q ++ user ∷ [] in
-      let long = length-set spans q (grown spans q) in
-      let wide = length-map spans (row_in numbers) in
-      let wide' = length-map (set spans q (grown spans q)) (row_in after) in
-      let wide'' = length-set rows q full in
-      ext_get_or [] (rows_in after (set spans q (grown spans q))) (set rows q full) (omega arith) (λ i h. row_at i (omega arith))
+  pub place_within : place < length users
+  place_within = omega (arith, before_end, first-ordered uses (x + 1) (length places) (omega arith), r.all, r.size)
 
--- the next use of a row is put at its place
-module _ (old : List (List ℕ)) (spans spans' : List Span) (users users' : List ℕ) (uses rest : List ℕ) (user k x : ℕ) (next : k < length uses) (is : get_or uses k 0 ≡ x) (inside : x < length spans) (room : HasRoom spans (length users) (times (drop k uses ++ rest))) where
-  left : drop k uses ++ rest ≡ x ∷ (drop (k + 1) uses ++ rest)
-  left = ap (λ us. us ++ rest) (drop_more uses k 0 next) ∙ ap (λ u. u ∷ (drop (k + 1) uses ++ rest)) is
+  places_at : (q : ℕ) → q < length places → (slice_index places q ≤ slice_index (set places x (place + 1)) q) × (slice_index (set places x (place + 1)) q + times left q ≡ slice_index places q + times (x ∷ left) q)
+  places_at q h = elim (set_cases places x (place + 1) 0 q inside) [
+    | inl e ↦
+        let now : slice_index (set places x (place + 1)) q ≡ place + 1 = e.1 in
+        let was : slice_index places q ≡ place = ap (slice_index places) e.0 in
+        let t = ap (times left) e.0 in
+        let u = ap (times (x ∷ left)) e.0 in
+        (omega (arith, now, was), omega (arith, now, was, t, u, times-one x left))
+    | inr e ↦
+        let now : slice_index (set places x (place + 1)) q ≡ slice_index places q = e.1 in
+        (omega (arith, now), omega (arith, now, times-other x left q e.0))
+  ]
 
-  room_left : HasRoom spans (length users) (times (x ∷ (drop (k + 1) uses ++ rest)))
-  room_left = let P : List ℕ → Type 0 = λ us. HasRoom spans (length users) (times us) in subst P left room
+  -- the other uses have room as before
+  pub room_after : HasRoom (set places x (place + 1)) (length (set users place user)) uses left
+  room_after =
+      let long = length-set places x (place + 1) in
+      record {
+        all = ap (first_place uses) long ∙ r.all;
+        size = length-set users place user ∙ r.size;
+        begun = λ q h. omega (arith, r.begun q (omega arith), (places_at q (omega arith)).0);
+        room = λ q h. omega (arith, r.room q (omega arith), (places_at q (omega arith)).1);
+      }
 
-  pub place_next : HasPlace spans (length users) x
-  place_next = HasPlace-next x (drop (k + 1) uses ++ rest) spans (length users) inside room_left
+  -- the node has one more user
+  pub users_grown : users_so_far (set users place user) (set places x (place + 1)) uses x ≡ users_so_far users places uses x ++ user ∷ []
+  users_grown =
+      let now : slice_index (set places x (place + 1)) x ≡ place + 1 = get_or-set_same places x (place + 1) 0 inside in
+      ap (slice_range (set users place user) (first_place uses x)) now
+      ∙ range-grown users (first_place uses x) place user (r.begun x inside) place_within
 
-  module _ (spans_are : spans' ≡ set spans x (grown spans x)) (users_are : users' ≡ set users (end_at spans x) user) where
-    pub room_next : HasRoom spans' (length users') (times (drop (k + 1) uses ++ rest))
+  beside : (q : ℕ) → q ≢ x → (slice_index places q ≤ place) ⊎ (place < first_place uses q)
+  beside q other = elim (cases_order q x) [
+    | inl e ↦ absurd (other e)
+    | inr side ↦ elim side [
+      | inl h ↦ inl (omega (arith, r.room q (omega arith), first-ordered uses (q + 1) x (omega arith), r.begun x inside))
+      | inr h ↦ inr (omega (arith, before_end, first-ordered uses (x + 1) q (omega arith)))
+    ]
+  ]
+
+  -- and the others have those that they had
+  pub users_kept : (q : ℕ) → q ≢ x → users_so_far (set users place user) (set places x (place + 1)) uses q ≡ users_so_far users places uses q
+  users_kept q other =
+      let same : slice_index (set places x (place + 1)) q ≡ slice_index places q = get_or-set_other places x q (place + 1) 0 other in
+      ap (slice_range (set users place user) (first_place uses q)) same
+      ∙ range-other users place user (first_place uses q) (slice_index places q) (beside q other)
+
+  -- where these are the places and the users after it
+  module _ (places' users' : List ℕ) (places_are : places' ≡ set places x (place + 1)) (users_are : users' ≡ set users place user) where
+    pub room_next : HasRoom places' (length users') uses left
     room_next =
-        let P : List Span → Type 0 = λ ss. HasRoom ss (length users') (times (drop (k + 1) uses ++ rest)) in
-        let Q : ℕ → Type 0 = λ n. HasRoom (set spans x (grown spans x)) n (times (drop (k + 1) uses ++ rest)) in
-        subst P (sym spans_are) (subst Q (sym (ap length users_are ∙ length-set users (end_at spans x) user)) (HasRoom-next x (drop (k + 1) uses ++ rest) spans (length users) inside room_left))
+        let P : List ℕ → Type 0 = λ ps. HasRoom ps (length users') uses left in
+        let Q : List ℕ → Type 0 = λ us. HasRoom (set places x (place + 1)) (length us) uses left in
+        subst P (sym places_are) (subst Q (sym users_are) room_after)
 
-    pub added_next : AddsUser old (rows_in users spans) (take k uses) user → AddsUser old (rows_in users' spans') (take (k + 1) uses) user
-    added_next before =
-        let now = rows_in users spans in
-        let wide = length-map spans (row_in users) in
-        let P : List (List ℕ) → Type 0 = λ rows. AddsUser old rows (take (k + 1) uses) user in
-        let same : rows_in users' spans' ≡ set now x (row now x ++ user ∷ []) =
-        ap (λ ns. rows_in ns spans') users_are
-        ∙ ap (λ ss. rows_in (set users (end_at spans x) user) ss) spans_are
-        ∙ rows_in-place users spans x user inside place_next
-        in
-        subst P (sym same) (AddsUser-more old now uses user k x before next is (omega arith))
+    same_users : (q : ℕ) → users_so_far users' places' uses q ≡ users_so_far (set users place user) (set places x (place + 1)) uses q
+    same_users q =
+        ap (λ us. users_so_far us places' uses q) users_are ∙ ap (λ ps. users_so_far (set users place user) ps uses q) places_are
 
--- no spans take no room
-pub HasRoom-none : (room : ℕ → ℕ) → HasRoom [] 0 room
-HasRoom-none room = record {
-  small = omega arith;
-  ordered = λ i h. absurd (omega arith);
-  within = λ i h. absurd (omega arith);
-  apart = λ i j h k. absurd (omega arith);
-}
+    pub grown_next : users_so_far users' places' uses x ≡ users_so_far users places uses x ++ user ∷ []
+    grown_next = same_users x ∙ users_grown
 
--- an empty span is added behind the others
-module _ (spans : List Span) (n : ℕ) (room : ℕ → ℕ) (k : ℕ) (wide : length spans ≡ k) (small : n + room k < 2 ^ 32) (r : HasRoom spans n room) where
-  abbrev more : List Span
-  more = spans ++ record { start = n; end = n } ∷ []
+    pub kept_next : (q : ℕ) → q ≢ x → users_so_far users' places' uses q ≡ users_so_far users places uses q
+    kept_next q other = same_users q ∙ users_kept q other
 
-  kept : (i : ℕ) → i < k → get_or more i none ≡ get_or spans i none
-  kept i h = get_or_append_left spans (record { start = n; end = n } ∷ []) none i (omega arith)
+-- once no use is left, the places are the ends of the rows
+module _ (places users uses : List ℕ) (r : HasRoom places (length users) uses []) where
+  start_is : (q : ℕ) → q ≤ length places → slice_index (0 ∷ places) q ≡ first_place uses q
+  start_is zero h = sym (first-none uses)
+  start_is (suc q) h =
+      let same : q + 1 ≡ suc q = omega arith in
+      let end : slice_index places q + 0 ≡ first_place uses (q + 1) = r.room q (omega arith) in
+      omega (arith, end, ap (first_place uses) same)
 
-  added : (i : ℕ) → k ≤ i → i < length more → (i ≡ k) × (get_or more i none ≡ record { start = n; end = n })
-  added i h l = let long = length_push spans (record { start = n; end = n }) in let e : i ≡ k = omega arith in (e, get_or_push spans (record { start = n; end = n }) none i (wide ∙ sym e))
-
-  pub HasRoom-push : HasRoom (spans ++ record { start = n; end = n } ∷ []) (n + room k) room
-  HasRoom-push = record {
-    small = small;
-    ordered = λ i h. elim (cases_lt i k) [
-      | inl l ↦ let a = r.ordered i (omega arith) in omega (arith, ap (λ s. s.start) (kept i l), ap (λ s. s.end) (kept i l))
-      | inr l ↦ let e = added i l h in omega (arith, ap (λ s. s.start) e.1, ap (λ s. s.end) e.1)
-    ];
-    within = λ i h. elim (cases_lt i k) [
-      | inl l ↦ let a = r.within i (omega arith) in omega (arith, ap (λ s. s.end) (kept i l))
-      | inr l ↦ let e = added i l h in omega (arith, ap room e.0, ap (λ s. s.end) e.1)
-    ];
-    apart = λ i j h l.
-        let long = length_push spans (record { start = n; end = n }) in
-        let a = ap (λ s. s.end) (kept i (omega arith)) in
-        elim (cases_lt j k) [
-          | inl m ↦ let b = r.apart i j h (omega arith) in omega (arith, ap (λ s. s.start) (kept j m))
-          | inr m ↦ let e = added j m l in let b = r.within i (omega arith) in omega (arith, ap (λ s. s.start) e.1)
-        ];
+  pub AreEnds-full : AreEnds 0 places (length users)
+  AreEnds-full = record {
+    ordered = λ q h. omega (arith, start_is q (omega arith), r.begun q h);
+    last = start_is (length places) (omega arith) ∙ r.all ∙ sym r.size;
   }
 
--- and its row is empty
-pub rows_in-empty : (numbers : List ℕ) (spans : List Span) (n k : ℕ) → rows_in numbers spans ≡ replicate k [] → rows_in numbers (spans ++ record { start = n; end = n } ∷ []) ≡ replicate (k + 1) []
-rows_in-empty numbers spans n k e =
-    let nothing : n - n ≡ 0 = omega arith in
-    map_push (row_in numbers) spans (record { start = n; end = n })
-    ∙ ap (λ rows. rows ++ row_in numbers (record { start = n; end = n }) ∷ []) e
-    ∙ ap (λ m. replicate k [] ++ take m (drop n numbers) ∷ []) nothing
-    ∙ replicate_more k []
+  -- and so the rows are the users of the nodes
+  pub row-full : (q : ℕ) → row (rows_in users places) q ≡ users_so_far users places uses q
+  row-full q = elim (cases_lt q (length places)) [
+    | inl h ↦ get_or-rows_from users 0 places q h ∙ ap (λ start. slice_range users start (slice_index places q)) (start_is q (omega arith))
+    | inr h ↦
+        let past : slice_index places q ≡ 0 = get_or_past places q 0 h in
+        get_or_past (rows_in users places) q [] (omega (arith, length-rows_from users 0 places))
+        ∙ sym (range-none users (first_place uses q) (slice_index places q) (omega (arith, past)))
+  ]
+
+-- where the uses are counted, and the places are the sums of the counts before them, there is room for all uses
+module _ (g : List (List ℕ)) (counts places users : List ℕ) (counted : AddsCounts (replicate (length g) 0) counts (uses_in g)) (size : length places ≡ length counts) (sums : (q : ℕ) → q < length counts → slice_index places q ≡ sum (take q counts)) (long : length users ≡ sum counts) where
+  wide : length counts ≡ length g
+  wide = counted.size ∙ length-replicate {A = ℕ} (length g) 0
+
+  first-sum : (q : ℕ) → q ≤ length counts → sum (take q counts) ≡ first_place (uses_in g) q
+  first-sum zero h = sym (first-none (uses_in g))
+  first-sum (suc q) h =
+      let same : suc q ≡ q + 1 = omega arith in
+      let more : sum (take (q + 1) counts) ≡ sum (take q counts) + get_or counts q 0 = sum_by_more (λ (m : ℕ). m) counts q 0 (omega arith) in
+      let next : sum (take (suc q) counts) ≡ sum (take q counts) + get_or counts q 0 = ap (λ n. sum (take n counts)) same ∙ more in
+      omega (arith, first-sum q (omega arith), next, first-suc (uses_in g) q, count_is (length g) counts (uses_in g) q counted (omega (arith, wide)))
+
+  first-place : (q : ℕ) → q < length places → slice_index places q ≡ first_place (uses_in g) q
+  first-place q h = sums q (omega arith) ∙ first-sum q (omega arith)
+
+  total : sum counts ≡ length (uses_in g)
+  total = total_is g counts counted ∙ sym (length-uses_in g)
+
+  pub room_first : HasRoom places (length users) (uses_in g) (uses_in g)
+  room_first = record {
+    all =
+        ap (first_place (uses_in g)) size ∙ sym (first-sum (length counts) (omega arith))
+        ∙ ap sum (take_all (length counts) counts (omega arith)) ∙ total;
+    size = long ∙ total;
+    begun = λ q h. omega (arith, first-place q h);
+    room = λ q h. omega (arith, first-place q h, first-next (uses_in g) q);
+  }
+
+  pub none_first : (q : ℕ) → users_so_far users places (uses_in g) q ≡ []
+  none_first q =
+      range-none users (first_place (uses_in g) q) (slice_index places q) (elim (cases_lt q (length places)) [
+        | inl h ↦ omega (arith, first-place q h)
+        | inr h ↦ let past : slice_index places q ≡ 0 = get_or_past places q 0 h in omega (arith, past)
+      ])

@@ -29,7 +29,7 @@ AddsCounts-join a b c us vs s t = record {
       omega arith;
 }
 
-abbrev if_so : Bool → ℕ
+abbrev pub if_so : Bool → ℕ
 if_so b = cond b 1 0
 
 -- one more use

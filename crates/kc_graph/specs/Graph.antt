@@ -19,7 +19,7 @@ use_count g = number_count g
 abbrev pub IsClosed : List (List ℕ) → Type 0
 IsClosed g = (p q : ℕ) → Uses g p q → q < length g
 
--- each node stands in the order exactly once, after all that it uses
+-- each node is in the order exactly once, after all that it uses
 pub record IsOrder (g : List (List ℕ)) (order : List ℕ) : Type 0 where
   pub within : (i : ℕ) → i < length order → slice_index order i < length g
   pub complete : (p : ℕ) → p < length g → Contains order p

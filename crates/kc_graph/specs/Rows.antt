@@ -1,28 +1,20 @@
--- Rows of numbers that stand one after another in one list: this project's own.
-use Rattle.std.specs.Prelude.{ℕ, ◌<◌, ◌≤◌, ◌^◌, List, All, length, map, slice_range, sum_by}
-use Rattle.kc_graph.specs.declared.rows.Span.{Span}
+-- Rows of numbers that are kept one after another in one list: this project's own.
+use Rattle.std.specs.Prelude.{◌≡◌, ℕ, ◌<◌, ◌≤◌, List, [], ◌∷◌, length, slice_index, slice_range, sum_by}
 
--- the elements of a span
-abbrev pub row_in : {A : Type 0} → List A → Span → List A
-row_in xs s = slice_range xs s.start s.end
+-- the rows that end before these places: the first one starts at a place, and each other one where the one before it ends
+abbrev pub rows_from : {A : Type 0} → List A → ℕ → List ℕ → List (List A)
+rows_from xs start [] = []
+rows_from xs start (end ∷ ends) = slice_range xs start end ∷ rows_from xs end ends
 
--- the rows of spans
-abbrev pub rows_in : {A : Type 0} → List A → List Span → List (List A)
-rows_in xs spans = map (row_in xs) spans
+-- the rows that end before these places
+abbrev pub rows_in : {A : Type 0} → List A → List ℕ → List (List A)
+rows_in xs ends = rows_from xs 0 ends
 
 -- how many numbers the rows hold, counting repeats
 abbrev pub number_count : List (List ℕ) → ℕ
 number_count rows = sum_by (λ row. length row) rows
 
--- a span of a list of n
-pub record FitsIn (n : ℕ) (s : Span) : Type 0 where
-  pub ordered : s.start ≤ s.end
-  pub within : s.end ≤ n
-
--- the spans are rows of the numbers: each is one of the list, and all are counted in 32 bits, as are the numbers that
--- they hold together
-pub record AreRowsIn (numbers : List ℕ) (spans : List Span) : Type 0 where
-  pub fit : All (FitsIn (length numbers)) spans
-  pub few : length spans < 2 ^ 32
-  pub few_numbers : length numbers < 2 ^ 32
-  pub held : number_count (rows_in numbers spans) ≤ length numbers
+-- from a start on no row ends before it starts, and the last one ends at a count
+pub record AreEnds (start : ℕ) (ends : List ℕ) (count : ℕ) : Type 0 where
+  pub ordered : (i : ℕ) → i < length ends → slice_index (start ∷ ends) i ≤ slice_index ends i
+  pub last : slice_index (start ∷ ends) (length ends) ≡ count

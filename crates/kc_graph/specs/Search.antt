@@ -1,4 +1,4 @@
--- This project's own: the state of a depth-first search over a graph.
+-- Steps: this project's own: the state of a depth-first search over a graph.
 -- Each node has a mark, and every fact about the path and the order goes through the marks.
 use Rattle.std.specs.Prelude.{◌≡◌, ◌≢◌, ℕ, ◌+◌, ◌-◌, ◌<◌, Bool, true, false, List, [], ◌∷◌, length, take, slice_index, slice_index_or, Contains, count_by}
 use Rattle.kc_graph.specs.Graph.{row, Uses}

@@ -1,5 +1,5 @@
--- Rows of nodes, of which several share a list of nodes: this project's own.
--- A table has the rows of n nodes first, and shared rows behind them. In the row of a node a number below n stands for
+-- Rows of nodes, where several share a list of nodes: this project's own.
+-- A table has the rows of n nodes first, and shared rows after them. In the row of a node a number below n stands for
 -- the node itself, and one from n on for the nodes of its shared row.
 use Rattle.std.specs.Prelude.{ℕ, ◌<◌, ◌≤◌, if◌then◌else◌, nat_lt, Bool, List, [], ◌∷◌, length, take, map, slice_index_or, flat_map}
 use Rattle.kc_graph.specs.Graph.{Uses}

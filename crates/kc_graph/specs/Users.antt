@@ -1,8 +1,6 @@
--- This project's own: the users of the nodes of a graph, while they are being counted and collected.
-use Rattle.std.specs.Prelude.{◌≡◌, ◌≢◌, ◌==◌, ℕ, ◌+◌, ◌<◌, ◌≤◌, ◌^◌, ◌⊎◌, List, length, take, slice_index, slice_index_or, Contains, count_by, flat_map, sum}
-use Rattle.kc_graph.specs.Graph.{Uses, use_count}
-use Rattle.kc_graph.specs.Rows.{rows_in}
-use Rattle.kc_graph.specs.declared.rows.Span.{Span}
+-- Steps: this project's own: the users of the nodes of a graph, while they are being counted and collected.
+use Rattle.std.specs.Prelude.{◌≡◌, ◌==◌, ℕ, ◌+◌, ◌<◌, ◌≤◌, ◌⊎◌, List, length, slice_index, slice_range, Contains, count_by, flat_map, nat_lt, sum}
+use Rattle.kc_graph.specs.Graph.{Uses}
 use Rattle.kc_graph.specs.declared.graph.users.UserRows.{UserRows}
 
 -- how often a list names node q
@@ -19,45 +17,37 @@ pub record AddsCounts (old new uses : List ℕ) : Type 0 where
   pub total : sum new ≡ sum old + length uses
   pub each : (q : ℕ) → q < length old → slice_index new q ≡ slice_index old q + times uses q
 
-abbrev pub start_at : List Span → ℕ → ℕ
-start_at spans i = (slice_index_or spans i (record { start = 0; end = 0 })).start
+-- the place of the first user of node q, where the users of each node come after those of the nodes before it: how many
+-- of the uses name one of these
+abbrev pub first_place : List ℕ → ℕ → ℕ
+first_place uses q = count_by (λ used. nat_lt used q) uses
 
-abbrev pub end_at : List Span → ℕ → ℕ
-end_at spans i = (slice_index_or spans i (record { start = 0; end = 0 })).end
+-- all uses name nodes that have a place, no node's next place is before its first one, and from its next place up to
+-- the first place of the node after it there is room for just those of its uses that are left
+pub record HasRoom (places : List ℕ) (count : ℕ) (uses left : List ℕ) : Type 0 where
+  pub all : first_place uses (length places) ≡ length uses
+  pub size : count ≡ length uses
+  pub begun : (q : ℕ) → q < length places → first_place uses q ≤ slice_index places q
+  pub room : (q : ℕ) → q < length places → slice_index places q + times left q ≡ first_place uses (q + 1)
 
--- the spans stand one after another within n places, span i with room i free places behind it
-pub record HasRoom (spans : List Span) (n : ℕ) (room : ℕ → ℕ) : Type 0 where
-  pub small : n < 2 ^ 32
-  pub ordered : (i : ℕ) → i < length spans → start_at spans i ≤ end_at spans i
-  pub within : (i : ℕ) → i < length spans → end_at spans i + room i ≤ n
-  pub apart : (i j : ℕ) → i < j → j < length spans → end_at spans i + room i ≤ start_at spans j
+-- the rows have room for just the uses that are left of all uses
+abbrev pub HasRoomFor : UserRows → List ℕ → List ℕ → Type 0
+HasRoomFor rows uses left = HasRoom rows.places.items (length rows.users.items) uses left
 
--- the place behind span q is in no other span
-pub record HasPlace (spans : List Span) (n q : ℕ) : Type 0 where
-  pub small : n < 2 ^ 32
-  pub ordered : start_at spans q ≤ end_at spans q
-  pub within : end_at spans q < n
-  pub apart : (i : ℕ) → i < length spans → i ≢ q → (end_at spans i ≤ end_at spans q) ⊎ (end_at spans q < start_at spans i)
+-- the users of node q so far: those between its first place and its next one
+abbrev pub users_so_far : List ℕ → List ℕ → List ℕ → ℕ → List ℕ
+users_so_far users places uses q = slice_range users (first_place uses q) (slice_index places q)
 
--- the users so far
-abbrev pub users_in : UserRows → List (List ℕ)
-users_in rows = rows_in rows.users.items rows.spans.items
+abbrev pub users_of : UserRows → List ℕ → ℕ → List ℕ
+users_of rows uses q = users_so_far rows.users.items rows.places.items uses q
 
--- the rows of users have room for so many more
-abbrev pub HasRoomFor : UserRows → (ℕ → ℕ) → Type 0
-HasRoomFor rows room = HasRoom rows.spans.items (length rows.users.items) room
-
--- the user was added once at each of its uses, and nothing else has changed
-pub record AddsUser (old new : List (List ℕ)) (uses : List ℕ) (user : ℕ) : Type 0 where
-  pub size : length new ≡ length old
-  pub kept : (q p : ℕ) → Uses old q p → Uses new q p
-  pub added : (q : ℕ) → Contains uses q → Uses new q user
-  pub only : (q p : ℕ) → Uses new q p → Uses old q p ⊎ ((p ≡ user) × Contains uses q)
-  pub count : use_count new ≡ use_count old + length uses
+-- the user was added to those of each node that it uses, and nothing else has changed
+pub record AddsUser (old new : ℕ → List ℕ) (uses : List ℕ) (user : ℕ) : Type 0 where
+  pub kept : (q p : ℕ) → Contains (old q) p → Contains (new q) p
+  pub added : (q : ℕ) → Contains uses q → Contains (new q) user
+  pub only : (q p : ℕ) → Contains (new q) p → Contains (old q) p ⊎ ((p ≡ user) × Contains uses q)
 
 -- the users among the first n nodes are collected
-pub record IsConverseBelow (g users : List (List ℕ)) (n : ℕ) : Type 0 where
-  pub size : length users ≡ length g
-  pub from_use : (p q : ℕ) → p < n → Uses g p q → Uses users q p
-  pub to_use : (p q : ℕ) → Uses users p q → Uses g q p
-  pub count : use_count users ≡ use_count (take n g)
+pub record IsConverseBelow (g : List (List ℕ)) (users : ℕ → List ℕ) (n : ℕ) : Type 0 where
+  pub from_use : (p q : ℕ) → p < n → Uses g p q → Contains (users q) p
+  pub to_use : (p q : ℕ) → Contains (users q) p → Uses g p q

@@ -14,7 +14,7 @@ use crate::rows::Rows;
 use search::Search;
 use std::alloc::{AllocError, Global};
 use std::marker::Model;
-use users::{UserRows, use_counts};
+use users::UserRows;
 
 /// A graph has numbered nodes. They are numbered from 0, and row `p` holds the nodes that node `p` uses. Contracts see
 /// its rows.
@@ -24,14 +24,14 @@ pub struct Graph<'a> {
 }
 
 impl<'a> Model for Graph<'a> {
-    ghost use Rattle.std.specs.Prelude.{ℕ, List};
+    ghost use Rattle.std.specs.Prelude.{ℕ, ◌<◌, ◌^◌, List, length};
     ghost use Rattle.kc_graph.specs.Graph.{IsClosed};
 
     ghost Value = { List (List ℕ) };
 
     ghost view = { λ a. a.rows.now };
 
-    ghost invariant = { λ a. IsClosed a.rows.now };
+    ghost invariant = { λ a. IsClosed a.rows.now × (length a.rows.now < 2 ^ 32) };
 }
 
 /// A fault says why no order of a graph was made.
@@ -58,31 +58,34 @@ impl From<AllocError> for OrderFault {
 impl<'a> Graph<'a> {
     ghost use Rattle.kc_graph.specs.OrderFault.{IsTrueFault};
 
-    /// The rows are taken as a graph, in which each node that a row names has a row of its own.
+    /// The rows are taken as a graph, in which each node that a row names has a row of its own, and 32 bits count the
+    /// nodes.
     pub fn of(rows: &'a Rows) -> Graph<'a>
         requires closed { IsClosed rows.now }
+        requires few { length rows.now < 2 ^ 32 }
         ensures { result ≡ rows.entry.now }
     {
         Graph { rows }
     }
 
-    /// The result says how many nodes there are. Its clauses say as well that 32 bits count the nodes and the uses.
+    /// The result says how many nodes there are. Its clauses say as well that 32 bits count them, and that there
+    /// are fewer than 2^63 uses, as memory has room for no more.
     pub fn len(&self) -> usize
         ensures len { result ≡ length self.now }
         ensures few { result < 2 ^ 32 }
-        ensures few_uses { use_count self.now < 2 ^ 32 }
+        ensures few_uses { use_count self.now < 2 ^ 63 }
     {
         self.rows.len()
     }
 
     /// The result is the node at the next place of a node's row, or `None` past its end.
-    fn use_at(&self, node: u32, next: u32) -> Option<u32>
+    fn use_at(&self, node: u32, next: usize) -> Option<u32>
         requires { node < length self.now }
         ensures used { result ≡ slice_get (row self.now node) next }
         ensures within { IfSome result (λ used. used < length self.now) }
-        ensures further { IfSome result (λ _. next + 1 < 2 ^ 32) }
+        ensures further { IfSome result (λ _. next + 1 < 2 ^ 64) }
     {
-        let used = self.rows.row(node as usize).get(next as usize)?;
+        let used = self.rows.row(node as usize).get(next)?;
         Some(*used)
     }
 
@@ -111,8 +114,7 @@ impl<'a> Graph<'a> {
         ensures count { IfOk result (λ users. use_count users ≡ use_count self.now) }
     {
         let nodes = self.len() as u32;
-        let counts = use_counts(alloc, self)?;
-        let mut users = UserRows::with_room(alloc, counts.as_slice())?;
+        let mut users = UserRows::with_room(alloc, self)?;
         for user in 0..nodes {
             users.add_uses(self, user);
         }

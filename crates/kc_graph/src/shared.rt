@@ -1,4 +1,4 @@
-//! Rows of nodes that share lists of nodes, so that a list that stands in many rows takes its memory once.
+//! Rows of nodes that share lists of nodes, so that a list that many rows share takes its memory once.
 
 ghost use Rattle.std.specs.Prelude.{◌≡◌, ◌<◌, ◌^◌, ◌↔◌, ℕ, [], All, IfErr, IfOk, OnOk, filter, length, slice_index_or};
 ghost use Rattle.std.specs.Iterator.{YieldsFirst, item_count};
@@ -13,8 +13,8 @@ use std::marker::Model;
 /// The rows are those of numbered nodes, some of which share lists of nodes. Contracts see the rows of the nodes, with
 /// all that they share.
 ///
-/// A table has the rows of the nodes first, and the shared lists behind them. In a node's row a number below the count
-/// of nodes stands for that node, and one from there on for the nodes of its shared list.
+/// A table has the rows of the nodes first, and the shared lists after them. In a node's row a number below the count
+/// of nodes means that node, and one from there on the nodes of its shared list.
 #[derive(Drop)]
 pub struct SharedRows {
     nodes: usize,
@@ -22,17 +22,17 @@ pub struct SharedRows {
 }
 
 impl Model for SharedRows {
-    ghost use Rattle.std.specs.Prelude.{ℕ, List};
+    ghost use Rattle.std.specs.Prelude.{ℕ, ◌<◌, ◌^◌, List, length};
     ghost use Rattle.kc_graph.specs.Shared.{IsShared, whole_rows};
 
     ghost Value = { List (List ℕ) };
 
     ghost view = { λ a. whole_rows a.nodes a.rows };
 
-    ghost invariant = { λ a. IsShared a.nodes a.rows };
+    ghost invariant = { λ a. IsShared a.nodes a.rows × (length a.rows < 2 ^ 32) };
 }
 
-/// The numbers of nodes are kept in a list, and all others are left out.
+/// The numbers of nodes are kept in a list, and all others are removed.
 fn keep_nodes(numbers: &mut Vec<u32>, nodes: usize)
     ensures { numbers.new.items ≡ filter (is_node nodes) numbers.old.items }
 {
@@ -42,9 +42,11 @@ fn keep_nodes(numbers: &mut Vec<u32>, nodes: usize)
 impl SharedRows {
     ghost use Rattle.kc_graph.specs.OrderFault.{IsTrueFault};
 
-    /// These are the rows of so many nodes, which stand first in a table, with the shared lists behind them.
+    /// These are the rows of so many nodes, which are first in a table, with the shared lists after them. 32 bits count
+    /// the rows of the table.
     pub fn of(nodes: usize, rows: Rows) -> SharedRows
-        requires { IsShared nodes rows }
+        requires shared { IsShared nodes rows }
+        requires few { length rows < 2 ^ 32 }
         ensures { result ≡ whole_rows nodes rows }
     {
         SharedRows { nodes, rows }
@@ -56,12 +58,13 @@ impl SharedRows {
         ensures few { result < 2 ^ 32 }
         ensures closed { IsClosed self.now }
     {
-        let _ = self.rows.len(); // by its clauses 32 bits count the table's rows, of which the nodes' are some
         self.nodes
     }
 
-    /// The result is the table as it is kept, with the shared lists behind the rows of the nodes.
+    /// The result is the table as it is kept, with the shared lists after the rows of the nodes. Its clauses say as well
+    /// that 32 bits count its rows.
     pub fn table(&self) -> &Rows
+        ensures few { length result.now < 2 ^ 32 }
         ensures shared { IsShared (length self.now) result.now }
         ensures holds { (p q : ℕ) → Uses self.now p q ↔ ((p < length self.now) × Holds (length self.now) result.now p q) }
     {
@@ -124,11 +127,11 @@ impl SharedRows {
     }
 }
 
-/// The nodes of a row are gone over, one after another, and what the row shares is read where it stands. Contracts see
-/// the list of the nodes that are left.
+/// The nodes of a row are gone over, one after another, and what the row shares is not copied. Contracts see the list of
+/// the nodes that are left.
 #[derive(Drop)]
 pub struct SharedRow<'a> {
-    /// A number below this one stands for a node, and one from it on for a shared list.
+    /// A number below this one means a node, and one from it on a shared list.
     nodes: usize,
 
     /// The table has the shared lists.

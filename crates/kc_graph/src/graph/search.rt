@@ -1,7 +1,7 @@
 //! A depth-first search that makes an order of a graph's nodes, or finds a loop.
 //!
-//! A node's mark says where the node stands: nowhere yet, on the path from the root to the node that
-//! the search is at, or in the order.
+//! A node's mark says how far the search is with the node: it has not come to it, it has it on the path from the root to
+//! the node that it is at, or it has put it in the order.
 
 ghost use Rattle.std.specs.Prelude.{◌≡◌, ◌-◌, ◌<◌, ◌≤◌, ◌^◌, [], ◌∷◌, ◌++◌, IfErr, IfOk, OnOk, drop, length, replicate, slice_index, slice_set, take};
 ghost use Rattle.kc_graph.specs.OrderFault.{IsTrueFault};
@@ -9,14 +9,14 @@ ghost use Rattle.kc_graph.specs.OrderFault.{IsTrueFault};
 use super::{Graph, OrderFault};
 use std::alloc::{AllocError, Global};
 
-/// A mark says where a node stands.
+/// A mark says how far the search is with a node.
 #[derive(Clone, Copy)]
 pub enum Mark {
     /// The search has not come to it.
     New,
 
     /// It is at a position of the path, and what it uses is done before the next place of its row.
-    Open { position: u32, next: u32 },
+    Open { position: u32, next: usize },
 
     /// It is at a position of the order.
     Done { position: u32 },

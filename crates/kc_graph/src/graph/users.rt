@@ -1,19 +1,19 @@
 //! The users of a graph's nodes: they are counted, and each is then put at a place of its row.
 
-ghost use Rattle.std.specs.Prelude.{◌≡◌, ◌+◌, ◌<◌, ◌≤◌, ◌^◌, [], IfOk, List, ℕ, drop, length, replicate, slice_index, slice_set, sum};
-ghost use Rattle.kc_graph.specs.Graph.{row, use_count};
-ghost use Rattle.kc_graph.specs.Rows.{rows_in, AreRowsIn};
-ghost use Rattle.kc_graph.specs.Users.{times, uses_in, start_at, end_at, AddsCounts, HasRoom, HasPlace};
+ghost use Rattle.std.specs.Prelude.{◌≡◌, ◌+◌, ◌<◌, ◌^◌, ◌∷◌, [], IfOk, ℕ, drop, length, replicate, slice_index, slice_set, sum, take};
+ghost use Rattle.kc_graph.specs.Graph.{row};
+ghost use Rattle.kc_graph.specs.Rows.{rows_in, AreEnds};
+ghost use Rattle.kc_graph.specs.Users.{uses_in, AddsCounts};
 
 use super::Graph;
-use crate::rows::{Rows, Span};
+use crate::rows::Rows;
 use std::alloc::{AllocError, Global};
 
-/// The uses in the row of a node are counted. No count is refused, as 32 bits count all uses.
-fn count_row(counts: &mut Vec<u32>, graph: &Graph<'_>, user: u32)
+/// The uses in the row of a node are counted.
+fn count_row(counts: &mut Vec<usize>, graph: &Graph<'_>, user: u32)
     requires inside { user < length graph.now }
     requires size { length counts.old.items ≡ length graph.now }
-    requires few { sum counts.old.items + length (row graph.now user) < 2 ^ 32 }
+    requires few { sum counts.old.items + length (row graph.now user) < 2 ^ 63 }
     ensures { AddsCounts counts.old.items counts.new.items (row graph.now user) }
 {
     let mut next = 0;
@@ -24,8 +24,9 @@ fn count_row(counts: &mut Vec<u32>, graph: &Graph<'_>, user: u32)
 }
 
 /// The result says how often each node of a graph is used. It fails where memory runs out.
-pub fn use_counts(alloc: Global, graph: &Graph<'_>) -> Result<Vec<u32>, AllocError>
-    ensures { IfOk result (λ counts. AddsCounts (replicate (length graph.now) 0) counts.items (uses_in graph.now)) }
+fn use_counts(alloc: Global, graph: &Graph<'_>) -> Result<Vec<usize>, AllocError>
+    ensures counts { IfOk result (λ counts. AddsCounts (replicate (length graph.now) 0) counts.items (uses_in graph.now)) }
+    ensures few { IfOk result (λ counts. sum counts.items < 2 ^ 63) }
 {
     let nodes = graph.len();
     let mut counts = vec![in alloc; 0; nodes]?;
@@ -35,71 +36,71 @@ pub fn use_counts(alloc: Global, graph: &Graph<'_>) -> Result<Vec<u32>, AllocErr
     Ok(counts)
 }
 
-/// The results are empty spans one after another, each with room behind it, and the end of the last one's room. It
-/// fails where memory runs out.
-fn empty_spans(alloc: Global, rooms: &[u32]) -> Result<(Vec<Span>, u32), AllocError>
-    requires { sum rooms.now < 2 ^ 32 }
-    ensures room { IfOk result (λ r. HasRoom r.0.items r.1 (slice_index rooms.now)) }
-    ensures end { IfOk result (λ r. r.1 ≡ sum rooms.now) }
-    ensures empty { IfOk result (λ r. (numbers : List ℕ) → rows_in numbers r.0.items ≡ replicate (length rooms.now) []) }
+/// Each count becomes the sum of those before it, and the result is the sum of all.
+fn sum_counts(counts: &mut Vec<usize>) -> usize
+    requires { sum counts.old.items < 2 ^ 63 }
+    ensures size { length counts.new.items ≡ length counts.old.items }
+    ensures sums { (i : ℕ) → i < length counts.old.items → slice_index counts.new.items i ≡ sum (take i counts.old.items) }
+    ensures total { result ≡ sum counts.old.items }
 {
-    let mut spans = Vec::with_capacity(alloc, rooms.len())?;
-    let mut end = 0u32;
-    for room in rooms {
-        spans.push(Span { start: end, end })?;
-        end += *room;
+    let mut total = 0;
+    for count in counts.iter_mut() {
+        let before = total;
+        total += *count;
+        *count = before;
     }
-    Ok((spans, end))
+    total
 }
 
 /// These are rows of users that are being filled.
 #[derive(Drop)]
 pub struct UserRows {
-    /// The span of a row ends behind its users so far.
-    spans: Vec<Span>,
+    /// The next user of each node is put at its place here. The places start as those of the first users, and once all
+    /// users are there, each is the end of its node's row.
+    places: Vec<usize>,
 
-    /// The users of all rows stand here, and the room that is left between them.
+    /// These are the users of all nodes, those of each node after those of the nodes before it.
     users: Vec<u32>,
 }
 
 impl UserRows {
-    ghost use Rattle.kc_graph.specs.Users.{users_in, AddsUser, HasRoomFor};
+    ghost use Rattle.kc_graph.specs.Users.{users_of, AddsUser, HasRoomFor};
 
-    /// The rows are empty, and each has room for so many users. It fails where memory runs out.
-    pub fn with_room(alloc: Global, rooms: &[u32]) -> Result<UserRows, AllocError>
-        requires { sum rooms.now < 2 ^ 32 }
-        ensures room { IfOk result (λ rows. HasRoomFor rows (slice_index rooms.now)) }
-        ensures size { IfOk result (λ rows. length rows.users.items ≡ sum rooms.now) }
-        ensures empty { IfOk result (λ rows. users_in rows ≡ replicate (length rooms.now) []) }
+    /// The rows are empty, and have room for all uses of a graph. It fails where memory runs out.
+    pub fn with_room(alloc: Global, graph: &Graph<'_>) -> Result<UserRows, AllocError>
+        ensures size { IfOk result (λ rows. length rows.places.items ≡ length graph.now) }
+        ensures room { IfOk result (λ rows. HasRoomFor rows (uses_in graph.now) (uses_in graph.now)) }
+        ensures empty { IfOk result (λ rows. (q : ℕ) → users_of rows (uses_in graph.now) q ≡ []) }
     {
-        let (spans, end) = empty_spans(alloc, rooms)?;
-        let users = vec![in alloc; 0; end as usize]?;
-        Ok(UserRows { spans, users })
+        let mut places = use_counts(alloc, graph)?;
+        let total = sum_counts(&mut places);
+        let users = vec![in alloc; 0; total]?;
+        Ok(UserRows { places, users })
     }
 
-    /// A user is put at the place behind a row.
+    /// A user is put at the next place of a node.
     fn add_user(&mut self, used: u32, user: u32)
-        requires inside { used < length self.old.spans.items }
-        requires place { HasPlace self.old.spans.items (length self.old.users.items) used }
-        ensures spans { let end = end_at self.old.spans.items used in self.new.spans.items ≡ slice_set self.old.spans.items used (record { start = start_at self.old.spans.items used; end = end + 1 }) }
-        ensures users { self.new.users.items ≡ slice_set self.old.users.items (end_at self.old.spans.items used) user }
+        requires inside { used < length self.old.places.items }
+        requires place { slice_index self.old.places.items used < length self.old.users.items }
+        ensures places { let place = slice_index self.old.places.items used in
+            self.new.places.items ≡ slice_set self.old.places.items used (place + 1) }
+        ensures users { let place = slice_index self.old.places.items used in
+            self.new.users.items ≡ slice_set self.old.users.items place user }
     {
-        let Span { start, end } = self.spans[used as usize];
-        self.users[end as usize] = user;
-        self.spans[used as usize] = Span {
-            start,
-            end: end + 1,
-        };
+        let place = self.places[used as usize];
+        self.users[place] = user;
+        self.places[used as usize] = place + 1;
     }
 
     /// A node is added to the users of each node that it uses.
     pub fn add_uses(&mut self, graph: &Graph<'_>, user: u32)
         requires inside { user < length graph.now }
-        requires size { length self.old.spans.items ≡ length graph.now }
-        requires room { HasRoomFor self.old (times (uses_in (drop user graph.now))) }
-        ensures room { HasRoomFor self.new (times (uses_in (drop (user + 1) graph.now))) }
-        ensures size { length self.new.users.items ≡ length self.old.users.items }
-        ensures added { AddsUser (users_in self.old) (users_in self.new) (row graph.now user) user }
+        requires size { length self.old.places.items ≡ length graph.now }
+        requires room { HasRoomFor self.old (uses_in graph.now) (uses_in (drop user graph.now)) }
+        ensures size { length self.new.places.items ≡ length graph.now }
+        ensures room { HasRoomFor self.new (uses_in graph.now) (uses_in (drop (user + 1) graph.now)) }
+        ensures added { let uses = uses_in graph.now in
+            AddsUser (users_of self.old uses) (users_of self.new uses) (row graph.now user) user }
     {
         let mut next = 0;
         while let Some(used) = graph.use_at(user, next) {
@@ -110,10 +111,10 @@ impl UserRows {
 
     /// The result is the rows as they are, once they are full.
     pub fn into_rows(self) -> Rows
-        requires { AreRowsIn self.users.items self.spans.items }
-        ensures { result ≡ users_in self }
+        requires { AreEnds 0 self.places.items (length self.users.items) }
+        ensures { result ≡ rows_in self.users.items self.places.items }
     {
-        let UserRows { spans, users } = self;
-        Rows::of_spans(spans, users)
+        let UserRows { places, users } = self;
+        Rows::of_ends(places, users)
     }
 }

@@ -1,7 +1,8 @@
-use Rattle.std.proofs.Common.{◌≡◌, List, [], ℕ, length, replicate, take, sym, subst, ◌∙◌, arith}
+use Rattle.std.proofs.Common.{◌≡◌, ◌*◌, List, [], ℕ, length, replicate, take, sum, sym, ap, subst, ◌∙◌, arith}
 use Rattle.std.proofs.lemmas.List.{length-replicate, take_all}
+use Rattle.std.proofs.lemmas.List.Folds.{sum_by-replicate}
 use Rattle.kc_graph.specs.Users.{uses_in, AddsCounts}
-use Rattle.kc_graph.proofs.UseCounts.{AddsCounts-none, AddsCounts-join, few_so_far, uses_in-more}
+use Rattle.kc_graph.proofs.UseCounts.{AddsCounts-none, AddsCounts-join, few_so_far, length-uses_in, uses_in-more}
 use Rattle.kc_graph.proofs.graph.users.use_counts.Goals as goal
 
 pub loop-user-init : goal.loop-user-init
@@ -27,9 +28,17 @@ loop-user-preserved c =
     subst P (sym more)
     (AddsCounts-join (replicate (length g) 0) c.loop-user.counts.items c.count_row.new.counts.items (uses_in (take k g)) _ c.loop-user.invariant c.count_row.ensures)
 
-pub returns : goal.returns
-returns c =
+pub returns-clause-counts : goal.returns-clause-counts
+returns-clause-counts c =
     let g = c.args.graph.now in
     let all = take_all c.loop-user.user g (omega (arith, c.len-nodes.ensures.len)) in
     let P : List (List ℕ) → Type 0 = λ rows. AddsCounts (replicate (length g) 0) c.loop-user.counts.items (uses_in rows) in
     subst P all c.loop-user.invariant
+
+pub returns-clause-few : goal.returns-clause-few
+returns-clause-few c =
+    let g = c.args.graph.now in
+    let counted = c.loop-user.invariant in
+    let none : sum (replicate (length g) 0) ≡ length g * 0 = sum_by-replicate (λ (m : ℕ). m) (length g) 0 in
+    let all = take_all c.loop-user.user g (omega (arith, c.len-nodes.ensures.len)) in
+    omega (arith, counted.total, none, ap (λ rows. length (uses_in rows)) all, length-uses_in g, c.len-nodes.ensures.few_uses)

@@ -14,7 +14,7 @@ returns-clause-within c =
     subst Within c.self.view_is (elim c.if-number-self.branch [
       | then-number-self w ↦
           let is : left ≡ row g c.args.number = ap (λ (b : Bor (List ℕ)). b.now) w.left-is ∙ w.row-left.ensures.row in
-          subst (AllWithin n g) (sym is) (AllWithin-row n g c.args.number c.self.invariant w.if-number-self.true)
+          subst (AllWithin n g) (sym is) (AllWithin-row n g c.args.number c.self.invariant.0 w.if-number-self.true)
       | else-number-self w ↦
           let is : left ≡ [] = ap (λ (b : Bor (List ℕ)). b.now) w.left-is in
           subst (AllWithin n g) (sym is) (AllWithin-none n g)
