@@ -12,6 +12,7 @@ pub mod HelpWords
 pub mod ItemLines
 pub mod Joining
 pub mod Lexing
+pub mod LineCounts
 pub mod LineRuns
 pub mod Names
 pub mod Nesting

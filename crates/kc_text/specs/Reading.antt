@@ -125,6 +125,8 @@ top_read files outside top = elim (text_of top files) [
   | Some text ↦ file_read outside (placed files outside 63 (top ∷ [])) top 0 text nothing_read
 ]
 
--- the logical lines of a top file, or the first fault
+-- The logical lines of a top file, or the first fault. They are no more than MOST_LINES: each takes at least one byte of
+-- the top file, which has 16777216 at most, or of the texts that are put in place, which have as many at most. The end of
+-- a file that is put in place takes the bytes of its `source` line, and only the end of the top file takes none.
 abbrev pub logical_lines_of : List File → Environment → List ℕ → Result (List LineValue) TextFault
 logical_lines_of files outside top = then_on (top_read files outside top) (λ s. Ok s.lines)

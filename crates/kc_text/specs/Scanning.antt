@@ -1,4 +1,4 @@
--- What the values of the code stand for: this project's own.
+-- Steps: what the values of the code stand for: this project's own.
 use Rattle.std.specs.Prelude.{ℕ, ◌-◌, List, [], ◌∷◌, ◌++◌, length, map, flat_map}
 use Rattle.std.specs.String.{string_bytes}
 use denote.Ref.{Bor}

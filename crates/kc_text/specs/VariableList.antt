@@ -1,4 +1,4 @@
--- The variables that lines have defined, as contracts see them: this project's own.
+-- Steps: the variables that lines have defined, as contracts see them: this project's own.
 use Rattle.std.specs.Prelude.{ℕ, List, map, String, string_bytes}
 use Rattle.std.specs.BTreeMap.{BTreeMap}
 use Rattle.std.specs.declared.alloc.Global.{Global}

@@ -30,6 +30,7 @@ pub use fault::{TextFault, TextProblem};
 pub use help_text::HelpText;
 pub use line::{Line, LineKind, Operator, Token};
 pub use lines::logical_lines;
+pub use reading::MOST_LINES;
 pub use sources::Sources;
 pub use text::{Text, TextRef};
 pub use vars::Vars;

@@ -1,12 +1,13 @@
 //! The logical lines of the files.
 
+ghost use Rattle.std.specs.Prelude.{◌≤◌, length, IfOk};
 ghost use Rattle.kc_text.specs.Expansion.{texts_in};
 ghost use Rattle.kc_text.specs.Faults.{GivesBy};
 ghost use Rattle.kc_text.specs.Reading.{logical_lines_of};
 
 use crate::fault::TextFault;
 use crate::line::Line;
-use crate::reading::{Reader, read_top};
+use crate::reading::{MOST_LINES, Reader, read_top};
 use crate::sources::Sources;
 use crate::vars::Vars;
 use bumpalo::Bump;
@@ -16,7 +17,7 @@ use std::alloc::Global;
 ///
 /// A line that ends in a backslash is joined with the next one. A line without tokens, as one of blanks or a
 /// comment, and one that defines a variable are none. A line `help` has its help text. In place of a `source` line
-/// stand the lines of its file. Behind the lines of each file stands its end.
+/// stand the lines of its file. Behind the lines of each file stands its end. There are [`MOST_LINES`] lines at most.
 ///
 /// The first fault in the order of lines decides, with the path of the file and the number of the line: a limit
 /// that is passed (K01), a character that may not stand where it does (K02), a quote that its line does not close
@@ -33,6 +34,7 @@ pub fn logical_lines<'a>(
     vars: &'a Vars,
     top: &str,
 ) -> Result<Vec<Line<'a>>, TextFault>
+    ensures few { IfOk result (λ lines. length lines.items ≤ MOST_LINES) }
     ensures gives { GivesBy (λ v. v.items) result (logical_lines_of sources.now (texts_in vars.now) top.now) }
 {
     read_top(

@@ -16,7 +16,7 @@ use crate::fault::{LineFault, TextFault, TextProblem};
 use crate::items::{Item, Joined, first_item};
 use crate::line::{Line, LineTokens, PlacedFile, Token};
 use crate::place::Place;
-use crate::sources::Sources;
+use crate::sources::{MAX_BYTES, Sources};
 use crate::state::State;
 use crate::text::TextRef;
 use crate::tokens::tokens;
@@ -33,6 +33,10 @@ const MAX_PLACED: usize = 16_777_216;
 
 /// The most `source` lines that are followed.
 const MAX_FOLLOWED: usize = 4_096;
+
+/// The most logical lines. Each takes at least one byte of the top file or of a text that is put in place, but for the
+/// end of the top file: the end of a file that is put in place takes the bytes of its `source` line.
+pub const MOST_LINES: usize = MAX_BYTES + MAX_PLACED + 1;
 
 /// The most files that are open at once.
 const MAX_OPEN: usize = 64;
@@ -243,7 +247,8 @@ fn put_in_place<'a>(
 
 /// The logical lines of the top file and all that it sources.
 pub(crate) fn read_top<'a>(reader: Reader<'a>, top: &str) -> Result<Vec<Line<'a>>, TextFault>
-    ensures { GivesBy (λ v. v.items) result (logical_lines_of reader.entry.sources.now (outside_of reader.entry) top.now) }
+    ensures few { IfOk result (λ lines. length lines.items ≤ MOST_LINES) }
+    ensures gives { GivesBy (λ v. v.items) result (logical_lines_of reader.entry.sources.now (outside_of reader.entry) top.now) }
 {
     let Some((path, text)) = reader.sources.file(top) else {
         let nowhere = Place {

@@ -1,6 +1,6 @@
 //! The files that lines are read from.
 
-ghost use Rattle.std.specs.Prelude.{◌≡◌, ◌≤◌, ℕ, List, [], if◌then◌else◌, MatchOption, OnOk, OnErr};
+ghost use Rattle.std.specs.Prelude.{◌≡◌, ◌≤◌, ℕ, List, [], length, if◌then◌else◌, IfSome, MatchOption, OnOk, OnErr};
 ghost use Rattle.std.specs.Str.{bytes_eq};
 ghost use Rattle.kc_text.specs.FileList.{file_list};
 ghost use Rattle.kc_text.specs.Faults.{GivesAfter};
@@ -13,7 +13,7 @@ use std::collections::BTreeMap;
 use std::marker::Model;
 
 /// The most bytes of all texts together.
-const MAX_BYTES: usize = 16_777_216;
+pub(crate) const MAX_BYTES: usize = 16_777_216;
 
 /// The most files.
 const MAX_FILES: usize = 4_096;
@@ -111,7 +111,8 @@ impl Sources {
 
     /// The path and the text of the file of a path.
     pub(crate) fn file(&self, path: &str) -> Option<(&str, &str)>
-        ensures { MatchOption result (text_of path.now self.now ≡ None) (λ f. (f.0.now ≡ path.now) × (text_of path.now self.now ≡ Some f.1.now)) }
+        ensures short { IfSome result (λ f. length f.1.now ≤ MAX_BYTES) }
+        ensures found { MatchOption result (text_of path.now self.now ≡ None) (λ f. (f.0.now ≡ path.now) × (text_of path.now self.now ≡ Some f.1.now)) }
     {
         let (path, text) = self.files.get_key_value(path)?;
         Some((path.as_str(), text.as_str()))

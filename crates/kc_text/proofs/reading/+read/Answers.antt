@@ -14,14 +14,14 @@ pub put_in_place-returns-in_err-read_file-clause-reads : goal.put_in_place-retur
 put_in_place-returns-in_err-read_file-clause-reads t c =
     let p = err_from_is_err_and c.from_residual-in_err-read_file.result c.from_residual-in_err-read_file.ensures.1 in
     let new : is_among c.args.wanted.now (names_of c.args.around.now.items) ≡ false = cc in
-    let reads = source_reads c.args.reader c.args.around.now.items c.push.new.self.items (place_of c.args.place) c.args.wanted.now c.in-Some.path c.in-Some.text.now (state_of c.args.state.now) new (omega arith) (omega arith) c.in-Some.ensures.0 c.in-Some.ensures.1 (omega arith) c.in_ok-push.ensures.items in
+    let reads = source_reads c.args.reader c.args.around.now.items c.push.new.self.items (place_of c.args.place) c.args.wanted.now c.in-Some.path c.in-Some.text.now (state_of c.args.state.now) new (omega arith) (omega arith) c.in-Some.ensures.found.0 c.in-Some.ensures.found.1 (omega arith) c.in_ok-push.ensures.items in
     let file = λ (f : PlacedFile). file_read (outside_of c.args.reader) (placing c.args.reader c.push.new.self.items) f.path f.run c.in-Some.text.now (entered c.in-Some.text.now (state_of c.args.state.now)) in
     rw (p.1, p.2) (fault_along _ _ _ (λ f h. reads ∙ ap file (sym c.in_ok-file.ensures) ∙ h) c.in_err-read_file.ensures.reads)
 
 pub put_in_place-returns-clause-reads : goal.put_in_place-returns-clause-reads
 put_in_place-returns-clause-reads t c =
     let new : is_among c.args.wanted.now (names_of c.args.around.now.items) ≡ false = cc in
-    source_reads c.args.reader c.args.around.now.items c.push.new.self.items (place_of c.args.place) c.args.wanted.now c.in-Some.path c.in-Some.text.now (state_of c.args.state.now) new (omega arith) (omega arith) c.in-Some.ensures.0 c.in-Some.ensures.1 (omega arith) c.in_ok-push.ensures.items
+    source_reads c.args.reader c.args.around.now.items c.push.new.self.items (place_of c.args.place) c.args.wanted.now c.in-Some.path c.in-Some.text.now (state_of c.args.state.now) new (omega arith) (omega arith) c.in-Some.ensures.found.0 c.in-Some.ensures.found.1 (omega arith) c.in_ok-push.ensures.items
     ∙ ap (λ (f : PlacedFile). file_read (outside_of c.args.reader) (placing c.args.reader c.push.new.self.items) f.path f.run c.in-Some.text.now (entered c.in-Some.text.now (state_of c.args.state.now))) (sym c.in_ok-file.ensures)
     ∙ c.in_ok-read_file.ensures.reads
 
