@@ -18,7 +18,7 @@ use Rattle.kc_statement.specs.declared.expr.ExprKind.TheVariants.{Value}
 use Rattle.kc_statement.specs.declared.attribute.DefaultValue.{DefaultValue}
 use Rattle.kc_statement.specs.declared.attribute.Range.{Range}
 use Rattle.kc_statement.specs.Forms.{is_word, condition_start, IsReading}
-use Rattle.kc_statement.specs.Grammar.{Symbol, term, compares, bang, ampersands, bars, opening, closing, if_word, Formula, atom, bare, compare, negation, group, both, either, formula, spelled, sign_symbol, symbol_of, symbols_of, IsExpression, IsNoExpression}
+use Rattle.kc_statement.specs.Grammar.{Symbol, term, compares, bang, ampersands, bars, opening, closing, if_word, Formula, atom, bare, compare, negation, group, both, either, spelled, sign_symbol, symbol_of, symbols_of, Derives, IsNoExpression}
 use Rattle.kc_statement.specs.Statements.{IsCondition, IsWordAndCondition, IsDefault, IsRange}
 
 -- ---- no `if` in an expression
@@ -83,8 +83,8 @@ has_if-symbols names (t ∷ tokens) =
     ap (λ b. b || list_any is_if_symbol (symbols_of names tokens)) (is_if-symbol names t)
     ∙ ap (λ b. is_word (codes "if") t || b) (has_if-symbols names tokens)
 
-no_if-expression : (k : ExprKind) (names : List (List ℕ)) (tokens : List Token) (e : Expr) → IsExpression k names tokens e → list_any (is_word (codes "if")) tokens ≡ false
-no_if-expression k names tokens e h = sym (has_if-symbols names tokens) ∙ ap has_if h.derives.is ∙ no_if-spelled (formula e)
+no_if-expression : (k : ExprKind) (names : List (List ℕ)) (tokens : List Token) (e : Expr) → Derives k names tokens e → list_any (is_word (codes "if")) tokens ≡ false
+no_if-expression k names tokens e h = sym (has_if-symbols names tokens) ∙ ap has_if h.is ∙ no_if-spelled e
 
 -- ---- the first of them
 first_part : (a b : Bool) → (a || b) ≡ false → a ≡ false
@@ -117,7 +117,7 @@ condition_start-at_condition names tokens None h = ap condition_start h
 condition_start-at_condition names tokens (Some e) h = ap condition_start h.1
 
 -- a default is split there
-pub default_split : (names : List (List ℕ)) (tokens : List Token) (d : DefaultValue) → IsDefault names tokens d → IsExpression Value names (take (condition_start tokens) tokens) d.value × IsCondition names (drop (condition_start tokens) tokens) d.condition
+pub default_split : (names : List (List ℕ)) (tokens : List Token) (d : DefaultValue) → IsDefault names tokens d → Derives Value names (take (condition_start tokens) tokens) d.value × IsCondition names (drop (condition_start tokens) tokens) d.condition
 default_split names tokens d h =
     let start : condition_start tokens ≡ length h.0 =
     ap condition_start h.2
@@ -128,7 +128,7 @@ default_split names tokens d h =
     ap (λ n. take n tokens) start ∙ ap (take (length h.0)) h.2 ∙ take-append_seam h.0 h.1 in
     let back : drop (condition_start tokens) tokens ≡ h.1 =
     ap (λ n. drop n tokens) start ∙ ap (drop (length h.0)) h.2 ∙ drop-append_seam h.0 h.1 in
-    (subst (λ (xs : List Token). IsExpression Value names xs d.value) (sym front) h.3, subst (λ (xs : List Token). IsCondition names xs d.condition) (sym back) h.4)
+    (subst (λ (xs : List Token). Derives Value names xs d.value) (sym front) h.3, subst (λ (xs : List Token). IsCondition names xs d.condition) (sym back) h.4)
 
 -- ---- what is no condition, and no default
 pub no_condition : (names : List (List ℕ)) (tokens : List Token) (o : Option Expr) → (length tokens == 0) ≡ false → o ≡ None → IsReading (IsWordAndCondition names (codes "if") tokens) o → (c : Option Expr) → IsCondition names tokens c → ⊥
@@ -137,11 +137,11 @@ no_condition names tokens o some none unread None h =
     cc
 no_condition names tokens o some none unread (Some e) h = (rw none at unread) e h
 
-pub no_default : (names : List (List ℕ)) (tokens front : List Token) (k : ℕ) (o : Option Expr) → k ≡ condition_start tokens → front ≡ take k tokens → o ≡ None → MatchOption o (IsNoExpression Value names front) (IsExpression Value names front) → (d : DefaultValue) → IsDefault names tokens d → ⊥
+pub no_default : (names : List (List ℕ)) (tokens front : List Token) (k : ℕ) (o : Option Expr) → k ≡ condition_start tokens → front ≡ take k tokens → o ≡ None → MatchOption o (IsNoExpression Value names front) (Derives Value names front) → (d : DefaultValue) → IsDefault names tokens d → ⊥
 no_default names tokens front k o start is none unread d h =
     let value = (default_split names tokens d h).0 in
     let same : take (condition_start tokens) tokens ≡ front = ap (λ n. take n tokens) (sym start) ∙ sym is in
-    (rw none at unread) (formula d.value) (subst (λ (xs : List Token). IsExpression Value names xs d.value) same value).derives
+    (rw none at unread) d.value (subst (λ (xs : List Token). Derives Value names xs d.value) same value)
 
 pub no_default_condition : (names : List (List ℕ)) (tokens back : List Token) (k : ℕ) (o : Option (Option Expr)) → k ≡ condition_start tokens → back ≡ drop k tokens → o ≡ None → IsReading (IsCondition names back) o → (d : DefaultValue) → IsDefault names tokens d → ⊥
 no_default_condition names tokens back k o start is none unread d h =

@@ -1,5 +1,5 @@
 -- What the definitions give for single lines.
-use Rattle.std.proofs.Common.{◌≡◌, ℕ, ◌-◌, ◌^◌, true, List, [], ◌∷◌, Some, None, Box, Global, codes, refl, ap}
+use Rattle.std.proofs.Common.{◌≡◌, ℕ, ◌-◌, ◌^◌, List, [], ◌∷◌, Some, None, codes, refl}
 use Rattle.std.specs.Prelude.{pos, neg_ℤ}
 use Rattle.kc_text.specs.LineValue.{LineValue}
 use Rattle.kc_text.specs.declared.line.LineKind.TheVariants.{Statement}
@@ -12,12 +12,10 @@ use Rattle.kc_statement.specs.declared.expr.Term.{Term}
 use Rattle.kc_statement.specs.declared.expr.Term.TheVariants.{Tri, Text, Symbol, Undefined}
 use Rattle.kc_statement.specs.declared.tri.Tri.TheVariants.{Module, Yes}
 use Rattle.kc_statement.specs.declared.expr.Expr.{Expr}
-use Rattle.kc_statement.specs.declared.expr.Expr.TheVariants as expr
-use Rattle.kc_statement.specs.declared.expr.Expr.TheViews as view
 use Rattle.kc_statement.specs.declared.attribute.Range.{Range}
 use Rattle.kc_statement.specs.declared.keyword.Keyword.TheVariants as keyword
 use Rattle.kc_statement.specs.declared.statement.Statement.TheVariants as statement
-use Rattle.kc_statement.specs.Grammar.{Derives, atom, bare, compare, negation, both, either, group, term, symbol_of, formula, has_shape, term_alone, lone_term}
+use Rattle.kc_statement.specs.Grammar.{Derives, atom, bare, compare, negation, both, either, group, term, symbol_of, term_alone, lone_term}
 use Rattle.kc_statement.specs.Statements.{HasForm}
 use Rattle.kc_statement.specs.Numerals.{int_numeral, hex_numeral}
 use Rattle.kc_statement.specs.Names.{names_of}
@@ -44,11 +42,11 @@ not_equal_and_group : Derives Condition (codes "A" ∷ [])
 not_equal_and_group = record { level = (tt, (refl, refl)); is = refl }
 
 -- ---- terms: `(A)` is one in its parentheses, and none without dropping them
-in_parentheses : (e : Box Expr Global) (x : Term) → e.value ≡ expr.Term x → lone_term (view.Group e) ≡ Some x
-in_parentheses e x is = ap (λ (inner : Expr). lone_term inner) is
+in_parentheses : (x : Term) → lone_term (group (atom x)) ≡ Some x
+in_parentheses x = refl
 
-not_alone : (e : Box Expr Global) → term_alone (view.Group e) ≡ None
-not_alone e = refl
+not_alone : (f : Expr) → term_alone (group f) ≡ None
+not_alone f = refl
 
 -- ---- bare m: in `if "m" && A = m` the first alone, and in `default m` none
 bare_in_condition : Derives Condition (codes "A" ∷ [])
@@ -71,12 +69,11 @@ range_of_two : HasForm [] (line 0 (word (codes "range") ∷ word (codes "1") ∷
 unfolding HasForm
 range_of_two = (keyword.Range, refl, (refl, (word (codes "1"), word (codes "5"), [], refl, refl, refl, refl)))
 
-default_of_a_name : (e : Expr) → formula e ≡ atom (Symbol (record { 0 = 0 })) → has_shape e ≡ true
-    → HasForm (codes "A" ∷ []) (line 0 (word (codes "default") ∷ word (codes "A") ∷ [])) (statement.Default (record { value = e; condition = None }))
+default_of_a_name : HasForm (codes "A" ∷ []) (line 0 (word (codes "default") ∷ word (codes "A") ∷ []))
+    (statement.Default (record { value = atom (Symbol (record { 0 = 0 })); condition = None }))
 unfolding HasForm
-default_of_a_name e is kept =
-    let derived : Derives Value (codes "A" ∷ []) (word (codes "A") ∷ []) (formula e) = rw is (record { level = refl; is = refl }) in
-    (keyword.Default, refl, (refl, (word (codes "A") ∷ [], [], refl, record { derives = derived; is_kept = kept }, refl)))
+default_of_a_name =
+    (keyword.Default, refl, (refl, (word (codes "A") ∷ [], [], refl, record { level = refl; is = refl }, refl)))
 
 -- ---- numerals: the edges of both types
 int_lowest : int_numeral (codes "-9223372036854775808") ≡ Some (neg_ℤ (pos (2 ^ 63)))

@@ -10,10 +10,10 @@ use Rattle.kc_statement.specs.Fronts.{symbols_from, DoesNotBegin, BeginsWithNoTe
 
 -- ---- terms and comparisons
 -- a term that stands alone is bare or not by its kind
-alone_atom : (k : ExprKind) (x : Term) → is_bare_in k x ≡ false → atom x ≡ alone_in k x
+pub alone_atom : (k : ExprKind) (x : Term) → is_bare_in k x ≡ false → atom x ≡ alone_in k x
 alone_atom k x e = ap (λ b. cond b (bare x) (atom x)) (sym e)
 
-alone_bare : (k : ExprKind) (x : Term) → is_bare_in k x ≡ true → bare x ≡ alone_in k x
+pub alone_bare : (k : ExprKind) (x : Term) → is_bare_in k x ≡ true → bare x ≡ alone_in k x
 alone_bare k x e = ap (λ b. cond b (bare x) (atom x)) (sym e)
 
 -- what it is, by whether it is bare

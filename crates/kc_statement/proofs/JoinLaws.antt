@@ -33,7 +33,7 @@ part_cases k (group f) a = inl a
 part_cases k (both f h) a = inr (f, h, a.0, a.1, refl)
 part_cases k (either f g) a = inl a
 
-part_ends : (t : List Symbol) → StopsBefore part t → StopsBefore factor t
+pub part_ends : (t : List Symbol) → StopsBefore part t → StopsBefore factor t
 part_ends [] s = s
 part_ends (Symbol.term x ∷ t) s = s
 part_ends (Symbol.compares c ∷ t) s = s
@@ -73,7 +73,7 @@ expression_cases k (group f) a = inl a
 expression_cases k (both f h) a = inl a
 expression_cases k (either f h) a = inr (f, h, a.0, a.1, refl)
 
-expression_ends : (t : List Symbol) → StopsBefore expression t → StopsBefore part t
+pub expression_ends : (t : List Symbol) → StopsBefore expression t → StopsBefore part t
 expression_ends [] s = s
 expression_ends (Symbol.term x ∷ t) s = s
 expression_ends (Symbol.compares c ∷ t) s = s

@@ -1,11 +1,15 @@
 pub mod ConditionStart
 pub mod Examples
-pub mod FormulaLaws
+pub mod FormOf
 pub mod FrontLaws
 pub mod JoinLaws
+pub mod LoneLaws
 pub mod NamesLemmas
 pub mod NestingLaws
+pub mod NodeLaws
 pub mod NumeralLaws
+pub mod OneFormula
+pub mod OneStatement
 pub mod ReservedLaws
 pub mod ShapeLaws
 pub mod StatementLaws

@@ -1,13 +1,18 @@
 -- The numbers of names: where each stands in a list of them.
-use Rattle.std.proofs.Common.{◌≡◌, ◌<◌, ◌+◌, ℕ, zero, suc, Bool, true, false, ◌||◌, cond, nat_lt, List, [], ◌∷◌, ◌++◌, map, length, get_or, Some, None, position, String, string_bytes, string_eq, refl, sym, ap, ◌∙◌, not, arith}
+use Rattle.std.proofs.Common.{◌≡◌, ◌<◌, ◌≤◌, ◌+◌, nat_le, Option, IfSome, reverse, ℕ, zero, suc, Bool, true, false, ◌||◌, cond, nat_lt, List, [], ◌∷◌, ◌++◌, map, length, get_or, Some, None, position, String, string_bytes, string_eq, refl, sym, ap, ◌∙◌, not, arith}
 use Rattle.std.specs.Str.{bytes_eq}
 use Rattle.indexmap.specs.IndexSet.{insert_key}
 use Rattle.std.specs.List.{prefix_len, list_any, IsDistinct}
-use Rattle.std.proofs.lemmas.List.{length-map, map_push}
+use Rattle.std.proofs.lemmas.List.{length-map, length_push, map_push}
 use Rattle.std.proofs.lemmas.Map.Keys.{IsDistinct-tail, IsDistinct-push, apart_from_distinct}
 use Rattle.std.proofs.lemmas.Slice.Eq.{bytes_eq-Decides}
 use Rattle.std.specs.Cmp.{IsEquivalence}
-use Rattle.std.proofs.lemmas.Bool.{lt-ltb}
+use Rattle.std.proofs.lemmas.Bool.{lt-ltb, lt-leb, leb-false}
+use Rattle.std.proofs.lemmas.List.Quantifiers.{position-Some}
+use Rattle.std.specs.Option.{option_map_or}
+use Rattle.kc_text.specs.LineValue.{LineValue}
+use Rattle.kc_statement.specs.declared.limits.TheConstants.{MOST_SYMBOLS}
+use Rattle.kc_statement.specs.Names.{with_name, defined_name, names_before, names_of}
 
 module _ {A B : Type 0} where
   prefix_len-map : (f : A → B) (p : B → Bool) (xs : List A) → prefix_len p (map f xs) ≡ prefix_len (λ x. p (f x)) xs
@@ -80,3 +85,49 @@ names_stay_distinct names w distinct = by (list_any (bytes_eq w) names) refl
 pub none_distinct : IsDistinct bytes_eq []
 unfolding IsDistinct
 none_distinct = tt
+
+-- ---- how many there are
+few_with_name : (names : List (List ℕ)) (w : List ℕ) → length names ≤ MOST_SYMBOLS → length (with_name names w) ≤ MOST_SYMBOLS
+few_with_name names w few = by (list_any (bytes_eq w) names) (nat_le MOST_SYMBOLS (length names)) refl
+  where
+    by : (known full : Bool) → nat_le MOST_SYMBOLS (length names) ≡ full → length (cond (known || full) names (names ++ w ∷ [])) ≤ MOST_SYMBOLS
+    by true full e = few
+    by false true e = few
+    by false false e = omega (arith, leb-false MOST_SYMBOLS (length names) e, length_push names w)
+
+few_defined : (names : List (List ℕ)) (o : Option (List ℕ)) → length names ≤ MOST_SYMBOLS → length (option_map_or (with_name names) o names) ≤ MOST_SYMBOLS
+few_defined names None few = few
+few_defined names (Some w) few = few_with_name names w few
+
+few_before : (lines : List LineValue) → length (names_before lines) ≤ MOST_SYMBOLS
+few_before [] = omega arith
+few_before (l ∷ earlier) = few_defined (names_before earlier) (defined_name l) (few_before earlier)
+
+pub few_names : (lines : List LineValue) → length (names_of lines) ≤ MOST_SYMBOLS
+few_names lines = few_before (reverse lines)
+
+-- where there is room, a name is added that is not there
+pushed : {A : Type 0} (known : Bool) (xs : List A) (x : A) → length xs < MOST_SYMBOLS → length (cond known xs (xs ++ x ∷ [])) ≤ MOST_SYMBOLS
+pushed true xs x room = omega arith
+pushed false xs x room = omega (arith, length_push xs x)
+
+pub few_inserted : {Z : Type 0} (ks : List (String Z)) (k : String Z) → length ks < MOST_SYMBOLS → length (insert_key string_eq ks k) ≤ MOST_SYMBOLS
+few_inserted ks k room = pushed (list_any (string_eq k) ks) ks k room
+
+or_false : (b : Bool) → b ≡ (b || false)
+or_false true = refl
+or_false false = refl
+
+pub with_name-room : (names : List (List ℕ)) (w : List ℕ) → length names < MOST_SYMBOLS → cond (list_any (bytes_eq w) names) names (names ++ w ∷ []) ≡ with_name names w
+with_name-room names w room =
+    ap (λ b. cond b names (names ++ w ∷ [])) (or_false (list_any (bytes_eq w) names))
+    ∙ ap (λ full. cond (list_any (bytes_eq w) names || full) names (names ++ w ∷ [])) (sym (lt-leb MOST_SYMBOLS (length names) room))
+
+-- a number that is found is small
+pub few_found : (p : List ℕ → Bool) (names : List (List ℕ)) (r : Option ℕ) → r ≡ position p names → length names ≤ MOST_SYMBOLS → IfSome r (λ n. n < MOST_SYMBOLS)
+few_found p names None e few = tt
+few_found p names (Some n) e few = omega (arith, (position-Some p names n [] (sym e)).0, few)
+
+-- as many texts as names
+pub as_many : {Z : Type 0} (ks : List (String Z)) (names : List (List ℕ)) → map string_bytes ks ≡ names → length names ≡ length ks
+as_many ks names e = ap length (sym e) ∙ length-map ks string_bytes

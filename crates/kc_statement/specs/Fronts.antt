@@ -1,10 +1,10 @@
--- What stands at the front of symbols: this project's own words for reading an expression from left to right.
-use Rattle.std.specs.Prelude.{◌≡◌, ℕ, List, [], ◌∷◌, ◌++◌, if◌then◌else◌, drop}
+-- Steps: what is at the front of symbols: this project's own words for reading an expression from left to right.
+use Rattle.std.specs.Prelude.{◌≡◌, ℕ, Bool, true, List, [], ◌∷◌, ◌++◌, if◌then◌else◌, drop}
 use Rattle.kc_text.specs.declared.line.Token.{Token}
 use Rattle.kc_statement.specs.declared.expr.Term.{Term}
 use Rattle.kc_statement.specs.declared.expr.Comparison.{Comparison}
 use Rattle.kc_statement.specs.declared.expr.ExprKind.{ExprKind}
-use Rattle.kc_statement.specs.Grammar.{Symbol, term, compares, ampersands, bars, Formula, atom, bare, is_bare_in, spelled, Level, part, expression, IsAt, symbols_of}
+use Rattle.kc_statement.specs.Grammar.{Symbol, term, compares, ampersands, bars, Formula, atom, bare, is_bare_in, spelled, Level, factor, part, expression, IsAt, symbols_of, is_factor, is_part}
 
 -- the symbols from a position on
 abbrev pub symbols_from : List (List ℕ) → List Token → ℕ → List Symbol
@@ -46,3 +46,9 @@ IsUnreadable k l symbols = (g : Formula) (t : List Symbol) → IsAt k l g → St
 -- a term that stands alone
 abbrev pub alone_in : ExprKind → Term → Formula
 alone_in k x = if is_bare_in k x then bare x else atom x
+
+-- whether a formula is one of that level by what it is on the outside
+abbrev pub stands_at : Level → Formula → Bool
+stands_at factor f = is_factor f
+stands_at part f = is_part f
+stands_at expression f = true

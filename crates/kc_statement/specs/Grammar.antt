@@ -1,7 +1,6 @@
 -- The grammar of expressions: kconfig-language.rst, "Menu dependencies". A list of tokens is an expression where it
 -- is one written out.
-use Rattle.std.specs.Prelude.{◌≡◌, ℕ, zero, suc, Bool, true, false, ◌&&◌, List, [], ◌∷◌, ◌++◌, Option, Some, None, map, if◌then◌else◌, nat_le, length, codes}
-use Rattle.std.specs.List.{list_all}
+use Rattle.std.specs.Prelude.{◌≡◌, ℕ, Bool, true, false, List, [], ◌∷◌, ◌++◌, Option, Some, None, map, if◌then◌else◌, codes}
 use Rattle.std.specs.Str.{bytes_eq}
 use Rattle.kc_text.specs.declared.line.Operator.{Operator as Sign}
 use Rattle.kc_text.specs.declared.line.Operator.TheVariants as sign
@@ -12,13 +11,10 @@ use Rattle.kc_statement.specs.declared.expr.Term.{Term}
 use Rattle.kc_statement.specs.declared.expr.Term.TheVariants.{Tri, Text, Symbol as Named, Undefined}
 use Rattle.kc_statement.specs.declared.expr.Comparison.{Comparison}
 use Rattle.kc_statement.specs.declared.expr.Comparison.TheVariants as comparison
+use Rattle.kc_statement.specs.Names.{word_term, quoted_term}
 use Rattle.kc_statement.specs.declared.expr.ExprKind.{ExprKind}
 use Rattle.kc_statement.specs.declared.expr.ExprKind.TheVariants.{Condition, Value}
-use Rattle.kc_statement.specs.declared.expr.Expr.{Expr, Group'}
-use Rattle.kc_statement.specs.declared.expr.Expr.TheVariants as expr
-use Rattle.kc_statement.specs.declared.expr.Expr.TheOpen.{Expr-F}
-use Rattle.kc_statement.specs.declared.expr.Expr.TheFolds.{fold-Expr}
-use Rattle.kc_statement.specs.Names.{word_term, quoted_term}
+pub use Rattle.kc_statement.specs.Formula.{Formula, atom, bare, compare, negation, group, both, either, joined, all_joined, any_joined, negations, is_plain, is_factor, is_part}
 
 -- ---- what tokens are to the grammar
 pub data Symbol : Type 0 where
@@ -70,16 +66,6 @@ is_bare_in Condition x = is_module_term x
 is_bare_in Value x = false
 
 -- ---- expressions
--- an expression, with the parentheses that were written; `bare` is an m alone in a condition
-pub data Formula : Type 0 where
-  atom : Term → Formula
-  bare : Term → Formula
-  compare : Comparison → Term → Term → Formula
-  negation : Formula → Formula
-  group : Formula → Formula
-  both : Formula → Formula → Formula
-  either : Formula → Formula → Formula
-
 -- which part of the grammar it can stand for
 pub data Level : Type 0 where
   factor : Level
@@ -116,100 +102,22 @@ pub record Derives (kind : ExprKind) (names : List (List ℕ)) (tokens : List To
   pub level : IsAt kind Level.expression f
   pub is : symbols_of names tokens ≡ spelled f
 
--- ---- expressions as they are kept
--- the formulas of a list, each joined with those after it. No expression that is read has an empty list (`has_shape`):
--- that case is there so that each list has a formula
-abbrev pub joined : (Formula → Formula → Formula) → Formula → List Formula → Formula
-joined join empty [] = empty
-joined join empty (f ∷ []) = f
-joined join empty (f ∷ g ∷ fs) = join f (joined join empty (g ∷ fs))
-
--- joined by `&&`: of an empty list y, the greatest value
-abbrev pub all_joined : List Formula → Formula
-all_joined = joined both (atom (Tri Yes))
-
--- joined by `||`: of an empty list n, the least value
-abbrev pub any_joined : List Formula → Formula
-any_joined = joined either (atom (Tri No))
-
--- the formula behind a run of so many `!`, each of which is a negation
-abbrev pub negations : ℕ → Formula → Formula
-negations zero f = f
-negations (suc n) f = negation (negations n f)
-
-abbrev pub formula_step : Expr-F Formula → Formula
-formula_step (Expr-F.Term x) = atom x
-formula_step (Expr-F.BareModule x) = bare x
-formula_step (Expr-F.Compare c o) = compare c o.value.left o.value.right
-formula_step (Expr-F.Not run e) = negations run.count e.value
-formula_step (Expr-F.Group e) = group e.value
-formula_step (Expr-F.All es) = all_joined es.items
-formula_step (Expr-F.Any es) = any_joined es.items
-
--- what an expression stands for
-abbrev pub formula : Expr → Formula
-formula = fold-Expr Formula formula_step
-
--- what an expression is on the outside: `plain` is a term, a comparison or parentheses, and `unkept` says that in it
--- something stands that is not kept so
-pub data Shape : Type 0 where
-  plain : Shape
-  negated : Shape
-  all : Shape
-  any : Shape
-  unkept : Shape
-
--- whether it is kept where the grammar has an expression of that level
-abbrev pub stands_at : Level → Shape → Bool
-stands_at l plain = true
-stands_at l negated = true
-stands_at factor all = false
-stands_at part all = true
-stands_at expression all = true
-stands_at factor any = false
-stands_at part any = false
-stands_at expression any = true
-stands_at l unkept = false
-
-abbrev pub is_plain : Shape → Bool
-is_plain plain = true
-is_plain _ = false
-
--- a run of `!` has no `!` directly behind it; a list has two or more, and none of its own kind
-abbrev pub shape_step : Expr-F Shape → Shape
-shape_step (Expr-F.Term x) = plain
-shape_step (Expr-F.BareModule x) = plain
-shape_step (Expr-F.Compare c o) = plain
-shape_step (Expr-F.Not run e) = if is_plain e.value then negated else unkept
-shape_step (Expr-F.Group e) = if stands_at expression e.value then plain else unkept
-shape_step (Expr-F.All es) = if nat_le 2 (length es.items) && list_all (stands_at factor) es.items then all else unkept
-shape_step (Expr-F.Any es) = if nat_le 2 (length es.items) && list_all (stands_at part) es.items then any else unkept
-
-abbrev pub shape : Expr → Shape
-shape = fold-Expr Shape shape_step
-
--- It has the shape in which expressions are kept. Two expressions of one formula that both have it are written alike, and
--- differ by where they lie in memory alone; no law says so.
-abbrev pub has_shape : Expr → Bool
-has_shape e = stands_at expression (shape e)
-
--- the tokens are this expression written out, in that shape
-pub record IsExpression (kind : ExprKind) (names : List (List ℕ)) (tokens : List Token) (e : Expr) : Type 0 where
-  pub derives : Derives kind names tokens (formula e)
-  pub is_kept : has_shape e ≡ true
-
 -- the tokens are no expression
 abbrev pub IsNoExpression : ExprKind → List (List ℕ) → List Token → Type 0
 IsNoExpression kind names tokens = (f : Formula) → Derives kind names tokens f → ⊥
 
 -- ---- an expression that is one term
 -- it is asked of the values of defaults alone, where no m is bare: a bare m is none
-abbrev pub term_alone : Expr → Option Term
-term_alone (expr.Term x) = Some x
+abbrev pub term_alone : Formula → Option Term
+term_alone (atom x) = Some x
 term_alone _ = None
 
 -- also in parentheses
-abbrev pub lone_term : Expr → Option Term
-lone_term (expr.Term x) = Some x
-lone_term (Group' p e) = lone_term e
-lone_term _ = None
+abbrev pub lone_term : Formula → Option Term
+lone_term (atom x) = Some x
+lone_term (bare x) = None
+lone_term (compare c x y) = None
+lone_term (negation f) = None
+lone_term (group f) = lone_term f
+lone_term (both f g) = None
+lone_term (either f g) = None

@@ -1,5 +1,5 @@
 -- What a line is by its first word: kconfig-language.rst, "Menu entries" and "Menu attributes".
-use Rattle.std.specs.Prelude.{ℕ, Bool, true, false, not, ◌&&◌, ◌||◌, List, [], ◌∷◌, Option, Some, None, if◌then◌else◌, codes}
+use Rattle.std.specs.Prelude.{ℕ, Bool, true, false, not, ◌&&◌, ◌||◌, List, [], ◌∷◌, ◌++◌, Option, Some, None, if◌then◌else◌, codes}
 use Rattle.std.specs.Option.{option_map_or}
 use Rattle.std.specs.Str.{bytes_eq}
 use Rattle.kc_text.specs.LineValue.{LineValue}
@@ -10,46 +10,68 @@ use Rattle.kc_text.specs.declared.line.Token.TheVariants.{Word}
 use Rattle.kc_statement.specs.declared.keyword.Keyword.{Keyword}
 use Rattle.kc_statement.specs.declared.keyword.Keyword.TheVariants as keyword
 
-abbrev pub is_one_of : List ℕ → List (List ℕ) → Bool
-is_one_of w [] = false
-is_one_of w (x ∷ xs) = bytes_eq w x || is_one_of w xs
+-- ---- the words
+-- the words of statements, each with its keyword
+abbrev pub statement_words : List (List ℕ × Keyword)
+statement_words =
+    (codes "config", keyword.Config)
+    ∷ (codes "menuconfig", keyword.Config)
+    ∷ (codes "menu", keyword.Menu)
+    ∷ (codes "endmenu", keyword.EndMenu)
+    ∷ (codes "if", keyword.If)
+    ∷ (codes "endif", keyword.EndIf)
+    ∷ (codes "choice", keyword.Choice)
+    ∷ (codes "endchoice", keyword.EndChoice)
+    ∷ (codes "comment", keyword.Comment)
+    ∷ (codes "mainmenu", keyword.MainMenu)
+    ∷ (codes "source", keyword.Source)
+    ∷ []
+
+-- the words of attributes
+abbrev pub attribute_words : List (List ℕ × Keyword)
+attribute_words =
+    (codes "bool", keyword.Bool)
+    ∷ (codes "tristate", keyword.Tristate)
+    ∷ (codes "string", keyword.String)
+    ∷ (codes "int", keyword.Int)
+    ∷ (codes "hex", keyword.Hex)
+    ∷ (codes "def_bool", keyword.DefBool)
+    ∷ (codes "def_tristate", keyword.DefTristate)
+    ∷ (codes "prompt", keyword.Prompt)
+    ∷ (codes "default", keyword.Default)
+    ∷ (codes "range", keyword.Range)
+    ∷ (codes "select", keyword.Select)
+    ∷ (codes "imply", keyword.Imply)
+    ∷ (codes "depends", keyword.Depends)
+    ∷ (codes "visible", keyword.Visible)
+    ∷ (codes "optional", keyword.Optional)
+    ∷ (codes "modules", keyword.Modules)
+    ∷ (codes "option", keyword.Option)
+    ∷ (codes "help", keyword.Help)
+    ∷ (codes "---help---", keyword.Help)
+    ∷ []
 
 -- the words of Kconfig that are unsupported
-abbrev pub is_unsupported : List ℕ → Bool
-is_unsupported w = is_one_of w (codes "rsource" ∷ codes "osource" ∷ codes "orsource" ∷ codes "def_int" ∷ codes "def_hex" ∷ codes "def_string" ∷ [])
+abbrev pub unsupported_words : List (List ℕ × Keyword)
+unsupported_words =
+    (codes "rsource", keyword.Unsupported)
+    ∷ (codes "osource", keyword.Unsupported)
+    ∷ (codes "orsource", keyword.Unsupported)
+    ∷ (codes "def_int", keyword.Unsupported)
+    ∷ (codes "def_hex", keyword.Unsupported)
+    ∷ (codes "def_string", keyword.Unsupported)
+    ∷ []
+
+abbrev pub keyword_words : List (List ℕ × Keyword)
+keyword_words = statement_words ++ attribute_words ++ unsupported_words
+
+-- the keyword in the row of a word
+abbrev pub keyword_among : List (List ℕ × Keyword) → List ℕ → Option Keyword
+keyword_among [] w = None
+keyword_among (row ∷ rows) w = if bytes_eq w row.0 then Some row.1 else keyword_among rows w
 
 abbrev pub keyword_named : List ℕ → Option Keyword
-keyword_named w =
-    if bytes_eq w (codes "config") || bytes_eq w (codes "menuconfig") then Some keyword.Config
-    else (if bytes_eq w (codes "help") || bytes_eq w (codes "---help---") then Some keyword.Help
-    else (if bytes_eq w (codes "depends") then Some keyword.Depends
-    else (if bytes_eq w (codes "bool") then Some keyword.Bool
-    else (if bytes_eq w (codes "tristate") then Some keyword.Tristate
-    else (if bytes_eq w (codes "default") then Some keyword.Default
-    else (if bytes_eq w (codes "select") then Some keyword.Select
-    else (if bytes_eq w (codes "if") then Some keyword.If
-    else (if bytes_eq w (codes "endif") then Some keyword.EndIf
-    else (if bytes_eq w (codes "imply") then Some keyword.Imply
-    else (if bytes_eq w (codes "def_bool") then Some keyword.DefBool
-    else (if bytes_eq w (codes "def_tristate") then Some keyword.DefTristate
-    else (if bytes_eq w (codes "prompt") then Some keyword.Prompt
-    else (if bytes_eq w (codes "menu") then Some keyword.Menu
-    else (if bytes_eq w (codes "endmenu") then Some keyword.EndMenu
-    else (if bytes_eq w (codes "comment") then Some keyword.Comment
-    else (if bytes_eq w (codes "visible") then Some keyword.Visible
-    else (if bytes_eq w (codes "option") then Some keyword.Option
-    else (if bytes_eq w (codes "modules") then Some keyword.Modules
-    else (if bytes_eq w (codes "mainmenu") then Some keyword.MainMenu
-    else (if bytes_eq w (codes "source") then Some keyword.Source
-    else (if bytes_eq w (codes "string") then Some keyword.String
-    else (if bytes_eq w (codes "int") then Some keyword.Int
-    else (if bytes_eq w (codes "hex") then Some keyword.Hex
-    else (if bytes_eq w (codes "range") then Some keyword.Range
-    else (if bytes_eq w (codes "choice") then Some keyword.Choice
-    else (if bytes_eq w (codes "endchoice") then Some keyword.EndChoice
-    else (if bytes_eq w (codes "optional") then Some keyword.Optional
-    else (if is_unsupported w then Some keyword.Unsupported
-    else None))))))))))))))))))))))))))))
+keyword_named w = keyword_among keyword_words w
 
 -- an unquoted word without reference
 abbrev pub first_keyword : List Token → Option Keyword

@@ -7,4 +7,10 @@ pub mod Nesting
 pub mod NestingDepth
 pub mod Numerals
 pub mod Statements
+pub mod SymbolTypes
+pub mod TokenFronts
 pub mod Tristate
+pub mod Formula
+pub mod FormulaCode
+pub mod NodeFormula
+pub mod NodeFalls

@@ -1,4 +1,4 @@
--- How deep the tokens so far nest, as one pass over them counts it: this project's own.
+-- Steps: how deep the tokens so far nest, as one pass over them counts it: this project's own.
 use Rattle.std.specs.Prelude.{◌+◌, Bool, ◌||◌, if◌then◌else◌, nat_le}
 use Rattle.kc_text.specs.declared.line.Token.{Token}
 use Rattle.kc_statement.specs.declared.limits.TheConstants.{MOST_NESTED}

@@ -21,7 +21,7 @@ use Rattle.kc_statement.specs.declared.statement.Statement.{Statement}
 use Rattle.kc_statement.specs.declared.statement.Statement.TheVariants as statement
 use Rattle.kc_statement.specs.Keywords.{first_keyword}
 use Rattle.kc_statement.specs.Names.{name_word}
-use Rattle.kc_statement.specs.Grammar.{IsExpression, symbol_of, term}
+use Rattle.kc_statement.specs.Grammar.{Derives, symbol_of, term}
 use Rattle.kc_statement.specs.Names.{symbol_among}
 
 -- ---- parts of forms
@@ -32,7 +32,7 @@ fixed w = Word w
 -- `if` and its condition, or nothing
 abbrev pub IsCondition : List (List ℕ) → List Token → Option Expr → Type 0
 IsCondition names tokens None = tokens ≡ []
-IsCondition names tokens (Some e) = (rest : List Token) × (tokens ≡ fixed (codes "if") ∷ rest) × IsExpression Condition names rest e
+IsCondition names tokens (Some e) = (rest : List Token) × (tokens ≡ fixed (codes "if") ∷ rest) × Derives Condition names rest e
 
 -- a text in quotes, and perhaps a condition
 abbrev pub IsPrompt : List (List ℕ) → List Token → Prompt → Type 0
@@ -42,7 +42,7 @@ IsPrompt names tokens p =
 -- a value, and perhaps a condition
 abbrev pub IsDefault : List (List ℕ) → List Token → DefaultValue → Type 0
 IsDefault names tokens d =
-    (value rest : List Token) × (tokens ≡ value ++ rest) × IsExpression Value names value d.value × IsCondition names rest d.condition
+    (value rest : List Token) × (tokens ≡ value ++ rest) × Derives Value names value d.value × IsCondition names rest d.condition
 
 -- a name, and perhaps a condition
 abbrev pub IsSelection : List (List ℕ) → List Token → Option SymId → Option Expr → Type 0
@@ -52,7 +52,7 @@ IsSelection names tokens symbol condition =
 
 -- a word and a condition
 abbrev pub IsWordAndCondition : List (List ℕ) → List ℕ → List Token → Expr → Type 0
-IsWordAndCondition names w tokens e = (rest : List Token) × (tokens ≡ fixed w ∷ rest) × IsExpression Condition names rest e
+IsWordAndCondition names w tokens e = (rest : List Token) × (tokens ≡ fixed w ∷ rest) × Derives Condition names rest e
 
 abbrev pub IsQuoted : List Token → List ℕ → Type 0
 IsQuoted tokens title = tokens ≡ Quoted title ∷ []
@@ -82,17 +82,6 @@ default_word kind.String = None
 default_word kind.Int = None
 default_word kind.Hex = None
 
--- what a word says that stands alone
-abbrev pub alone_statement : Keyword → Option Statement
-alone_statement keyword.EndMenu = Some statement.EndMenu
-alone_statement keyword.EndIf = Some statement.EndIf
-alone_statement keyword.Choice = Some statement.Choice
-alone_statement keyword.EndChoice = Some statement.EndChoice
-alone_statement keyword.Optional = Some statement.Optional
-alone_statement keyword.Modules = Some statement.Modules
-alone_statement keyword.Help = Some statement.Help
-alone_statement _ = None
-
 -- ---- the forms: the keyword, and the tokens after it
 abbrev pub HasFormAfter : List (List ℕ) → Keyword → List Token → Statement → Type 0
 HasFormAfter names k tokens statement.EndOfFile = ⊥
@@ -100,7 +89,7 @@ HasFormAfter names k tokens (statement.Config symbol) =
     (k ≡ keyword.Config) × (t : Token) × (name : List ℕ) × (tokens ≡ t ∷ []) × (name_word t ≡ Some name) × (symbol ≡ symbol_among names name)
 HasFormAfter names k tokens (statement.Menu title) = (k ≡ keyword.Menu) × IsQuoted tokens title
 HasFormAfter names k tokens statement.EndMenu = (k ≡ keyword.EndMenu) × (tokens ≡ [])
-HasFormAfter names k tokens (statement.If e) = (k ≡ keyword.If) × IsExpression Condition names tokens e
+HasFormAfter names k tokens (statement.If e) = (k ≡ keyword.If) × Derives Condition names tokens e
 HasFormAfter names k tokens statement.EndIf = (k ≡ keyword.EndIf) × (tokens ≡ [])
 HasFormAfter names k tokens statement.Choice = (k ≡ keyword.Choice) × (tokens ≡ [])
 HasFormAfter names k tokens statement.EndChoice = (k ≡ keyword.EndChoice) × (tokens ≡ [])

@@ -1,5 +1,5 @@
 -- Tristate values and their operators: kconfig-language.rst, "Menu dependencies".
-use Rattle.std.specs.Prelude.{Bool, true, false, List, [], ◌∷◌}
+use Rattle.std.specs.Prelude.{ℕ, Bool, true, false, List, [], ◌∷◌, codes}
 use Rattle.kc_statement.specs.declared.tri.Tri.{Tri}
 use Rattle.kc_statement.specs.declared.tri.Tri.TheVariants.{No, Module, Yes}
 
@@ -39,3 +39,9 @@ abbrev pub complement : Tri → Tri
 complement No = Yes
 complement Module = Module
 complement Yes = No
+
+-- as it is written
+abbrev pub letter : Tri → List ℕ
+letter No = codes "n"
+letter Module = codes "m"
+letter Yes = codes "y"

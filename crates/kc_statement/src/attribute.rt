@@ -2,6 +2,8 @@
 
 use crate::expr::{Expr, Term};
 use kc_text::Text;
+use std::alloc::Global;
+use std::default::MadeWith;
 
 /// The prompt of a definition: `bool "text" if E`, or a `prompt` line (kconfig-language.rst, "Menu attributes").
 #[derive(Debug, Drop)]
@@ -9,6 +11,16 @@ pub struct Prompt {
     pub text: Text,
     /// The condition after `if`.
     pub condition: Option<Expr>,
+}
+
+/// A short list of prompts keeps places for some inside: an empty text without a condition is in those that are free.
+impl MadeWith<Global> for Prompt {
+    fn made_with(alloc: Global) -> Prompt {
+        Prompt {
+            text: Text::new(String::new(alloc)),
+            condition: None,
+        }
+    }
 }
 
 /// A default: `default E if F`, or a `def_bool` line (kconfig-language.rst, "Menu attributes").

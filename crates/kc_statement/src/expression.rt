@@ -1,58 +1,58 @@
-//! Expressions, read from the tokens of a line. Functions that read a part of it are given the position of the token
-//! where that part begins, and return the position after it.
+//! Expressions, read from the tokens of a line.
 
 ghost use Rattle.std.specs.Prelude.{◌≡◌, ◌∷◌, [], ◌++◌, ◌+◌, ◌-◌, ◌<◌, ◌≤◌, ◌↔◌, ℕ, true, List, length, map, replicate, IsTrue, IfOk, IfSome, MatchOption};
 ghost use Rattle.std.specs.List.{list_all};
-ghost use Rattle.kc_statement.specs.declared.limits.TheConstants.{MOST_SYMBOLS};
-ghost use Rattle.kc_statement.specs.Grammar.{IsExpression, IsNoExpression, is_module_term, is_bare_in, factor, part, expression, all_joined, any_joined, formula, plain, stands_at, shape, term, compares, bang, opening, sign_symbol, symbol_of, negations};
-ghost use Rattle.kc_statement.specs.Fronts.{symbols_from, Begins, IsUnreadable, DoesNotBegin, BeginsWithNoTerm, BeginsWithNoComparison, alone_in};
+ghost use Rattle.kc_statement.specs.Grammar.{Derives, IsNoExpression, is_module_term, is_bare_in, factor, part, expression, all_joined, any_joined, is_plain, term, compares, bang, opening, sign_symbol, symbol_of, negations};
+ghost use Rattle.kc_statement.specs.Fronts.{Begins, IsUnreadable, DoesNotBegin, BeginsWithNoTerm, BeginsWithNoComparison, alone_in, stands_at};
+ghost use Rattle.kc_statement.specs.TokenFronts.{symbols_at, IsReadAt};
 
-use crate::expr::{Comparison, Expr, ExprKind, Negations, Operands, Term};
+use crate::expr::{Comparison, Expr, ExprKind, ExprNode, Operands, Term};
 use crate::name::{quoted_term, word_term};
 use crate::names::Names;
+use crate::parser::Parser;
 use crate::tri::Tri;
 use kc_text::{Operator, Token};
 use std::alloc::{AllocError, Global};
 
-/// The expression of a kind that tokens are, if they are one (kconfig-language.rst, "Menu dependencies"), or
-/// `AllocError` where there is no memory for it. Words are terms by the names of the defined symbols. Most expressions
-/// are one token, which is a term or nothing.
-pub(crate) fn read_expression(
-    alloc: Global,
-    kind: ExprKind,
-    names: &Names,
-    tokens: &[Token<'_>],
-) -> Result<Option<Expr>, AllocError>
-    requires { length names.now ≤ MOST_SYMBOLS }
-    ensures { IfOk result (λ e. MatchOption e (IsNoExpression kind names.now tokens.now) (IsExpression kind names.now tokens.now)) }
-{
-    if let [token] = tokens {
-        return read_lone(alloc, kind, names, token);
+impl Parser<'_> {
+    /// The expression of a kind that tokens are, if they are one (kconfig-language.rst, "Menu dependencies"), or
+    /// `AllocError` where there is no memory for it. Words are terms by the names of the defined symbols. Most
+    /// expressions are one token, which is a term or nothing.
+    pub(crate) fn expression(
+        &self,
+        kind: ExprKind,
+        tokens: &[Token<'_>],
+    ) -> Result<Option<Expr>, AllocError>
+        ensures { IfOk result (λ e. MatchOption e (IsNoExpression kind self.now.names.now tokens.now) (Derives kind self.now.names.now tokens.now)) }
+    {
+        if let [token] = tokens {
+            return self.lone_expression(kind, token);
+        }
+        let parser = ExprParser {
+            alloc: self.alloc,
+            names: self.names,
+            kind,
+            tokens,
+        };
+        let Some((expr, end)) = parser.read_any(0)? else {
+            return Ok(None);
+        };
+        if end < tokens.len() {
+            Ok(None)
+        } else {
+            Ok(Some(expr))
+        }
     }
-    let Some((expr, end)) = read_any(alloc, kind, names, tokens, 0)? else {
-        return Ok(None);
-    };
-    if end < tokens.len() {
-        Ok(None)
-    } else {
-        Ok(Some(expr))
-    }
-}
 
-/// The expression that one token is.
-fn read_lone(
-    alloc: Global,
-    kind: ExprKind,
-    names: &Names,
-    token: &Token<'_>,
-) -> Result<Option<Expr>, AllocError>
-    requires { length names.now ≤ MOST_SYMBOLS }
-    ensures { IfOk result (λ e. MatchOption e (IsNoExpression kind names.now (token.now ∷ [])) (IsExpression kind names.now (token.now ∷ []))) }
-{
-    let Some(term) = term_of(alloc, names, token)? else {
-        return Ok(None);
-    };
-    Ok(Some(alone(kind, term)))
+    /// The expression that one token is.
+    fn lone_expression(&self, kind: ExprKind, token: &Token<'_>) -> Result<Option<Expr>, AllocError>
+        ensures { IfOk result (λ e. MatchOption e (IsNoExpression kind self.now.names.now (token.now ∷ [])) (Derives kind self.now.names.now (token.now ∷ []))) }
+    {
+        let Some(term) = term_of(self.alloc, self.names, token)? else {
+            return Ok(None);
+        };
+        Ok(Some(alone(kind, term)))
+    }
 }
 
 /// Whether a term is the constant m.
@@ -78,171 +78,182 @@ fn is_bare(kind: ExprKind, term: &Term) -> bool
 
 /// The expression of a term that stands alone.
 fn alone(kind: ExprKind, term: Term) -> Expr
-    ensures formula { formula result ≡ alone_in kind term }
-    ensures shape { shape result ≡ plain }
+    ensures formula { result ≡ alone_in kind term }
+    ensures shape { is_plain result ≡ true }
 {
     if is_bare(kind, &term) {
-        Expr::BareModule(term)
+        Expr::of(ExprNode::BareModule(term))
     } else {
-        Expr::Term(term)
+        Expr::of(ExprNode::Term(term))
     }
 }
 
-/// The expression that begins at a position: parts joined by `||`.
-#[cycle(expression)]
-fn read_any(
+/// Reads an expression of a kind from tokens. A method that reads a part of it is given the position of the token where
+/// that part begins, and returns the position after it.
+#[derive(Clone, Copy)]
+struct ExprParser<'a> {
     alloc: Global,
+    names: &'a Names,
     kind: ExprKind,
-    names: &Names,
-    tokens: &[Token<'_>],
-    start: usize,
-) -> Result<Option<(Expr, usize)>, AllocError>
-    requires { length names.now ≤ MOST_SYMBOLS }
-    ensures front { IfOk result (λ r. MatchOption r (IsUnreadable kind expression (symbols_from names.now tokens.now start)) (λ p. Begins kind expression (symbols_from names.now tokens.now start) (formula p.0) (symbols_from names.now tokens.now p.1))) }
-    ensures shape { IfOk result (λ r. IfSome r (λ p. stands_at expression (shape p.0) ≡ true)) }
-    ensures further { IfOk result (λ r. IfSome r (λ p. start < p.1)) }
-    ensures within { IfOk result (λ r. IfSome r (λ p. p.1 ≤ length tokens.now)) }
-{
-    let mut parts = Vec::new(alloc);
-    let mut position = start;
-    'parts: loop {
-        let Some((part, end)) = read_all(alloc, kind, names, tokens, position)? else {
+    tokens: &'a [Token<'a>],
+}
+
+impl ExprParser<'_> {
+    /// The expression that begins at a position: parts joined by `||`.
+    #[cycle(expression)]
+    fn read_any(&self, start: usize) -> Result<Option<(Expr, usize)>, AllocError>
+        ensures front { IfOk result (IsReadAt self.now expression start) }
+        ensures shape { IfOk result (λ r. IfSome r (λ p. stands_at expression p.0 ≡ true)) }
+        ensures further { IfOk result (λ r. IfSome r (λ p. start < p.1)) }
+        ensures within { IfOk result (λ r. IfSome r (λ p. p.1 ≤ length self.now.tokens.now)) }
+    {
+        let mut parts = Vec::new(self.alloc);
+        let mut position = start;
+        'parts: loop {
+            let Some((part, end)) = self.read_all(position)? else {
+                return Ok(None);
+            };
+            let Some(next) = self.after(end, Operator::Or) else {
+                return Ok(Some((any_of(parts, part)?, end)));
+            };
+            parts.push(part)?;
+            position = next;
+        }
+    }
+
+    /// The part that begins at a position: factors joined by `&&`.
+    #[cycle(expression)]
+    fn read_all(&self, start: usize) -> Result<Option<(Expr, usize)>, AllocError>
+        ensures front { IfOk result (IsReadAt self.now part start) }
+        ensures shape { IfOk result (λ r. IfSome r (λ p. stands_at part p.0 ≡ true)) }
+        ensures further { IfOk result (λ r. IfSome r (λ p. start < p.1)) }
+        ensures within { IfOk result (λ r. IfSome r (λ p. p.1 ≤ length self.now.tokens.now)) }
+    {
+        let mut factors = Vec::new(self.alloc);
+        let mut position = start;
+        'factors: loop {
+            let Some((factor, end)) = self.read_factor(position)? else {
+                return Ok(None);
+            };
+            let Some(next) = self.after(end, Operator::And) else {
+                return Ok(Some((all_of(factors, factor)?, end)));
+            };
+            factors.push(factor)?;
+            position = next;
+        }
+    }
+
+    /// The factor that begins at a position. A run of `!` takes no deeper calls, however long it is.
+    #[cycle(expression)]
+    fn read_factor(&self, start: usize) -> Result<Option<(Expr, usize)>, AllocError>
+        ensures front { IfOk result (IsReadAt self.now factor start) }
+        ensures shape { IfOk result (λ r. IfSome r (λ p. stands_at factor p.0 ≡ true)) }
+        ensures further { IfOk result (λ r. IfSome r (λ p. start < p.1)) }
+        ensures within { IfOk result (λ r. IfSome r (λ p. p.1 ≤ length self.now.tokens.now)) }
+    {
+        let plain = self.after_bangs(start);
+        let Some((expr, end)) = self.read_plain(plain)? else {
             return Ok(None);
         };
-        let Some(next) = after(tokens, end, Operator::Or) else {
-            return Ok(Some((any_of(parts, part)?, end)));
-        };
-        parts.push(part)?;
-        position = next;
+        Ok(Some((negated(self.alloc, expr, plain - start)?, end)))
     }
-}
 
-/// The part that begins at a position: factors joined by `&&`.
-#[cycle(expression)]
-fn read_all(
-    alloc: Global,
-    kind: ExprKind,
-    names: &Names,
-    tokens: &[Token<'_>],
-    start: usize,
-) -> Result<Option<(Expr, usize)>, AllocError>
-    requires { length names.now ≤ MOST_SYMBOLS }
-    ensures front { IfOk result (λ r. MatchOption r (IsUnreadable kind part (symbols_from names.now tokens.now start)) (λ p. Begins kind part (symbols_from names.now tokens.now start) (formula p.0) (symbols_from names.now tokens.now p.1))) }
-    ensures shape { IfOk result (λ r. IfSome r (λ p. stands_at part (shape p.0) ≡ true)) }
-    ensures further { IfOk result (λ r. IfSome r (λ p. start < p.1)) }
-    ensures within { IfOk result (λ r. IfSome r (λ p. p.1 ≤ length tokens.now)) }
-{
-    let mut factors = Vec::new(alloc);
-    let mut position = start;
-    'factors: loop {
-        let Some((factor, end)) = read_factor(alloc, kind, names, tokens, position)? else {
+    /// The factor that begins at a position with no `!`.
+    #[cycle(expression)]
+    fn read_plain(&self, start: usize) -> Result<Option<(Expr, usize)>, AllocError>
+        requires plain { DoesNotBegin bang (symbols_at self.now start) }
+        ensures front { IfOk result (IsReadAt self.now factor start) }
+        ensures shape { IfOk result (λ r. IfSome r (λ p. is_plain p.0 ≡ true)) }
+        ensures further { IfOk result (λ r. IfSome r (λ p. start < p.1)) }
+        ensures within { IfOk result (λ r. IfSome r (λ p. p.1 ≤ length self.now.tokens.now)) }
+    {
+        let Some(inner) = self.after(start, Operator::Open) else {
+            return self.read_comparison(start);
+        };
+        let Some((expr, end)) = self.read_any(inner)? else {
             return Ok(None);
         };
-        let Some(next) = after(tokens, end, Operator::And) else {
-            return Ok(Some((all_of(factors, factor)?, end)));
+        let Some(end) = self.after(end, Operator::Close) else {
+            return Ok(None);
         };
-        factors.push(factor)?;
-        position = next;
+        Ok(Some((Expr::of(ExprNode::Group(Box::new(self.alloc, expr)?)), end)))
     }
-}
 
-/// The factor that begins at a position. A run of `!` takes no deeper calls, however long it is.
-#[cycle(expression)]
-fn read_factor(
-    alloc: Global,
-    kind: ExprKind,
-    names: &Names,
-    tokens: &[Token<'_>],
-    start: usize,
-) -> Result<Option<(Expr, usize)>, AllocError>
-    requires { length names.now ≤ MOST_SYMBOLS }
-    ensures front { IfOk result (λ r. MatchOption r (IsUnreadable kind factor (symbols_from names.now tokens.now start)) (λ p. Begins kind factor (symbols_from names.now tokens.now start) (formula p.0) (symbols_from names.now tokens.now p.1))) }
-    ensures shape { IfOk result (λ r. IfSome r (λ p. stands_at factor (shape p.0) ≡ true)) }
-    ensures further { IfOk result (λ r. IfSome r (λ p. start < p.1)) }
-    ensures within { IfOk result (λ r. IfSome r (λ p. p.1 ≤ length tokens.now)) }
-{
-    let plain = after_bangs(tokens, start);
-    let Some((expr, end)) = read_plain(alloc, kind, names, tokens, plain)? else {
-        return Ok(None);
-    };
-    Ok(Some((negated(alloc, expr, plain - start)?, end)))
-}
+    /// The term or the comparison that begins at a position, with neither `!` nor `(`.
+    fn read_comparison(&self, start: usize) -> Result<Option<(Expr, usize)>, AllocError>
+        requires plain { DoesNotBegin bang (symbols_at self.now start) }
+        requires unopened { DoesNotBegin opening (symbols_at self.now start) }
+        ensures front { IfOk result (IsReadAt self.now factor start) }
+        ensures shape { IfOk result (λ r. IfSome r (λ p. is_plain p.0 ≡ true)) }
+        ensures further { IfOk result (λ r. IfSome r (λ p. start < p.1)) }
+        ensures within { IfOk result (λ r. IfSome r (λ p. p.1 ≤ length self.now.tokens.now)) }
+    {
+        let Some((left, end)) = self.read_term(start)? else {
+            return Ok(None);
+        };
+        let Some((comparison, next)) = self.after_comparison(end) else {
+            return Ok(Some((alone(self.kind, left), end)));
+        };
+        let Some((right, end)) = self.read_term(next)? else {
+            return Ok(None);
+        };
+        let operands = Box::new(self.alloc, Operands { left, right })?;
+        Ok(Some((Expr::of(ExprNode::Compare(comparison, operands)), end)))
+    }
 
-/// The factor that begins at a position with no `!`.
-#[cycle(expression)]
-fn read_plain(
-    alloc: Global,
-    kind: ExprKind,
-    names: &Names,
-    tokens: &[Token<'_>],
-    start: usize,
-) -> Result<Option<(Expr, usize)>, AllocError>
-    requires few { length names.now ≤ MOST_SYMBOLS }
-    requires plain { DoesNotBegin bang (symbols_from names.now tokens.now start) }
-    ensures front { IfOk result (λ r. MatchOption r (IsUnreadable kind factor (symbols_from names.now tokens.now start)) (λ p. Begins kind factor (symbols_from names.now tokens.now start) (formula p.0) (symbols_from names.now tokens.now p.1))) }
-    ensures shape { IfOk result (λ r. IfSome r (λ p. shape p.0 ≡ plain)) }
-    ensures further { IfOk result (λ r. IfSome r (λ p. start < p.1)) }
-    ensures within { IfOk result (λ r. IfSome r (λ p. p.1 ≤ length tokens.now)) }
-{
-    let Some(inner) = after(tokens, start, Operator::Open) else {
-        return read_comparison(alloc, kind, names, tokens, start);
-    };
-    let Some((expr, end)) = read_any(alloc, kind, names, tokens, inner)? else {
-        return Ok(None);
-    };
-    let Some(end) = after(tokens, end, Operator::Close) else {
-        return Ok(None);
-    };
-    Ok(Some((Expr::Group(Box::new(alloc, expr)?), end)))
-}
+    /// The term at a position.
+    fn read_term(&self, start: usize) -> Result<Option<(Term, usize)>, AllocError>
+        ensures front { IfOk result (λ r. MatchOption r (BeginsWithNoTerm (symbols_at self.now start)) (λ p. symbols_at self.now start ≡ term p.0 ∷ symbols_at self.now p.1)) }
+        ensures further { IfOk result (λ r. IfSome r (λ p. start < p.1)) }
+        ensures within { IfOk result (λ r. IfSome r (λ p. p.1 ≤ length self.now.tokens.now)) }
+    {
+        let Some(token) = self.tokens.get(start) else {
+            return Ok(None);
+        };
+        match term_of(self.alloc, self.names, token)? {
+            Some(term) => Ok(Some((term, start + 1))),
+            None => Ok(None),
+        }
+    }
 
-/// The term or the comparison that begins at a position, with neither `!` nor `(`.
-fn read_comparison(
-    alloc: Global,
-    kind: ExprKind,
-    names: &Names,
-    tokens: &[Token<'_>],
-    start: usize,
-) -> Result<Option<(Expr, usize)>, AllocError>
-    requires few { length names.now ≤ MOST_SYMBOLS }
-    requires plain { DoesNotBegin bang (symbols_from names.now tokens.now start) }
-    requires unopened { DoesNotBegin opening (symbols_from names.now tokens.now start) }
-    ensures front { IfOk result (λ r. MatchOption r (IsUnreadable kind factor (symbols_from names.now tokens.now start)) (λ p. Begins kind factor (symbols_from names.now tokens.now start) (formula p.0) (symbols_from names.now tokens.now p.1))) }
-    ensures shape { IfOk result (λ r. IfSome r (λ p. shape p.0 ≡ plain)) }
-    ensures further { IfOk result (λ r. IfSome r (λ p. start < p.1)) }
-    ensures within { IfOk result (λ r. IfSome r (λ p. p.1 ≤ length tokens.now)) }
-{
-    let Some((left, end)) = read_term(alloc, names, tokens, start)? else {
-        return Ok(None);
-    };
-    let Some((comparison, next)) = after_comparison(tokens, end) else {
-        return Ok(Some((alone(kind, left), end)));
-    };
-    let Some((right, end)) = read_term(alloc, names, tokens, next)? else {
-        return Ok(None);
-    };
-    let operands = Box::new(alloc, Operands { left, right })?;
-    Ok(Some((Expr::Compare(comparison, operands), end)))
-}
+    /// The comparison whose sign is at a position, and the position after it.
+    fn after_comparison(&self, start: usize) -> Option<(Comparison, usize)>
+        ensures front { MatchOption result (BeginsWithNoComparison (symbols_at self.now start)) (λ p. symbols_at self.now start ≡ compares p.0 ∷ symbols_at self.now p.1) }
+        ensures further { IfSome result (λ p. start < p.1) }
+        ensures within { IfSome result (λ p. p.1 ≤ length self.now.tokens.now) }
+    {
+        let token = self.tokens.get(start)?;
+        match comparison_of(token) {
+            Some(comparison) => Some((comparison, start + 1)),
+            None => None,
+        }
+    }
 
-/// The term that stands at a position.
-fn read_term(
-    alloc: Global,
-    names: &Names,
-    tokens: &[Token<'_>],
-    start: usize,
-) -> Result<Option<(Term, usize)>, AllocError>
-    requires { length names.now ≤ MOST_SYMBOLS }
-    ensures front { IfOk result (λ r. MatchOption r (BeginsWithNoTerm (symbols_from names.now tokens.now start)) (λ p. symbols_from names.now tokens.now start ≡ term p.0 ∷ symbols_from names.now tokens.now p.1)) }
-    ensures further { IfOk result (λ r. IfSome r (λ p. start < p.1)) }
-    ensures within { IfOk result (λ r. IfSome r (λ p. p.1 ≤ length tokens.now)) }
-{
-    let Some(token) = tokens.get(start) else {
-        return Ok(None);
-    };
-    match term_of(alloc, names, token)? {
-        Some(term) => Ok(Some((term, start + 1))),
-        None => Ok(None),
+    /// The position after the run of `!` that begins at a position.
+    fn after_bangs(&self, start: usize) -> usize
+        ensures run { symbols_at self.now start ≡ replicate (result - start) bang ++ symbols_at self.now result }
+        ensures plain { DoesNotBegin bang (symbols_at self.now result) }
+        ensures from { start ≤ result }
+    {
+        let mut position = start;
+        while let Some(next) = self.after(position, Operator::Not) {
+            position = next;
+        }
+        position
+    }
+
+    /// The position after a sign at a position.
+    fn after(&self, start: usize, sign: Operator) -> Option<usize>
+        ensures front { MatchOption result (DoesNotBegin (sign_symbol sign) (symbols_at self.now start)) (λ next. symbols_at self.now start ≡ sign_symbol sign ∷ symbols_at self.now next) }
+        ensures next { IfSome result (λ next. next ≡ start + 1) }
+        ensures within { IfSome result (λ next. next ≤ length self.now.tokens.now) }
+    {
+        let token = self.tokens.get(start)?;
+        if is_sign(token, sign) {
+            Some(start + 1)
+        } else {
+            None
+        }
     }
 }
 
@@ -252,7 +263,6 @@ pub(crate) fn term_of(
     names: &Names,
     token: &Token<'_>,
 ) -> Result<Option<Term>, AllocError>
-    requires { length names.now ≤ MOST_SYMBOLS }
     ensures { IfOk result (λ r. MatchOption r ((x : Term) → symbol_of names.now token.now ≡ term x → ⊥) (λ x. symbol_of names.now token.now ≡ term x)) }
 {
     match token {
@@ -266,19 +276,6 @@ pub(crate) fn term_of(
         Token::Expanded(word) => Ok(Some(word_term(alloc, names, word.as_str())?)),
         Token::Quoted(text) => Ok(Some(quoted_term(alloc, text.as_str())?)),
         Token::Operator(_) => Ok(None),
-    }
-}
-
-/// The comparison whose sign stands at a position, and the position after it.
-fn after_comparison(tokens: &[Token<'_>], start: usize) -> Option<(Comparison, usize)>
-    ensures front { (names : List (List ℕ)) → MatchOption result (BeginsWithNoComparison (symbols_from names tokens.now start)) (λ p. symbols_from names tokens.now start ≡ compares p.0 ∷ symbols_from names tokens.now p.1) }
-    ensures further { IfSome result (λ p. start < p.1) }
-    ensures within { IfSome result (λ p. p.1 ≤ length tokens.now) }
-{
-    let token = tokens.get(start)?;
-    match comparison_of(token) {
-        Some(comparison) => Some((comparison, start + 1)),
-        None => None,
     }
 }
 
@@ -306,33 +303,6 @@ fn comparison_of(token: &Token<'_>) -> Option<Comparison>
     }
 }
 
-/// The position after the run of `!` that begins at a position.
-fn after_bangs(tokens: &[Token<'_>], start: usize) -> usize
-    ensures run { (names : List (List ℕ)) → symbols_from names tokens.now start ≡ replicate (result - start) bang ++ symbols_from names tokens.now result }
-    ensures plain { (names : List (List ℕ)) → DoesNotBegin bang (symbols_from names tokens.now result) }
-    ensures from { start ≤ result }
-{
-    let mut position = start;
-    while let Some(next) = after(tokens, position, Operator::Not) {
-        position = next;
-    }
-    position
-}
-
-/// The position after a sign that stands at a position.
-fn after(tokens: &[Token<'_>], start: usize, sign: Operator) -> Option<usize>
-    ensures front { (names : List (List ℕ)) → MatchOption result (DoesNotBegin (sign_symbol sign) (symbols_from names tokens.now start)) (λ next. symbols_from names tokens.now start ≡ sign_symbol sign ∷ symbols_from names tokens.now next) }
-    ensures next { IfSome result (λ next. next ≡ start + 1) }
-    ensures within { IfSome result (λ next. next ≤ length tokens.now) }
-{
-    let token = tokens.get(start)?;
-    if is_sign(token, sign) {
-        Some(start + 1)
-    } else {
-        None
-    }
-}
-
 /// Whether a token is a sign.
 fn is_sign(token: &Token<'_>, sign: Operator) -> bool
     ensures { (names : List (List ℕ)) → IsTrue result ↔ (symbol_of names token.now ≡ sign_symbol sign) }
@@ -347,41 +317,41 @@ fn is_sign(token: &Token<'_>, sign: Operator) -> bool
 
 /// Parts and the last of them as one expression: the last alone, or all joined by `||`.
 fn any_of(mut parts: Vec<Expr>, last: Expr) -> Result<Expr, AllocError>
-    requires parts { list_all (λ e. stands_at part (shape e)) parts.items ≡ true }
-    requires last { stands_at part (shape last) ≡ true }
-    ensures joined { IfOk result (λ e. formula e ≡ any_joined (map formula (parts.items ++ last ∷ []))) }
-    ensures shape { IfOk result (λ e. stands_at expression (shape e) ≡ true) }
+    requires parts { list_all (λ e. stands_at part e) parts.items ≡ true }
+    requires last { stands_at part last ≡ true }
+    ensures joined { IfOk result (λ e. e ≡ any_joined (parts.items ++ last ∷ [])) }
+    ensures shape { IfOk result (λ e. stands_at expression e ≡ true) }
 {
     if parts.is_empty() {
         return Ok(last);
     }
     parts.push(last)?;
-    Ok(Expr::Any(parts))
+    Ok(Expr::of(ExprNode::Any(parts)))
 }
 
 /// Factors and the last of them as one expression: the last alone, or all joined by `&&`.
 fn all_of(mut factors: Vec<Expr>, last: Expr) -> Result<Expr, AllocError>
-    requires factors { list_all (λ e. stands_at factor (shape e)) factors.items ≡ true }
-    requires last { stands_at factor (shape last) ≡ true }
-    ensures joined { IfOk result (λ e. formula e ≡ all_joined (map formula (factors.items ++ last ∷ []))) }
-    ensures shape { IfOk result (λ e. stands_at part (shape e) ≡ true) }
+    requires factors { list_all (λ e. stands_at factor e) factors.items ≡ true }
+    requires last { stands_at factor last ≡ true }
+    ensures joined { IfOk result (λ e. e ≡ all_joined (factors.items ++ last ∷ [])) }
+    ensures shape { IfOk result (λ e. stands_at part e ≡ true) }
 {
     if factors.is_empty() {
         return Ok(last);
     }
     factors.push(last)?;
-    Ok(Expr::All(factors))
+    Ok(Expr::of(ExprNode::All(factors)))
 }
 
-/// An expression that begins with no `!`, behind a run of `!`, which may be empty.
+/// An expression that begins with no `!`, after a run of `!`, which may be empty.
 fn negated(alloc: Global, expr: Expr, count: usize) -> Result<Expr, AllocError>
-    requires { shape expr ≡ plain }
-    ensures run { IfOk result (λ e. formula e ≡ negations count (formula expr)) }
-    ensures shape { IfOk result (λ e. stands_at factor (shape e) ≡ true) }
+    requires { is_plain expr ≡ true }
+    ensures run { IfOk result (λ e. e ≡ negations count expr) }
+    ensures shape { IfOk result (λ e. stands_at factor e ≡ true) }
 {
     if count == 0 {
         return Ok(expr);
     }
     let operand = Box::new(alloc, expr)?;
-    Ok(Expr::Not(Negations { count }, operand))
+    Ok(Expr::of(ExprNode::Not(count, operand)))
 }

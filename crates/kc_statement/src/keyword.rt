@@ -50,65 +50,39 @@ fn keyword_named(word: &str) -> Option<Keyword>
     ensures { result ≡ keyword_named word.now }
 {
     match word.len() {
-        2 => named_by_two(word),
-        3 => named_by_three(word),
-        4 => named_by_four(word),
-        5 => named_by_five(word),
+        2 => match word {
+            "if" => Some(Keyword::If),
+            _ => None,
+        }
+        3 => match word {
+            "int" => Some(Keyword::Int),
+            "hex" => Some(Keyword::Hex),
+            _ => None,
+        }
+        4 => match word {
+            "help" => Some(Keyword::Help),
+            "bool" => Some(Keyword::Bool),
+            "menu" => Some(Keyword::Menu),
+            _ => None,
+        }
+        5 => match word {
+            "endif" => Some(Keyword::EndIf),
+            "imply" => Some(Keyword::Imply),
+            "range" => Some(Keyword::Range),
+            _ => None,
+        }
         6 => named_by_six(word),
         7 => named_by_seven(word),
         8 => named_by_eight(word),
-        9 => named_by_nine(word),
+        9 => match word {
+            "endchoice" => Some(Keyword::EndChoice),
+            _ => None,
+        }
         10 => named_by_ten(word),
-        12 => named_by_twelve(word),
-        _ => None,
-    }
-}
-
-/// The keyword of two bytes that a word is.
-fn named_by_two(word: &str) -> Option<Keyword>
-    requires { length word.now ≡ 2 }
-    ensures { result ≡ keyword_named word.now }
-{
-    match word {
-        "if" => Some(Keyword::If),
-        _ => None,
-    }
-}
-
-/// The keyword of three bytes that a word is.
-fn named_by_three(word: &str) -> Option<Keyword>
-    requires { length word.now ≡ 3 }
-    ensures { result ≡ keyword_named word.now }
-{
-    match word {
-        "int" => Some(Keyword::Int),
-        "hex" => Some(Keyword::Hex),
-        _ => None,
-    }
-}
-
-/// The keyword of four bytes that a word is.
-fn named_by_four(word: &str) -> Option<Keyword>
-    requires { length word.now ≡ 4 }
-    ensures { result ≡ keyword_named word.now }
-{
-    match word {
-        "help" => Some(Keyword::Help),
-        "bool" => Some(Keyword::Bool),
-        "menu" => Some(Keyword::Menu),
-        _ => None,
-    }
-}
-
-/// The keyword of five bytes that a word is.
-fn named_by_five(word: &str) -> Option<Keyword>
-    requires { length word.now ≡ 5 }
-    ensures { result ≡ keyword_named word.now }
-{
-    match word {
-        "endif" => Some(Keyword::EndIf),
-        "imply" => Some(Keyword::Imply),
-        "range" => Some(Keyword::Range),
+        12 => match word {
+            "def_tristate" => Some(Keyword::DefTristate),
+            _ => None,
+        }
         _ => None,
     }
 }
@@ -162,17 +136,6 @@ fn named_by_eight(word: &str) -> Option<Keyword>
     }
 }
 
-/// The keyword of nine bytes that a word is.
-fn named_by_nine(word: &str) -> Option<Keyword>
-    requires { length word.now ≡ 9 }
-    ensures { result ≡ keyword_named word.now }
-{
-    match word {
-        "endchoice" => Some(Keyword::EndChoice),
-        _ => None,
-    }
-}
-
 /// The keyword of ten bytes that a word is.
 fn named_by_ten(word: &str) -> Option<Keyword>
     requires { length word.now ≡ 10 }
@@ -182,17 +145,6 @@ fn named_by_ten(word: &str) -> Option<Keyword>
         "menuconfig" => Some(Keyword::Config),
         "---help---" => Some(Keyword::Help),
         "def_string" => Some(Keyword::Unsupported),
-        _ => None,
-    }
-}
-
-/// The keyword of twelve bytes that a word is.
-fn named_by_twelve(word: &str) -> Option<Keyword>
-    requires { length word.now ≡ 12 }
-    ensures { result ≡ keyword_named word.now }
-{
-    match word {
-        "def_tristate" => Some(Keyword::DefTristate),
         _ => None,
     }
 }
@@ -343,7 +295,7 @@ impl Keyword {
         }
     }
 
-    /// Whether an unquoted word may not stand directly behind it, where a prompt, a title or a path stands
+    /// Whether an unquoted word may not come directly after it, where a prompt, a title or a path is expected
     /// (kconfig-language.rst, "Menu attributes").
     pub fn wants_quotes(self) -> bool
         ensures { result ≡ wants_quotes self }

@@ -4,16 +4,16 @@ ghost use Rattle.std.specs.Prelude.{◌≡◌};
 ghost use Rattle.std.specs.Option.{option_copied};
 ghost use Rattle.kc_statement.specs.Grammar.{lone_term, term_alone};
 
-use crate::expr::{Expr, Term};
+use crate::expr::{Expr, ExprNode, Term};
 
 /// The term that an expression is. It is asked of the values of defaults, in which no m is bare: a bare m is none.
 pub fn term_alone(expr: &Expr) -> Option<&Term>
     ensures { option_copied result ≡ term_alone expr.now }
 {
-    match expr {
-        Expr::Term(term) => Some(term),
-        Expr::BareModule(_) | Expr::Compare(_, _) | Expr::Not(_, _) => None,
-        Expr::Group(_) | Expr::All(_) | Expr::Any(_) => None,
+    match expr.node() {
+        ExprNode::Term(term) => Some(term),
+        ExprNode::BareModule(_) | ExprNode::Compare(_, _) | ExprNode::Not(_, _) => None,
+        ExprNode::Group(_) | ExprNode::All(_) | ExprNode::Any(_) => None,
     }
 }
 
@@ -22,10 +22,10 @@ pub fn term_alone(expr: &Expr) -> Option<&Term>
 pub fn lone_term(expr: &Expr) -> Option<&Term>
     ensures { option_copied result ≡ lone_term expr.now }
 {
-    match expr {
-        Expr::Term(term) => Some(term),
-        Expr::Group(inner) => lone_term(inner),
-        Expr::BareModule(_) | Expr::Compare(_, _) | Expr::Not(_, _) => None,
-        Expr::All(_) | Expr::Any(_) => None,
+    match expr.node() {
+        ExprNode::Term(term) => Some(term),
+        ExprNode::Group(inner) => lone_term(inner),
+        ExprNode::BareModule(_) | ExprNode::Compare(_, _) | ExprNode::Not(_, _) => None,
+        ExprNode::All(_) | ExprNode::Any(_) => None,
     }
 }

@@ -5,11 +5,9 @@ ghost use Rattle.std.specs.List.{list_all};
 ghost use Rattle.std.specs.Option.{option_map_or};
 ghost use Rattle.kc_statement.specs.declared.limits.TheConstants.{MOST_SYMBOLS};
 ghost use Rattle.kc_statement.specs.Names.{is_name, is_name_byte, is_reserved, name_word, token_word, word_term, quoted_term, defined_name, names_of, with_name};
-ghost use Rattle.kc_statement.specs.Names.{symbol_among};
 
 use crate::boxed_text::BoxedText;
 use crate::expr::Term;
-use crate::id::SymId;
 use crate::keyword::is_config;
 use crate::limits::MOST_SYMBOLS;
 use crate::names::Names;
@@ -89,34 +87,15 @@ pub(crate) fn name_word<'a>(token: &'a Token<'_>) -> Option<TextRef<'a>>
     }
 }
 
-/// The symbol of a name.
-pub(crate) fn symbol_among(names: &Names, name: &str) -> Option<SymId>
-    requires { length names.now ≤ MOST_SYMBOLS }
-    ensures { result ≡ symbol_among names.now name.now }
-{
-    let number = names.find(name)?;
-    Some(SymId(number as u32))
-}
-
-/// The symbol of a name, which is likely to have this number.
-pub(crate) fn symbol_at(names: &Names, name: &str, likely: usize) -> Option<SymId>
-    requires { length names.now ≤ MOST_SYMBOLS }
-    ensures { result ≡ symbol_among names.now name.now }
-{
-    let number = names.find_at(name, likely)?;
-    Some(SymId(number as u32))
-}
-
 /// The term of a word: a constant, the symbol that it names, or a word that names none.
 pub(crate) fn word_term(alloc: Global, names: &Names, word: &str) -> Result<Term, AllocError>
-    requires { length names.now ≤ MOST_SYMBOLS }
     ensures { IfOk result (λ t. t ≡ word_term names.now word.now) }
 {
     match word {
         "n" => Ok(Term::Tri(Tri::No)),
         "m" => Ok(Term::Tri(Tri::Module)),
         "y" => Ok(Term::Tri(Tri::Yes)),
-        _ => match symbol_among(names, word) {
+        _ => match names.symbol(word) {
             Some(symbol) => Ok(Term::Symbol(symbol)),
             None => Ok(Term::Undefined(BoxedText::copy_of(alloc, word)?)),
         },
@@ -146,14 +125,9 @@ fn defined_name<'a>(line: &'a Line<'_>) -> Option<TextRef<'a>>
 
 /// Adds the name that a line defines, where it is new and there is room for it.
 fn add_defined(alloc: Global, line: &Line<'_>, names: &mut Names) -> Result<(), AllocError>
-    requires { length names.old ≤ MOST_SYMBOLS }
-    ensures names { OnOk result (names.new ≡ option_map_or (with_name names.old) (defined_name line.now) names.old) }
-    ensures few { OnOk result (length names.new ≤ MOST_SYMBOLS) }
+    ensures { OnOk result (names.new ≡ option_map_or (with_name names.old) (defined_name line.now) names.old) }
 {
-    let Some(name) = defined_name(line) else {
-        return Ok(());
-    };
-    if names.len() < MOST_SYMBOLS {
+    if let Some(name) = defined_name(line) {
         names.add(alloc, name.as_str())?;
     }
     Ok(())
@@ -161,6 +135,7 @@ fn add_defined(alloc: Global, line: &Line<'_>, names: &mut Names) -> Result<(), 
 
 /// The names that lines define (kconfig-language.rst, "Menu entries"), in the order of their first definitions, as many
 /// as a tree may have, kept under the hash of a seed; or `AllocError` where there is no memory for them.
+#[tactic(auto, using(crate::proofs::NamesLemmas::few_names))]
 pub fn read_names(alloc: Global, seed: Seed, lines: &[Line<'_>]) -> Result<Names, AllocError>
     ensures names { IfOk result (λ names. names ≡ names_of lines.now) }
     ensures few { IfOk result (λ names. length names ≤ MOST_SYMBOLS) }

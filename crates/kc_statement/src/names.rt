@@ -1,14 +1,17 @@
-ghost use Rattle.std.specs.Prelude.{◌≡◌, [], ◌∷◌, ◌++◌, if◌then◌else◌, length, position, slice_get, slice_index_or, IfOk, OnOk, OnErr};
-ghost use Rattle.std.specs.List.{list_any};
+ghost use Rattle.std.specs.Prelude.{◌≡◌, ◌<◌, [], length, position, slice_index_or, IfOk, IfSome, OnOk, OnErr};
+ghost use Rattle.kc_statement.specs.declared.limits.TheConstants.{MOST_SYMBOLS};
 ghost use Rattle.std.specs.Str.{bytes_eq};
-ghost use Rattle.std.specs.Option.{option_copied};
+ghost use Rattle.kc_statement.specs.Names.{symbol_among, with_name};
 
+use crate::id::SymId;
+use crate::limits::MOST_SYMBOLS;
 use crate::seed::Seed;
 use indexmap::IndexSet;
 use std::alloc::{AllocError, Global};
 use std::marker::Model;
 
-/// The names of the symbols in the order of their first definitions. Contracts see the list of the names.
+/// The names of the symbols in the order of their first definitions, as many as a tree may have. Contracts see the list
+/// of the names.
 #[derive(Drop)]
 pub struct Names {
     set: IndexSet<String, Seed>,
@@ -22,10 +25,12 @@ impl Model for Names {
 
     ghost view = { λ a. map string_bytes a.set.keys };
 
+    ghost use Rattle.std.specs.Prelude.{◌≤◌, length};
     ghost use Rattle.std.specs.List.{IsDistinct};
     ghost use Rattle.std.specs.Str.{bytes_eq};
+    ghost use Rattle.kc_statement.specs.declared.limits.TheConstants.{MOST_SYMBOLS};
 
-    ghost invariant = { λ a. IsDistinct bytes_eq (map string_bytes a.set.keys) };
+    ghost invariant = { λ a. IsDistinct bytes_eq (map string_bytes a.set.keys) × (length a.set.keys ≤ MOST_SYMBOLS) };
 }
 
 impl Names {
@@ -48,37 +53,41 @@ impl Names {
 
     /// The number of a name: its position among the names, from 0.
     pub fn find(&self, name: &str) -> Option<usize>
-        ensures { result ≡ position (bytes_eq name.now) self.now }
+        ensures number { result ≡ position (bytes_eq name.now) self.now }
+        ensures few { IfSome result (λ n. n < MOST_SYMBOLS) }
     {
         self.set.get_index_of(name)
     }
 
-    /// The number of a name that is likely to be this one. Where it is, no table is asked.
-    pub fn find_at(&self, name: &str, likely: usize) -> Option<usize>
-        ensures { result ≡ position (bytes_eq name.now) self.now }
+    /// The symbol of a name.
+    pub fn symbol(&self, name: &str) -> Option<SymId>
+        ensures { result ≡ symbol_among self.now name.now }
+    {
+        let number = self.find(name)?;
+        Some(SymId(number as u32))
+    }
+
+    /// The symbol of a name, which is likely to have this number. Where it has, no table is asked.
+    pub(crate) fn symbol_at(&self, name: &str, likely: usize) -> Option<SymId>
+        ensures { result ≡ symbol_among self.now name.now }
     {
         if likely < self.set.len() && self.get(likely) == name {
-            Some(likely)
+            Some(SymId(likely as u32))
         } else {
-            self.find(name)
+            self.symbol(name)
         }
     }
 
-    /// Whether a name is among them.
-    pub fn contains(&self, name: &str) -> bool
-        ensures { result ≡ list_any (bytes_eq name.now) self.now }
-    {
-        self.set.contains(name)
-    }
-
-    /// Adds a name at the end, if it is not there. Where there is no memory for it (`AllocError`), the names stay as
-    /// they were.
+    /// Adds a name at the end, where it is new and there is room for it. Where there is no memory for it
+    /// (`AllocError`), the names stay as they were.
     pub fn add(&mut self, alloc: Global, name: &str) -> Result<(), AllocError>
-        ensures added { OnOk result (self.new ≡ (if list_any (bytes_eq name.now) self.old then self.old else self.old ++ name.now ∷ [])) }
+        ensures added { OnOk result (self.new ≡ with_name self.old name.now) }
         ensures unchanged { OnErr result (self.new ≡ self.old) }
     {
-        let name = String::from_str(alloc, name)?;
-        self.set.insert(name)?;
+        if self.set.len() < MOST_SYMBOLS {
+            let name = String::from_str(alloc, name)?;
+            self.set.insert(name)?;
+        }
         Ok(())
     }
 

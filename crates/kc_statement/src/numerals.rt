@@ -8,35 +8,23 @@ ghost use Rattle.kc_statement.specs.Numerals.{digits_up_to, hex_digits, int_nume
 
 use crate::symbol_type::SymbolType;
 
-/// The greatest number behind a `-`.
+/// The greatest number after a `-`.
 const MOST_BELOW_ZERO: u64 = 1 << 63;
-
-/// Whether each byte is a decimal digit.
-fn are_digits(bytes: &[u8]) -> bool
-    ensures { result ≡ list_all is_ascii_digit bytes.now }
-{
-    bytes.iter().all(|b| b.is_ascii_digit())
-}
-
-/// Whether each byte is a hex digit.
-fn are_hex_digits(bytes: &[u8]) -> bool
-    ensures { result ≡ list_all is_ascii_hexdigit bytes.now }
-{
-    bytes.iter().all(|b| b.is_ascii_hexdigit())
-}
 
 /// Whether a text is one or more decimal digits.
 fn is_decimal(text: &str) -> bool
     ensures { result ≡ (list_all is_ascii_digit text.now && nat_le 1 (length text.now)) }
 {
-    are_digits(text.as_bytes()) && text.len() >= 1
+    let are_digits = text.as_bytes().iter().all(|b| b.is_ascii_digit());
+    are_digits && text.len() >= 1
 }
 
 /// Whether a text is one or more hex digits.
 fn is_hex(text: &str) -> bool
     ensures { result ≡ (list_all is_ascii_hexdigit text.now && nat_le 1 (length text.now)) }
 {
-    are_hex_digits(text.as_bytes()) && text.len() >= 1
+    let are_digits = text.as_bytes().iter().all(|b| b.is_ascii_hexdigit());
+    are_digits && text.len() >= 1
 }
 
 /// The number that one or more decimal digits spell, none past 64 bits.
@@ -49,8 +37,8 @@ fn decimal(text: &str) -> Option<u64>
     u64::from_str_radix(text, 10).ok()
 }
 
-/// The number that one or more decimal digits spell, up to a bound.
-fn digits_up_to(bound: u64, text: &str) -> Option<u64>
+/// The number that one or more decimal digits spell, none past a bound (this project's own).
+pub fn digits_up_to(bound: u64, text: &str) -> Option<u64>
     ensures { result ≡ digits_up_to bound text.now }
 {
     let number = decimal(text)?;
@@ -60,8 +48,8 @@ fn digits_up_to(bound: u64, text: &str) -> Option<u64>
     Some(number)
 }
 
-/// The number that one or more hex digits spell, none past 64 bits.
-fn hex_digits(text: &str) -> Option<u64>
+/// The number that one or more hex digits spell, none past 64 bits (this project's own).
+pub fn hex_digits(text: &str) -> Option<u64>
     ensures { result ≡ hex_digits text.now }
 {
     if !is_hex(text) {
@@ -70,15 +58,15 @@ fn hex_digits(text: &str) -> Option<u64>
     u64::from_str_radix(text, 16).ok()
 }
 
-/// What follows a `-`.
-fn after_minus(text: &str) -> Option<&str>
+/// What follows a `-`, if there is one.
+pub fn after_minus(text: &str) -> Option<&str>
     ensures { option_map (λ s. s.now) result
         ≡ (if bytes_eq (take 1 text.now) (codes "-") then Some (drop 1 text.now) else None) }
 {
     text.strip_prefix('-')
 }
 
-/// The number of a numeral of type int: decimal digits, perhaps behind a `-`, from -2^63 to 2^63 - 1.
+/// The number of a numeral of type int: decimal digits, perhaps after a `-`, from -2^63 to 2^63 - 1.
 fn int_numeral(text: &str) -> Option<i128>
     ensures { result ≡ int_numeral text.now }
 {
@@ -94,8 +82,8 @@ fn int_numeral(text: &str) -> Option<i128>
     }
 }
 
-/// What follows a `0` and a letter.
-fn after_hex_sign(letter: char, text: &str) -> Option<&str>
+/// What follows a `0` and a letter, if they are there.
+pub fn after_hex_sign(letter: char, text: &str) -> Option<&str>
     requires { letter < 128 }
     ensures { option_map (λ s. s.now) result
         ≡ (if bytes_eq (take 2 text.now) (48 ∷ letter ∷ []) then Some (drop 2 text.now) else None) }
@@ -117,7 +105,7 @@ fn without_hex_sign(text: &str) -> &str
     }
 }
 
-/// The number of a numeral of type hex: hex digits up to 2^64 - 1, perhaps behind a `0x` or a `0X`.
+/// The number of a numeral of type hex: hex digits up to 2^64 - 1, perhaps after a `0x` or a `0X`.
 fn hex_numeral(text: &str) -> Option<i128>
     ensures { result ≡ hex_numeral text.now }
 {

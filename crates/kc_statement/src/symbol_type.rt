@@ -1,9 +1,13 @@
 //! The types of symbols.
 
-/// The type of a symbol (kconfig-language.rst, "Menu attributes").
-#[derive(Clone, Copy, Debug, PartialEq, Eq)]
+ghost use Rattle.std.specs.Prelude.{◌≡◌};
+ghost use Rattle.kc_statement.specs.SymbolTypes.{is_tri_type};
+
+/// The type of a symbol (kconfig-language.rst, "Menu attributes"). One that no line gives a type counts as a bool.
+#[derive(Clone, Copy, Debug, Default, PartialEq, Eq)]
 pub enum SymbolType {
     /// `bool`: n or y.
+    #[default]
     Bool,
     /// `tristate`: n, m or y.
     Tristate,
@@ -13,4 +17,13 @@ pub enum SymbolType {
     Int,
     /// `hex`: a hexadecimal number of 64 bits, as it is spelt.
     Hex,
+}
+
+impl SymbolType {
+    /// Whether n, m and y are its values (kconfig-language.rst, "Menu attributes").
+    pub fn is_tri(self) -> bool
+        ensures { result ≡ is_tri_type self }
+    {
+        matches!(self, SymbolType::Bool | SymbolType::Tristate)
+    }
 }

@@ -1,5 +1,5 @@
 ghost use Rattle.std.specs.Prelude.{◌≡◌};
-ghost use Rattle.kc_statement.specs.Tristate.{least, greatest, complement, is_no};
+ghost use Rattle.kc_statement.specs.Tristate.{least, greatest, complement, is_no, letter};
 
 /// A tristate value, in the order n, m, y (kconfig-language.rst, "Menu dependencies").
 #[derive(Clone, Copy, Debug, PartialEq, Eq)]
@@ -53,6 +53,17 @@ impl Tri {
         match self {
             Tri::No => true,
             Tri::Module | Tri::Yes => false,
+        }
+    }
+
+    /// The letter that stands for it, n, m or y.
+    pub fn letter(self) -> &'static str
+        ensures { result.now ≡ letter self }
+    {
+        match self {
+            Tri::No => "n",
+            Tri::Module => "m",
+            Tri::Yes => "y",
         }
     }
 }

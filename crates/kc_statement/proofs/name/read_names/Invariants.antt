@@ -1,10 +1,6 @@
-use Rattle.std.proofs.Common.{◌≡◌, ◌≤◌, length, take}
-use Rattle.kc_statement.specs.declared.limits.TheConstants.{MOST_SYMBOLS}
+use Rattle.std.proofs.Common.{◌≡◌, take}
 use Rattle.kc_statement.specs.Names.{names_of}
 use Rattle.kc_statement.proofs.name.read_names.Given as goal
 
 abbrev pub invariant-loop-line : goal.invariant-loop-line
-invariant-loop-line l = record {
-  names : l.names ≡ names_of (take l.line-index l.lines);
-  few : length l.names ≤ MOST_SYMBOLS;
-}
+invariant-loop-line l = l.names ≡ names_of (take l.line-index l.lines)

@@ -1,6 +1,0 @@
-use Rattle.std.proofs.Common.{sym, ◌∙◌}
-use Rattle.kc_statement.proofs.ConditionStart.{no_condition}
-use Rattle.kc_statement.proofs.statement_forms.condition.read_condition.Goals as goal
-
-pub returns-in_default : goal.returns-in_default
-returns-in_default c = no_condition c.args.names.now c.args.tokens.now c.in_ok-condition.field-0 (sym c.is_empty.ensures ∙ c.if-is_empty.false) c.in_default.is c.in_ok-condition.ensures
