@@ -1,7 +1,8 @@
 -- What one more reading changes of the definitions, the blocks and the comments.
 use Rattle.std.proofs.Common.{◌≡◌, ℕ, suc, ◌+◌, Bool, true, false, List, [], ◌∷◌, ◌++◌, Option, Some, None, length, refl, ap, ◌∙◌, arith}
-use Rattle.std.specs.Prelude.{if◌then◌else◌, nat_lt, slice_get, option_map, All, ◌||◌, ◌&&◌, filter_map}
-use Rattle.std.proofs.lemmas.Bool.{ne_eqb, eq-eqb, lt-ltb}
+use Rattle.std.specs.Prelude.{if◌then◌else◌, slice_get, All, ◌||◌, ◌&&◌, filter_map}
+use Rattle.std.specs.Option.{option_or}
+use Rattle.std.proofs.lemmas.Bool.{ne_eqb, eq-eqb}
 use Rattle.std.proofs.lemmas.List.{append-nil}
 use Rattle.std.proofs.lemmas.List.Elements.{All-weaker}
 use Rattle.std.proofs.lemmas.List.Folds.{list_any-append}
@@ -9,21 +10,49 @@ use Rattle.kc_statement.specs.declared.id.SymId.{SymId}
 use Rattle.kc_outline.specs.declared.id.BlockId.{BlockId}
 use Rattle.kc_outline.specs.declared.id.ChoiceId.{ChoiceId}
 use Rattle.kc_statement.specs.declared.expr.Expr.{Expr}
+use Rattle.kc_statement.specs.declared.attribute.DefaultValue.{DefaultValue}
 use Rattle.kc_statement.specs.declared.attribute.Prompt.{Prompt}
-use Rattle.kc_outline.specs.declared.block.BlockKind.{BlockKind}
+use Rattle.kc_statement.specs.declared.attribute.Range.{Range}
 use Rattle.kc_outline.specs.declared.block.BlockKind.TheVariants as block_kind
 use Rattle.kc_outline.specs.declared.context.Owner.{Owner}
 use Rattle.kc_outline.specs.declared.context.Owner.TheVariants as owner
 use Rattle.kc_statement.specs.declared.statement.Statement.{Statement}
 use Rattle.kc_statement.specs.declared.statement.Statement.TheVariants as statement
 use Rattle.kc_outline.specs.TreeValue.{DefinitionValue, BlockValue, CommentValue}
-use Rattle.kc_outline.specs.TreeOf.{Reading, said, is_said, map_placed, is_of_definition, is_of_block, is_of_comment, depends_in, prompt_in, default_in, range_in, visible_in, defined_in, opened_in, title_in, definition_at, definition_heads, definitions_in, block_at, block_heads, blocks_in, comment_at, comment_heads, comments_in}
+use Rattle.kc_outline.specs.TreeOf.{Reading, said, is_said, map_placed, is_of_definition, is_of_block, is_of_comment, depends_in, prompt_in, default_in, range_in, visible_in, defined_in, title_in, DefinitionLine, BlockLine, CommentLine, definition_line, block_line, comment_line, definition_at, definition_lines, definitions_in, block_at, block_lines, blocks_in, comment_at, comment_lines, comments_in}
 use Rattle.kc_outline.specs.Outline.{IsMadeBy, IsMade, AreMade}
-use Rattle.kc_outline.specs.Adding.{with_some, keep_first, second_after, new_definition, definition_after, change_definition, definitions_with, new_block, block_after, change_block, blocks_with, new_comment, comment_after, change_comment, comments_with}
+use Rattle.kc_outline.specs.Adding.{with_some, new_definition, change_definition, definitions_with, new_block, change_block, blocks_with, new_comment, change_comment, comments_with}
 use Rattle.kc_outline.proofs.ChangeLaws.{change_at_same, map_placed_push, map_placed_same, map_placed_changed, filter_map_push, with_some-append}
 
 abbrev pub reading : Statement → Option BlockId → Option ChoiceId → Option Owner → Reading
 reading st b ch o = record { statement = st; block = b; choice = ch; owner = o }
+
+-- ---- all that a line may add to a part
+-- the first one stays
+abbrev pub keep_first : {A : Type 0} → Option A → Option A → Option A
+keep_first None first = first
+keep_first (Some x) first = option_or first (Some x)
+
+abbrev definition_after : Option Expr → Option Prompt → Option DefaultValue → Option Range → DefinitionValue → DefinitionValue
+definition_after e p v r d = record {
+  symbol = d.symbol;
+  block = d.block;
+  depends = with_some d.depends e;
+  prompts = with_some d.prompts p;
+  defaults = with_some d.defaults v;
+  ranges = with_some d.ranges r;
+}
+
+abbrev block_after : Option Expr → Option Expr → BlockValue → BlockValue
+block_after e v x = record {
+  kind = x.kind;
+  parent = x.parent;
+  depends = with_some x.depends e;
+  visible = with_some x.visible v;
+}
+
+abbrev comment_after : Option Expr → CommentValue → CommentValue
+comment_after e x = record { title = x.title; block = x.block; choice = x.choice; depends = with_some x.depends e }
 
 -- ---- what an owner says
 pub said_push : {A : Type 0} → (is_owner : Option Owner → Bool) (say : Statement → Option A) (rs : List Reading) (r : Reading) → said is_owner say (rs ++ r ∷ []) ≡ with_some (said is_owner say rs) (if is_owner r.owner then say r.statement else None)
@@ -67,20 +96,11 @@ first_push xs None = refl
 first_push [] (Some y) = refl
 first_push (x ∷ xs) (Some y) = refl
 
-two_or_more : (n : ℕ) → nat_lt 1 (suc (suc n)) ≡ true
-two_or_more n = lt-ltb 1 (suc (suc n)) (omega arith)
-
-pub second_push : (xs : List Prompt) (o : Option Prompt) → nat_lt 1 (length (with_some xs o)) ≡ second_after o (slice_get xs 0) (nat_lt 1 (length xs))
-second_push xs None = refl
-second_push [] (Some y) = refl
-second_push (x ∷ []) (Some y) = refl
-second_push (x ∷ z ∷ xs) (Some y) = two_or_more (length (xs ++ y ∷ []))
-
 -- ---- definitions
-definition_at_push : (rs : List Reading) (r : Reading) (j : ℕ) (b : Option BlockId) (s : SymId) → definition_at (rs ++ r ∷ []) j b s ≡ definition_after (if is_of_definition j r.owner then depends_in r.statement else None) (if is_of_definition j r.owner then prompt_in r.statement else None) (if is_of_definition j r.owner then default_in r.statement else None) (if is_of_definition j r.owner then range_in r.statement else None) (definition_at rs j b s)
-definition_at_push rs r j b s =
+definition_at_push : (rs : List Reading) (r : Reading) (j : ℕ) (h : DefinitionLine) → definition_at (rs ++ r ∷ []) j h ≡ definition_after (if is_of_definition j r.owner then depends_in r.statement else None) (if is_of_definition j r.owner then prompt_in r.statement else None) (if is_of_definition j r.owner then default_in r.statement else None) (if is_of_definition j r.owner then range_in r.statement else None) (definition_at rs j h)
+definition_at_push rs r j h =
     rw (said_push (is_of_definition j) depends_in rs r, said_push (is_of_definition j) prompt_in rs r, said_push (is_of_definition j) default_in rs r, said_push (is_of_definition j) range_in rs r)
-    (rw (first_push (said (is_of_definition j) prompt_in rs) (if is_of_definition j r.owner then prompt_in r.statement else None), second_push (said (is_of_definition j) prompt_in rs) (if is_of_definition j r.owner then prompt_in r.statement else None)) refl)
+    refl
 
 change_definition_same : (o : Option Owner) (ds : List DefinitionValue) → change_definition o (λ d. d) ds ≡ ds
 change_definition_same None ds = refl
@@ -89,57 +109,57 @@ change_definition_same (Some (owner.Menu m)) ds = refl
 change_definition_same (Some (owner.Choice c m)) ds = refl
 change_definition_same (Some (owner.Comment c)) ds = refl
 
-abbrev definitions_of_heads : List Reading → List (Option BlockId × SymId) → List DefinitionValue
-definitions_of_heads rs hs = map_placed (λ j h. definition_at rs j h.0 h.1) 0 hs
+abbrev definitions_of_lines : List Reading → List DefinitionLine → List DefinitionValue
+definitions_of_lines rs hs = map_placed (definition_at rs) 0 hs
 
-definitions_after : (rs : List Reading) (st : Statement) (b : Option BlockId) (ch : Option ChoiceId) (o : Option Owner) (hs : List (Option BlockId × SymId)) → definitions_of_heads (rs ++ reading st b ch o ∷ []) hs ≡ change_definition o (definition_after (depends_in st) (prompt_in st) (default_in st) (range_in st)) (definitions_of_heads rs hs)
+definitions_after : (rs : List Reading) (st : Statement) (b : Option BlockId) (ch : Option ChoiceId) (o : Option Owner) (hs : List DefinitionLine) → definitions_of_lines (rs ++ reading st b ch o ∷ []) hs ≡ change_definition o (definition_after (depends_in st) (prompt_in st) (default_in st) (range_in st)) (definitions_of_lines rs hs)
 definitions_after rs st b ch None hs =
-    map_placed_same (λ j h. definition_at (rs ++ reading st b ch None ∷ []) j h.0 h.1) (λ j h. definition_at rs j h.0 h.1) 0 hs
-    (λ j h late. definition_at_push rs (reading st b ch None) j h.0 h.1)
+    map_placed_same (definition_at (rs ++ reading st b ch None ∷ [])) (definition_at rs) 0 hs
+    (λ j h late. definition_at_push rs (reading st b ch None) j h)
 definitions_after rs st b ch (Some (owner.Menu m)) hs =
-    map_placed_same (λ j h. definition_at (rs ++ reading st b ch (Some (owner.Menu m)) ∷ []) j h.0 h.1) (λ j h. definition_at rs j h.0 h.1) 0 hs
-    (λ j h late. definition_at_push rs (reading st b ch (Some (owner.Menu m))) j h.0 h.1)
+    map_placed_same (definition_at (rs ++ reading st b ch (Some (owner.Menu m)) ∷ [])) (definition_at rs) 0 hs
+    (λ j h late. definition_at_push rs (reading st b ch (Some (owner.Menu m))) j h)
 definitions_after rs st b ch (Some (owner.Choice c m)) hs =
-    map_placed_same (λ j h. definition_at (rs ++ reading st b ch (Some (owner.Choice c m)) ∷ []) j h.0 h.1) (λ j h. definition_at rs j h.0 h.1) 0 hs
-    (λ j h late. definition_at_push rs (reading st b ch (Some (owner.Choice c m))) j h.0 h.1)
+    map_placed_same (definition_at (rs ++ reading st b ch (Some (owner.Choice c m)) ∷ [])) (definition_at rs) 0 hs
+    (λ j h late. definition_at_push rs (reading st b ch (Some (owner.Choice c m))) j h)
 definitions_after rs st b ch (Some (owner.Comment c)) hs =
-    map_placed_same (λ j h. definition_at (rs ++ reading st b ch (Some (owner.Comment c)) ∷ []) j h.0 h.1) (λ j h. definition_at rs j h.0 h.1) 0 hs
-    (λ j h late. definition_at_push rs (reading st b ch (Some (owner.Comment c))) j h.0 h.1)
+    map_placed_same (definition_at (rs ++ reading st b ch (Some (owner.Comment c)) ∷ [])) (definition_at rs) 0 hs
+    (λ j h late. definition_at_push rs (reading st b ch (Some (owner.Comment c))) j h)
 definitions_after rs st b ch (Some (owner.Definition s i)) hs =
-    map_placed_changed (λ j h. definition_at (rs ++ reading st b ch (Some (owner.Definition s i)) ∷ []) j h.0 h.1) (λ j h. definition_at rs j h.0 h.1) (definition_after (depends_in st) (prompt_in st) (default_in st) (range_in st)) 0 i hs
-    (λ j h other. rw (ne_eqb i j (λ e. omega arith)) at (definition_at_push rs (reading st b ch (Some (owner.Definition s i))) j h.0 h.1))
-    (λ h. rw (eq-eqb i (0 + i) (omega arith)) at (definition_at_push rs (reading st b ch (Some (owner.Definition s i))) (0 + i) h.0 h.1))
+    map_placed_changed (definition_at (rs ++ reading st b ch (Some (owner.Definition s i)) ∷ [])) (definition_at rs) (definition_after (depends_in st) (prompt_in st) (default_in st) (range_in st)) 0 i hs
+    (λ j h other. rw (ne_eqb i j (λ e. omega arith)) at (definition_at_push rs (reading st b ch (Some (owner.Definition s i))) j h))
+    (λ h. rw (eq-eqb i (0 + i) (omega arith)) at (definition_at_push rs (reading st b ch (Some (owner.Definition s i))) (0 + i) h))
 
 -- no owner of a reading is a definition that comes next
-no_definition_yet : (rs : List Reading) (o : Option Owner) → IsMadeBy rs o → is_of_definition (0 + length (definition_heads rs)) o ≡ false
+no_definition_yet : (rs : List Reading) (o : Option Owner) → IsMadeBy rs o → is_of_definition (0 + length (definition_lines rs)) o ≡ false
 no_definition_yet rs None made = refl
-no_definition_yet rs (Some (owner.Definition s j)) made = ne_eqb j (0 + length (definition_heads rs)) (λ e. omega arith)
+no_definition_yet rs (Some (owner.Definition s j)) made = ne_eqb j (0 + length (definition_lines rs)) (λ e. omega arith)
 no_definition_yet rs (Some (owner.Menu m)) made = refl
 no_definition_yet rs (Some (owner.Choice c m)) made = refl
 no_definition_yet rs (Some (owner.Comment c)) made = refl
 
-next_definition : (rs : List Reading) (b : Option BlockId) (s : SymId) → AreMade rs → definition_at rs (0 + length (definition_heads rs)) b s ≡ new_definition s b
-next_definition rs b s made =
-    let others : All (λ r. is_of_definition (0 + length (definition_heads rs)) r.owner ≡ false) rs =
-    All-weaker (IsMade rs) (λ r. is_of_definition (0 + length (definition_heads rs)) r.owner ≡ false) (λ r m. no_definition_yet rs r.owner m.owner) rs made in
-    rw (unsaid (is_of_definition (0 + length (definition_heads rs))) depends_in rs others, unsaid (is_of_definition (0 + length (definition_heads rs))) prompt_in rs others, unsaid (is_of_definition (0 + length (definition_heads rs))) default_in rs others, unsaid (is_of_definition (0 + length (definition_heads rs))) range_in rs others) refl
+next_definition : (rs : List Reading) (h : DefinitionLine) → AreMade rs → definition_at rs (0 + length (definition_lines rs)) h ≡ new_definition h.symbol h.block
+next_definition rs h made =
+    let others : All (λ r. is_of_definition (0 + length (definition_lines rs)) r.owner ≡ false) rs =
+    All-weaker (IsMade rs) (λ r. is_of_definition (0 + length (definition_lines rs)) r.owner ≡ false) (λ r m. no_definition_yet rs r.owner m.owner) rs made in
+    rw (unsaid (is_of_definition (0 + length (definition_lines rs))) depends_in rs others, unsaid (is_of_definition (0 + length (definition_lines rs))) prompt_in rs others, unsaid (is_of_definition (0 + length (definition_lines rs))) default_in rs others, unsaid (is_of_definition (0 + length (definition_lines rs))) range_in rs others) refl
 
-pub definition_heads_push : (rs : List Reading) (st : Statement) (b : Option BlockId) (ch : Option ChoiceId) (o : Option Owner) → definition_heads (rs ++ reading st b ch o ∷ []) ≡ with_some (definition_heads rs) (option_map (λ s. (b, s)) (defined_in st))
-definition_heads_push rs st b ch o = filter_map_push (λ r. option_map (λ s. (r.block, s)) (defined_in r.statement)) rs (reading st b ch o)
+pub definition_lines_push : (rs : List Reading) (st : Statement) (b : Option BlockId) (ch : Option ChoiceId) (o : Option Owner) → definition_lines (rs ++ reading st b ch o ∷ []) ≡ with_some (definition_lines rs) (definition_line b st)
+definition_lines_push rs st b ch o = filter_map_push (λ r. definition_line r.block r.statement) rs (reading st b ch o)
 
 -- where the line makes no definition
 definitions_changed : (rs : List Reading) (st : Statement) (b : Option BlockId) (ch : Option ChoiceId) (o : Option Owner) → defined_in st ≡ None → definitions_in (rs ++ reading st b ch o ∷ []) ≡ change_definition o (definition_after (depends_in st) (prompt_in st) (default_in st) (range_in st)) (definitions_in rs)
 definitions_changed rs st b ch o none =
-    let heads : definition_heads (rs ++ reading st b ch o ∷ []) ≡ definition_heads rs = rw none at (definition_heads_push rs st b ch o) in
-    rw heads (definitions_after rs st b ch o (definition_heads rs))
+    let heads : definition_lines (rs ++ reading st b ch o ∷ []) ≡ definition_lines rs = rw none at (definition_lines_push rs st b ch o) in
+    rw heads (definitions_after rs st b ch o (definition_lines rs))
 
 definition_added : (rs : List Reading) (s : SymId) (b : Option BlockId) (ch : Option ChoiceId) (o : Option Owner) → AreMade rs → definitions_in (rs ++ reading (statement.Config (Some s)) b ch o ∷ []) ≡ definitions_in rs ++ new_definition s b ∷ []
 definition_added rs s b ch o made =
-    rw (definition_heads_push rs (statement.Config (Some s)) b ch o)
-    (definitions_after rs (statement.Config (Some s)) b ch o (definition_heads rs ++ (b, s) ∷ [])
-    ∙ change_definition_same o (definitions_of_heads rs (definition_heads rs ++ (b, s) ∷ []))
-    ∙ map_placed_push (λ j h. definition_at rs j h.0 h.1) 0 (definition_heads rs) (b, s)
-    ∙ ap (λ d. definitions_in rs ++ d ∷ []) (next_definition rs b s made))
+    rw (definition_lines_push rs (statement.Config (Some s)) b ch o)
+    (definitions_after rs (statement.Config (Some s)) b ch o (definition_lines rs ++ record { symbol = s; block = b } ∷ [])
+    ∙ change_definition_same o (definitions_of_lines rs (definition_lines rs ++ record { symbol = s; block = b } ∷ []))
+    ∙ map_placed_push (definition_at rs) 0 (definition_lines rs) (record { symbol = s; block = b })
+    ∙ ap (λ d. definitions_in rs ++ d ∷ []) (next_definition rs (record { symbol = s; block = b }) made))
 
 pub definitions_push : (rs : List Reading) (st : Statement) (b : Option BlockId) (ch : Option ChoiceId) (o : Option Owner) → AreMade rs → definitions_in (rs ++ reading st b ch o ∷ []) ≡ definitions_with st b o (definitions_in rs)
 definitions_push rs (statement.Config (Some s)) b ch o made = definition_added rs s b ch o made
@@ -152,10 +172,10 @@ definitions_push rs (statement.DependsOn e) b ch o made = definitions_changed rs
 definitions_push rs st b ch o made = definitions_changed rs st b ch o refl ∙ change_definition_same o (definitions_in rs)
 
 -- ---- blocks
-block_at_push : (rs : List Reading) (r : Reading) (j : ℕ) (b : Option BlockId) (h : BlockKind × List Expr) → block_at (rs ++ r ∷ []) j b h ≡ block_after (if is_of_block j r.owner then depends_in r.statement else None) (if is_of_block j r.owner then visible_in r.statement else None) (block_at rs j b h)
-block_at_push rs r j b h =
+block_at_push : (rs : List Reading) (r : Reading) (j : ℕ) (h : BlockLine) → block_at (rs ++ r ∷ []) j h ≡ block_after (if is_of_block j r.owner then depends_in r.statement else None) (if is_of_block j r.owner then visible_in r.statement else None) (block_at rs j h)
+block_at_push rs r j h =
     rw (said_push (is_of_block j) depends_in rs r, said_push (is_of_block j) visible_in rs r)
-    (rw (with_some-append h.1 (said (is_of_block j) depends_in rs) (if is_of_block j r.owner then depends_in r.statement else None)) refl)
+    (rw (with_some-append h.depends (said (is_of_block j) depends_in rs) (if is_of_block j r.owner then depends_in r.statement else None)) refl)
 
 change_block_same : (o : Option Owner) (xs : List BlockValue) → change_block o (λ x. x) xs ≡ xs
 change_block_same None xs = refl
@@ -164,79 +184,72 @@ change_block_same (Some (owner.Menu m)) xs = change_at_same xs m.0
 change_block_same (Some (owner.Choice c m)) xs = change_at_same xs m.0
 change_block_same (Some (owner.Comment c)) xs = refl
 
-abbrev BlockHead : Type 0
-BlockHead = Option BlockId × (BlockKind × List Expr)
+abbrev blocks_of_lines : List Reading → List BlockLine → List BlockValue
+blocks_of_lines rs hs = map_placed (block_at rs) 0 hs
 
-abbrev blocks_of_heads : List Reading → List BlockHead → List BlockValue
-blocks_of_heads rs hs = map_placed (λ j h. block_at rs j h.0 h.1) 0 hs
-
-blocks_after : (rs : List Reading) (st : Statement) (b : Option BlockId) (ch : Option ChoiceId) (o : Option Owner) (hs : List BlockHead) → blocks_of_heads (rs ++ reading st b ch o ∷ []) hs ≡ change_block o (block_after (depends_in st) (visible_in st)) (blocks_of_heads rs hs)
+blocks_after : (rs : List Reading) (st : Statement) (b : Option BlockId) (ch : Option ChoiceId) (o : Option Owner) (hs : List BlockLine) → blocks_of_lines (rs ++ reading st b ch o ∷ []) hs ≡ change_block o (block_after (depends_in st) (visible_in st)) (blocks_of_lines rs hs)
 blocks_after rs st b ch None hs =
-    map_placed_same (λ j h. block_at (rs ++ reading st b ch None ∷ []) j h.0 h.1) (λ j h. block_at rs j h.0 h.1) 0 hs
-    (λ j h late. block_at_push rs (reading st b ch None) j h.0 h.1)
+    map_placed_same (block_at (rs ++ reading st b ch None ∷ [])) (block_at rs) 0 hs
+    (λ j h late. block_at_push rs (reading st b ch None) j h)
 blocks_after rs st b ch (Some (owner.Definition s i)) hs =
-    map_placed_same (λ j h. block_at (rs ++ reading st b ch (Some (owner.Definition s i)) ∷ []) j h.0 h.1) (λ j h. block_at rs j h.0 h.1) 0 hs
-    (λ j h late. block_at_push rs (reading st b ch (Some (owner.Definition s i))) j h.0 h.1)
+    map_placed_same (block_at (rs ++ reading st b ch (Some (owner.Definition s i)) ∷ [])) (block_at rs) 0 hs
+    (λ j h late. block_at_push rs (reading st b ch (Some (owner.Definition s i))) j h)
 blocks_after rs st b ch (Some (owner.Comment c)) hs =
-    map_placed_same (λ j h. block_at (rs ++ reading st b ch (Some (owner.Comment c)) ∷ []) j h.0 h.1) (λ j h. block_at rs j h.0 h.1) 0 hs
-    (λ j h late. block_at_push rs (reading st b ch (Some (owner.Comment c))) j h.0 h.1)
+    map_placed_same (block_at (rs ++ reading st b ch (Some (owner.Comment c)) ∷ [])) (block_at rs) 0 hs
+    (λ j h late. block_at_push rs (reading st b ch (Some (owner.Comment c))) j h)
 blocks_after rs st b ch (Some (owner.Menu m)) hs =
-    map_placed_changed (λ j h. block_at (rs ++ reading st b ch (Some (owner.Menu m)) ∷ []) j h.0 h.1) (λ j h. block_at rs j h.0 h.1) (block_after (depends_in st) (visible_in st)) 0 m.0 hs
-    (λ j h other. rw (ne_eqb m.0 j (λ e. omega arith)) at (block_at_push rs (reading st b ch (Some (owner.Menu m))) j h.0 h.1))
-    (λ h. rw (eq-eqb m.0 (0 + m.0) (omega arith)) at (block_at_push rs (reading st b ch (Some (owner.Menu m))) (0 + m.0) h.0 h.1))
+    map_placed_changed (block_at (rs ++ reading st b ch (Some (owner.Menu m)) ∷ [])) (block_at rs) (block_after (depends_in st) (visible_in st)) 0 m.0 hs
+    (λ j h other. rw (ne_eqb m.0 j (λ e. omega arith)) at (block_at_push rs (reading st b ch (Some (owner.Menu m))) j h))
+    (λ h. rw (eq-eqb m.0 (0 + m.0) (omega arith)) at (block_at_push rs (reading st b ch (Some (owner.Menu m))) (0 + m.0) h))
 blocks_after rs st b ch (Some (owner.Choice c m)) hs =
-    map_placed_changed (λ j h. block_at (rs ++ reading st b ch (Some (owner.Choice c m)) ∷ []) j h.0 h.1) (λ j h. block_at rs j h.0 h.1) (block_after (depends_in st) (visible_in st)) 0 m.0 hs
-    (λ j h other. rw (ne_eqb m.0 j (λ e. omega arith)) at (block_at_push rs (reading st b ch (Some (owner.Choice c m))) j h.0 h.1))
-    (λ h. rw (eq-eqb m.0 (0 + m.0) (omega arith)) at (block_at_push rs (reading st b ch (Some (owner.Choice c m))) (0 + m.0) h.0 h.1))
+    map_placed_changed (block_at (rs ++ reading st b ch (Some (owner.Choice c m)) ∷ [])) (block_at rs) (block_after (depends_in st) (visible_in st)) 0 m.0 hs
+    (λ j h other. rw (ne_eqb m.0 j (λ e. omega arith)) at (block_at_push rs (reading st b ch (Some (owner.Choice c m))) j h))
+    (λ h. rw (eq-eqb m.0 (0 + m.0) (omega arith)) at (block_at_push rs (reading st b ch (Some (owner.Choice c m))) (0 + m.0) h))
 
-no_block_yet : (rs : List Reading) (o : Option Owner) → IsMadeBy rs o → is_of_block (0 + length (block_heads rs)) o ≡ false
+no_block_yet : (rs : List Reading) (o : Option Owner) → IsMadeBy rs o → is_of_block (0 + length (block_lines rs)) o ≡ false
 no_block_yet rs None made = refl
 no_block_yet rs (Some (owner.Definition s j)) made = refl
-no_block_yet rs (Some (owner.Menu m)) made = ne_eqb m.0 (0 + length (block_heads rs)) (λ e. omega arith)
-no_block_yet rs (Some (owner.Choice c m)) made = ne_eqb m.0 (0 + length (block_heads rs)) (λ e. omega (arith, made.1))
+no_block_yet rs (Some (owner.Menu m)) made = ne_eqb m.0 (0 + length (block_lines rs)) (λ e. omega arith)
+no_block_yet rs (Some (owner.Choice c m)) made = ne_eqb m.0 (0 + length (block_lines rs)) (λ e. omega (arith, made.1))
 no_block_yet rs (Some (owner.Comment c)) made = refl
 
-next_block : (rs : List Reading) (b : Option BlockId) (h : BlockKind × List Expr) → AreMade rs → block_at rs (0 + length (block_heads rs)) b h ≡ new_block h.0 b h.1
-next_block rs b h made =
-    let others : All (λ r. is_of_block (0 + length (block_heads rs)) r.owner ≡ false) rs =
-    All-weaker (IsMade rs) (λ r. is_of_block (0 + length (block_heads rs)) r.owner ≡ false) (λ r m. no_block_yet rs r.owner m.owner) rs made in
-    rw (unsaid (is_of_block (0 + length (block_heads rs))) depends_in rs others, unsaid (is_of_block (0 + length (block_heads rs))) visible_in rs others)
-    (ap (λ es. new_block h.0 b es) (append-nil h.1))
+next_block : (rs : List Reading) (h : BlockLine) → AreMade rs → block_at rs (0 + length (block_lines rs)) h ≡ new_block h.kind h.parent h.depends
+next_block rs h made =
+    let others : All (λ r. is_of_block (0 + length (block_lines rs)) r.owner ≡ false) rs =
+    All-weaker (IsMade rs) (λ r. is_of_block (0 + length (block_lines rs)) r.owner ≡ false) (λ r m. no_block_yet rs r.owner m.owner) rs made in
+    rw (unsaid (is_of_block (0 + length (block_lines rs))) depends_in rs others, unsaid (is_of_block (0 + length (block_lines rs))) visible_in rs others)
+    (ap (λ es. new_block h.kind h.parent es) (append-nil h.depends))
 
-pub block_heads_push : (rs : List Reading) (st : Statement) (b : Option BlockId) (ch : Option ChoiceId) (o : Option Owner) → block_heads (rs ++ reading st b ch o ∷ []) ≡ with_some (block_heads rs) (option_map (λ k. (b, k)) (opened_in st))
-block_heads_push rs st b ch o = filter_map_push (λ r. option_map (λ k. (r.block, k)) (opened_in r.statement)) rs (reading st b ch o)
+pub block_lines_push : (rs : List Reading) (st : Statement) (b : Option BlockId) (ch : Option ChoiceId) (o : Option Owner) → block_lines (rs ++ reading st b ch o ∷ []) ≡ with_some (block_lines rs) (block_line b st)
+block_lines_push rs st b ch o = filter_map_push (λ r. block_line r.block r.statement) rs (reading st b ch o)
 
-blocks_changed : (rs : List Reading) (st : Statement) (b : Option BlockId) (ch : Option ChoiceId) (o : Option Owner) → opened_in st ≡ None → blocks_in (rs ++ reading st b ch o ∷ []) ≡ change_block o (block_after (depends_in st) (visible_in st)) (blocks_in rs)
+blocks_changed : (rs : List Reading) (st : Statement) (b : Option BlockId) (ch : Option ChoiceId) (o : Option Owner) → block_line b st ≡ None → blocks_in (rs ++ reading st b ch o ∷ []) ≡ change_block o (block_after (depends_in st) (visible_in st)) (blocks_in rs)
 blocks_changed rs st b ch o none =
-    let heads : block_heads (rs ++ reading st b ch o ∷ []) ≡ block_heads rs = rw none at (block_heads_push rs st b ch o) in
-    rw heads (blocks_after rs st b ch o (block_heads rs))
+    let heads : block_lines (rs ++ reading st b ch o ∷ []) ≡ block_lines rs = rw none at (block_lines_push rs st b ch o) in
+    rw heads (blocks_after rs st b ch o (block_lines rs))
 
-block_added : (rs : List Reading) (h : BlockKind × List Expr) (st : Statement) (b : Option BlockId) (ch : Option ChoiceId) (o : Option Owner) → AreMade rs → opened_in st ≡ Some h → depends_in st ≡ None → visible_in st ≡ None → blocks_in (rs ++ reading st b ch o ∷ []) ≡ blocks_in rs ++ new_block h.0 b h.1 ∷ []
+block_added : (rs : List Reading) (h : BlockLine) (st : Statement) (b : Option BlockId) (ch : Option ChoiceId) (o : Option Owner) → AreMade rs → block_line b st ≡ Some h → depends_in st ≡ None → visible_in st ≡ None → blocks_in (rs ++ reading st b ch o ∷ []) ≡ blocks_in rs ++ new_block h.kind h.parent h.depends ∷ []
 block_added rs h st b ch o made opened no_depends no_visible =
-    let heads : block_heads (rs ++ reading st b ch o ∷ []) ≡ block_heads rs ++ (b, h) ∷ [] = rw opened at (block_heads_push rs st b ch o) in
-    let after : blocks_of_heads (rs ++ reading st b ch o ∷ []) (block_heads rs ++ (b, h) ∷ []) ≡ change_block o (block_after None None) (blocks_of_heads rs (block_heads rs ++ (b, h) ∷ [])) =
-    rw (no_depends, no_visible) at (blocks_after rs st b ch o (block_heads rs ++ (b, h) ∷ [])) in
+    let heads : block_lines (rs ++ reading st b ch o ∷ []) ≡ block_lines rs ++ h ∷ [] = rw opened at (block_lines_push rs st b ch o) in
+    let after : blocks_of_lines (rs ++ reading st b ch o ∷ []) (block_lines rs ++ h ∷ []) ≡ change_block o (block_after None None) (blocks_of_lines rs (block_lines rs ++ h ∷ [])) =
+    rw (no_depends, no_visible) at (blocks_after rs st b ch o (block_lines rs ++ h ∷ [])) in
     rw heads
     (after
-    ∙ change_block_same o (blocks_of_heads rs (block_heads rs ++ (b, h) ∷ []))
-    ∙ map_placed_push (λ j k. block_at rs j k.0 k.1) 0 (block_heads rs) (b, h)
-    ∙ ap (λ x. blocks_in rs ++ x ∷ []) (next_block rs b h made))
+    ∙ change_block_same o (blocks_of_lines rs (block_lines rs ++ h ∷ []))
+    ∙ map_placed_push (block_at rs) 0 (block_lines rs) h
+    ∙ ap (λ x. blocks_in rs ++ x ∷ []) (next_block rs h made))
 
 pub blocks_push : (rs : List Reading) (st : Statement) (b : Option BlockId) (ch : Option ChoiceId) (o : Option Owner) → AreMade rs → blocks_in (rs ++ reading st b ch o ∷ []) ≡ blocks_with st b o (blocks_in rs)
-blocks_push rs (statement.Menu title) b ch o made = block_added rs (block_kind.Menu title, []) (statement.Menu title) b ch o made refl refl refl
-blocks_push rs (statement.If e) b ch o made = block_added rs (block_kind.If, e ∷ []) (statement.If e) b ch o made refl refl refl
-blocks_push rs statement.Choice b ch o made = block_added rs (block_kind.Choice, []) statement.Choice b ch o made refl refl refl
+blocks_push rs (statement.Menu title) b ch o made = block_added rs (record { kind = block_kind.Menu title; depends = []; parent = b }) (statement.Menu title) b ch o made refl refl refl
+blocks_push rs (statement.If e) b ch o made = block_added rs (record { kind = block_kind.If; depends = e ∷ []; parent = b }) (statement.If e) b ch o made refl refl refl
+blocks_push rs statement.Choice b ch o made = block_added rs (record { kind = block_kind.Choice; depends = []; parent = b }) statement.Choice b ch o made refl refl refl
 blocks_push rs (statement.DependsOn e) b ch o made = blocks_changed rs (statement.DependsOn e) b ch o refl
 blocks_push rs (statement.VisibleIf e) b ch o made = blocks_changed rs (statement.VisibleIf e) b ch o refl
 blocks_push rs st b ch o made = blocks_changed rs st b ch o refl ∙ change_block_same o (blocks_in rs)
 
 -- ---- comments
--- the choice around a comment, and its title
-abbrev CommentHead : Type 0
-CommentHead = Option ChoiceId × List ℕ
-
-comment_at_push : (rs : List Reading) (r : Reading) (j : ℕ) (b : Option BlockId) (h : CommentHead) → comment_at (rs ++ r ∷ []) j b h ≡ comment_after (if is_of_comment j r.owner then depends_in r.statement else None) (comment_at rs j b h)
-comment_at_push rs r j b h = rw (said_push (is_of_comment j) depends_in rs r) refl
+comment_at_push : (rs : List Reading) (r : Reading) (j : ℕ) (h : CommentLine) → comment_at (rs ++ r ∷ []) j h ≡ comment_after (if is_of_comment j r.owner then depends_in r.statement else None) (comment_at rs j h)
+comment_at_push rs r j h = rw (said_push (is_of_comment j) depends_in rs r) refl
 
 change_comment_same : (o : Option Owner) (xs : List CommentValue) → change_comment o (λ x. x) xs ≡ xs
 change_comment_same None xs = refl
@@ -245,55 +258,55 @@ change_comment_same (Some (owner.Menu m)) xs = refl
 change_comment_same (Some (owner.Choice c m)) xs = refl
 change_comment_same (Some (owner.Comment c)) xs = change_at_same xs c.0
 
-abbrev comments_of_heads : List Reading → List (Option BlockId × CommentHead) → List CommentValue
-comments_of_heads rs hs = map_placed (λ j h. comment_at rs j h.0 h.1) 0 hs
+abbrev comments_of_lines : List Reading → List CommentLine → List CommentValue
+comments_of_lines rs hs = map_placed (comment_at rs) 0 hs
 
-comments_after : (rs : List Reading) (st : Statement) (b : Option BlockId) (ch : Option ChoiceId) (o : Option Owner) (hs : List (Option BlockId × CommentHead)) → comments_of_heads (rs ++ reading st b ch o ∷ []) hs ≡ change_comment o (comment_after (depends_in st)) (comments_of_heads rs hs)
+comments_after : (rs : List Reading) (st : Statement) (b : Option BlockId) (ch : Option ChoiceId) (o : Option Owner) (hs : List CommentLine) → comments_of_lines (rs ++ reading st b ch o ∷ []) hs ≡ change_comment o (comment_after (depends_in st)) (comments_of_lines rs hs)
 comments_after rs st b ch None hs =
-    map_placed_same (λ j h. comment_at (rs ++ reading st b ch None ∷ []) j h.0 h.1) (λ j h. comment_at rs j h.0 h.1) 0 hs
-    (λ j h late. comment_at_push rs (reading st b ch None) j h.0 h.1)
+    map_placed_same (comment_at (rs ++ reading st b ch None ∷ [])) (comment_at rs) 0 hs
+    (λ j h late. comment_at_push rs (reading st b ch None) j h)
 comments_after rs st b ch (Some (owner.Definition s i)) hs =
-    map_placed_same (λ j h. comment_at (rs ++ reading st b ch (Some (owner.Definition s i)) ∷ []) j h.0 h.1) (λ j h. comment_at rs j h.0 h.1) 0 hs
-    (λ j h late. comment_at_push rs (reading st b ch (Some (owner.Definition s i))) j h.0 h.1)
+    map_placed_same (comment_at (rs ++ reading st b ch (Some (owner.Definition s i)) ∷ [])) (comment_at rs) 0 hs
+    (λ j h late. comment_at_push rs (reading st b ch (Some (owner.Definition s i))) j h)
 comments_after rs st b ch (Some (owner.Menu m)) hs =
-    map_placed_same (λ j h. comment_at (rs ++ reading st b ch (Some (owner.Menu m)) ∷ []) j h.0 h.1) (λ j h. comment_at rs j h.0 h.1) 0 hs
-    (λ j h late. comment_at_push rs (reading st b ch (Some (owner.Menu m))) j h.0 h.1)
+    map_placed_same (comment_at (rs ++ reading st b ch (Some (owner.Menu m)) ∷ [])) (comment_at rs) 0 hs
+    (λ j h late. comment_at_push rs (reading st b ch (Some (owner.Menu m))) j h)
 comments_after rs st b ch (Some (owner.Choice c m)) hs =
-    map_placed_same (λ j h. comment_at (rs ++ reading st b ch (Some (owner.Choice c m)) ∷ []) j h.0 h.1) (λ j h. comment_at rs j h.0 h.1) 0 hs
-    (λ j h late. comment_at_push rs (reading st b ch (Some (owner.Choice c m))) j h.0 h.1)
+    map_placed_same (comment_at (rs ++ reading st b ch (Some (owner.Choice c m)) ∷ [])) (comment_at rs) 0 hs
+    (λ j h late. comment_at_push rs (reading st b ch (Some (owner.Choice c m))) j h)
 comments_after rs st b ch (Some (owner.Comment c)) hs =
-    map_placed_changed (λ j h. comment_at (rs ++ reading st b ch (Some (owner.Comment c)) ∷ []) j h.0 h.1) (λ j h. comment_at rs j h.0 h.1) (comment_after (depends_in st)) 0 c.0 hs
-    (λ j h other. rw (ne_eqb c.0 j (λ e. omega arith)) at (comment_at_push rs (reading st b ch (Some (owner.Comment c))) j h.0 h.1))
-    (λ h. rw (eq-eqb c.0 (0 + c.0) (omega arith)) at (comment_at_push rs (reading st b ch (Some (owner.Comment c))) (0 + c.0) h.0 h.1))
+    map_placed_changed (comment_at (rs ++ reading st b ch (Some (owner.Comment c)) ∷ [])) (comment_at rs) (comment_after (depends_in st)) 0 c.0 hs
+    (λ j h other. rw (ne_eqb c.0 j (λ e. omega arith)) at (comment_at_push rs (reading st b ch (Some (owner.Comment c))) j h))
+    (λ h. rw (eq-eqb c.0 (0 + c.0) (omega arith)) at (comment_at_push rs (reading st b ch (Some (owner.Comment c))) (0 + c.0) h))
 
-no_comment_yet : (rs : List Reading) (o : Option Owner) → IsMadeBy rs o → is_of_comment (0 + length (comment_heads rs)) o ≡ false
+no_comment_yet : (rs : List Reading) (o : Option Owner) → IsMadeBy rs o → is_of_comment (0 + length (comment_lines rs)) o ≡ false
 no_comment_yet rs None made = refl
 no_comment_yet rs (Some (owner.Definition s j)) made = refl
 no_comment_yet rs (Some (owner.Menu m)) made = refl
 no_comment_yet rs (Some (owner.Choice c m)) made = refl
-no_comment_yet rs (Some (owner.Comment c)) made = ne_eqb c.0 (0 + length (comment_heads rs)) (λ e. omega arith)
+no_comment_yet rs (Some (owner.Comment c)) made = ne_eqb c.0 (0 + length (comment_lines rs)) (λ e. omega arith)
 
-next_comment : (rs : List Reading) (b : Option BlockId) (h : CommentHead) → AreMade rs → comment_at rs (0 + length (comment_heads rs)) b h ≡ new_comment h.1 b h.0
-next_comment rs b h made =
-    let others : All (λ r. is_of_comment (0 + length (comment_heads rs)) r.owner ≡ false) rs =
-    All-weaker (IsMade rs) (λ r. is_of_comment (0 + length (comment_heads rs)) r.owner ≡ false) (λ r m. no_comment_yet rs r.owner m.owner) rs made in
-    rw (unsaid (is_of_comment (0 + length (comment_heads rs))) depends_in rs others) refl
+next_comment : (rs : List Reading) (h : CommentLine) → AreMade rs → comment_at rs (0 + length (comment_lines rs)) h ≡ new_comment h.title h.block h.choice
+next_comment rs h made =
+    let others : All (λ r. is_of_comment (0 + length (comment_lines rs)) r.owner ≡ false) rs =
+    All-weaker (IsMade rs) (λ r. is_of_comment (0 + length (comment_lines rs)) r.owner ≡ false) (λ r m. no_comment_yet rs r.owner m.owner) rs made in
+    rw (unsaid (is_of_comment (0 + length (comment_lines rs))) depends_in rs others) refl
 
-pub comment_heads_push : (rs : List Reading) (st : Statement) (b : Option BlockId) (ch : Option ChoiceId) (o : Option Owner) → comment_heads (rs ++ reading st b ch o ∷ []) ≡ with_some (comment_heads rs) (option_map (λ title. (b, (ch, title))) (title_in st))
-comment_heads_push rs st b ch o = filter_map_push (λ r. option_map (λ title. (r.block, (r.choice, title))) (title_in r.statement)) rs (reading st b ch o)
+pub comment_lines_push : (rs : List Reading) (st : Statement) (b : Option BlockId) (ch : Option ChoiceId) (o : Option Owner) → comment_lines (rs ++ reading st b ch o ∷ []) ≡ with_some (comment_lines rs) (comment_line b ch st)
+comment_lines_push rs st b ch o = filter_map_push (λ r. comment_line r.block r.choice r.statement) rs (reading st b ch o)
 
 comments_changed : (rs : List Reading) (st : Statement) (b : Option BlockId) (ch : Option ChoiceId) (o : Option Owner) → title_in st ≡ None → comments_in (rs ++ reading st b ch o ∷ []) ≡ change_comment o (comment_after (depends_in st)) (comments_in rs)
 comments_changed rs st b ch o none =
-    let heads : comment_heads (rs ++ reading st b ch o ∷ []) ≡ comment_heads rs = rw none at (comment_heads_push rs st b ch o) in
-    rw heads (comments_after rs st b ch o (comment_heads rs))
+    let heads : comment_lines (rs ++ reading st b ch o ∷ []) ≡ comment_lines rs = rw none at (comment_lines_push rs st b ch o) in
+    rw heads (comments_after rs st b ch o (comment_lines rs))
 
 comment_added : (rs : List Reading) (title : List ℕ) (b : Option BlockId) (ch : Option ChoiceId) (o : Option Owner) → AreMade rs → comments_in (rs ++ reading (statement.Comment title) b ch o ∷ []) ≡ comments_in rs ++ new_comment title b ch ∷ []
 comment_added rs title b ch o made =
-    rw (comment_heads_push rs (statement.Comment title) b ch o)
-    (comments_after rs (statement.Comment title) b ch o (comment_heads rs ++ (b, (ch, title)) ∷ [])
-    ∙ change_comment_same o (comments_of_heads rs (comment_heads rs ++ (b, (ch, title)) ∷ []))
-    ∙ map_placed_push (λ j h. comment_at rs j h.0 h.1) 0 (comment_heads rs) (b, (ch, title))
-    ∙ ap (λ x. comments_in rs ++ x ∷ []) (next_comment rs b (ch, title) made))
+    rw (comment_lines_push rs (statement.Comment title) b ch o)
+    (comments_after rs (statement.Comment title) b ch o (comment_lines rs ++ record { title = title; block = b; choice = ch } ∷ [])
+    ∙ change_comment_same o (comments_of_lines rs (comment_lines rs ++ record { title = title; block = b; choice = ch } ∷ []))
+    ∙ map_placed_push (comment_at rs) 0 (comment_lines rs) (record { title = title; block = b; choice = ch })
+    ∙ ap (λ x. comments_in rs ++ x ∷ []) (next_comment rs (record { title = title; block = b; choice = ch }) made))
 
 pub comments_push : (rs : List Reading) (st : Statement) (b : Option BlockId) (ch : Option ChoiceId) (o : Option Owner) → AreMade rs → comments_in (rs ++ reading st b ch o ∷ []) ≡ comments_with st b ch o (comments_in rs)
 comments_push rs (statement.Comment title) b ch o made = comment_added rs title b ch o made

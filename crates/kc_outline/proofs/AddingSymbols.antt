@@ -1,11 +1,10 @@
 -- What one more reading changes of the symbols.
-use Rattle.std.proofs.Common.{◌≡◌, ℕ, ◌+◌, ◌==◌, Bool, true, false, not, ◌||◌, ◌&&◌, List, [], ◌∷◌, ◌++◌, Option, Some, None, map, refl, sym, ap, ◌∙◌, arith}
-use Rattle.std.specs.Prelude.{if◌then◌else◌, slice_get, filter_map}
+use Rattle.std.proofs.Common.{◌≡◌, ℕ, ◌+◌, ◌==◌, Bool, true, false, ◌||◌, ◌&&◌, List, [], ◌∷◌, ◌++◌, Option, Some, None, map, refl, sym, ap, ◌∙◌, arith}
+use Rattle.std.specs.Prelude.{if◌then◌else◌, filter_map}
 use Rattle.std.specs.Option.{option_or}
-use Rattle.std.specs.List.{list_any, range_with_len}
-use Rattle.std.proofs.Math.Bool.{or-false, and-false}
+use Rattle.std.specs.List.{range_with_len}
+use Rattle.std.proofs.Math.Bool.{and-false}
 use Rattle.std.proofs.lemmas.Bool.{ne_eqb, eq-eqb}
-use Rattle.std.proofs.lemmas.List.Folds.{list_any-append}
 use Rattle.std.proofs.lemmas.List.FromFn.{map-range_with_len_more}
 use Rattle.kc_statement.specs.declared.id.SymId.{SymId}
 use Rattle.kc_outline.specs.declared.id.BlockId.{BlockId}
@@ -18,21 +17,33 @@ use Rattle.kc_outline.specs.declared.context.Owner.TheVariants as owner
 use Rattle.kc_statement.specs.declared.statement.Statement.{Statement}
 use Rattle.kc_statement.specs.declared.statement.Statement.TheVariants as statement
 use Rattle.kc_outline.specs.TreeValue.{SymbolValue}
-use Rattle.kc_outline.specs.TreeOf.{Reading, said, is_of_symbol, type_in, says_selection, says_modules, says_yes_in_allnoconfig, same_type, differ_from_first, definition_number, choice_at_definition, selection_of, implication_of, symbol_at, symbols_in}
-use Rattle.kc_outline.specs.Adding.{change_at, with_some, keep_first, differs_after, symbol_after, with_definition, standing_in, with_selection, with_implication, change_symbol, numbered, placed, selecting, selected, implied, symbols_with, new_symbol}
+use Rattle.kc_outline.specs.TreeOf.{Reading, is_of_symbol, type_in, says_selection, says_modules, says_yes_in_allnoconfig, definition_number, choice_at_definition, selection_of, implication_of, symbol_at, symbols_in}
+use Rattle.kc_outline.specs.Adding.{change_at, with_some, with_definition, standing_in, with_selection, with_implication, change_symbol, numbered, placed, selecting, selected, implied, symbols_with, new_symbol}
 use Rattle.kc_outline.proofs.ChangeLaws.{change_at_same, change_at_twice, map_range_same, map_range_changed, filter_map_push}
-use Rattle.kc_outline.proofs.AddingParts.{reading, said_push, is_said_push, first_push, no_choice}
+use Rattle.kc_outline.proofs.AddingParts.{reading, keep_first, said_push, is_said_push, first_push, no_choice}
 
 -- ---- of no lines
 pub new_symbols_more : (n : ℕ) → symbols_in (n + 1) [] ≡ symbols_in n [] ++ new_symbol ∷ []
 new_symbols_more n = map-range_with_len_more (λ k. symbol_at [] (record { 0 = k })) 0 n n (omega arith)
 
 -- ---- one symbol
+-- all that the owner of a line may get
+abbrev symbol_after : Option SymbolType → Bool → Bool → Bool → SymbolValue → SymbolValue
+symbol_after k selects modules always x = record {
+  types = with_some x.types k;
+  choice = x.choice;
+  definitions = x.definitions;
+  selected = x.selected;
+  implied = x.implied;
+  has_selections = selects || x.has_selections;
+  has_modules = modules || x.has_modules;
+  is_yes_in_allnoconfig = always || x.is_yes_in_allnoconfig;
+}
+
 -- all that a reading may change of a symbol
 abbrev pub symbol_step : Option SymbolType → Bool → Bool → Bool → Option ℕ → Option ChoiceId → Option Reverse → Option Reverse → SymbolValue → SymbolValue
 symbol_step k selects modules always number choice selection implication x = record {
-  kind = keep_first k x.kind;
-  has_other_type = differs_after k x.kind x.has_other_type;
+  types = with_some x.types k;
   choice = keep_first choice x.choice;
   definitions = with_some x.definitions number;
   selected = with_some x.selected selection;
@@ -42,17 +53,10 @@ symbol_step k selects modules always number choice selection implication x = rec
   is_yes_in_allnoconfig = always || x.is_yes_in_allnoconfig;
 }
 
-differ_push : (ks : List SymbolType) (k : Option SymbolType) → differ_from_first (with_some ks k) ≡ differs_after k (slice_get ks 0) (differ_from_first ks)
-differ_push ks None = refl
-differ_push [] (Some k) = refl
-differ_push (j ∷ ks) (Some k) =
-    list_any-append (λ i. not (same_type j i)) ks (k ∷ [])
-    ∙ ap (λ b. list_any (λ i. not (same_type j i)) ks || b) (or-false (not (same_type j k)))
-
 symbol_at_push : (rs : List Reading) (r : Reading) (s : SymId) → symbol_at (rs ++ r ∷ []) s ≡ symbol_step (if is_of_symbol s r.owner then type_in r.statement else None) (is_of_symbol s r.owner && says_selection r.statement) (is_of_symbol s r.owner && says_modules r.statement) (is_of_symbol s r.owner && says_yes_in_allnoconfig r.statement) (definition_number s r) (choice_at_definition s r) (selection_of s r) (implication_of s r) (symbol_at rs s)
 symbol_at_push rs r s =
     rw (said_push (is_of_symbol s) type_in rs r, filter_map_push (definition_number s) rs r, filter_map_push (choice_at_definition s) rs r, filter_map_push (selection_of s) rs r, filter_map_push (implication_of s) rs r, is_said_push (is_of_symbol s) says_selection rs r, is_said_push (is_of_symbol s) says_modules rs r, is_said_push (is_of_symbol s) says_yes_in_allnoconfig rs r)
-    (rw (first_push (said (is_of_symbol s) type_in rs) (if is_of_symbol s r.owner then type_in r.statement else None), differ_push (said (is_of_symbol s) type_in rs) (if is_of_symbol s r.owner then type_in r.statement else None), first_push (filter_map (choice_at_definition s) rs) (choice_at_definition s r)) refl)
+    (rw (first_push (filter_map (choice_at_definition s) rs) (choice_at_definition s r)) refl)
 
 -- of a statement that says at most that its owner's symbol selects
 quiet_push : (rs : List Reading) (st : Statement) (b : Option BlockId) (ch : Option ChoiceId) (o : Option Owner) (s : SymId) → type_in st ≡ None → says_modules st ≡ false → says_yes_in_allnoconfig st ≡ false → symbol_at (rs ++ reading st b ch o ∷ []) s ≡ symbol_step None (is_of_symbol s o && says_selection st) false false (definition_number s (reading st b ch o)) (choice_at_definition s (reading st b ch o)) (selection_of s (reading st b ch o)) (implication_of s (reading st b ch o)) (symbol_at rs s)

@@ -1,5 +1,5 @@
--- Where a line stands, one line further on.
-use Rattle.std.proofs.Common.{◌≡◌, ℕ, zero, suc, ◌+◌, Bool, true, false, not, ◌&&◌, cond, if◌then◌else◌, List, [], ◌∷◌, drop, Option, Some, None, option_and_then, unwrap_or, count_by, find, refl, ap, sym, ◌∙◌, arith}
+-- Where a line is, one line further on.
+use Rattle.std.proofs.Common.{◌≡◌, ℕ, ◌+◌, Bool, true, false, not, ◌&&◌, cond, if◌then◌else◌, List, ◌∷◌, drop, Option, Some, None, option_and_then, unwrap_or, count_by, find, refl, ap, sym, ◌∙◌, arith}
 use Rattle.std.specs.Option.{option_map_or}
 use Rattle.std.proofs.lemmas.List.Sums.{sum_by-cons}
 use Rattle.kc_text.specs.LineValue.{LineValue}
@@ -10,27 +10,9 @@ use Rattle.kc_outline.specs.declared.context.OpenBlock.{OpenBlock}
 use Rattle.kc_outline.specs.declared.context.Context.{Context}
 use Rattle.kc_statement.specs.Keywords.{keyword_of, is_attribute, is_attribute_word, is_opener, is_opener_word, is_closer, is_closer_word, is_config, is_config_word, is_comment, is_comment_word, is_choice, is_choice_word}
 use Rattle.kc_statement.specs.Names.{defined_name}
-use Rattle.kc_outline.specs.Enclosing.{block_opened, still_open, open_blocks, made_by}
+use Rattle.kc_outline.specs.Enclosing.{block_opened, open_blocks, made_by}
 use Rattle.kc_outline.specs.ContextAfter.{IsContextAfter, blocks_after, owner_made}
 use Rattle.kc_statement.specs.Names.{symbol_among}
-
--- ---- one closer more closes one block more
-open_step_zero : (o c : Bool) (b : OpenBlock) (s₀ s₁ s₂ : List OpenBlock) → s₁ ≡ drop 1 s₀ → s₂ ≡ drop 1 s₁ → cond o s₀ (cond c s₂ s₁) ≡ drop 1 (cond o (b ∷ s₀) (cond c s₁ s₀))
-open_step_zero true c b s₀ s₁ s₂ e f = refl
-open_step_zero false true b s₀ s₁ s₂ e f = f
-open_step_zero false false b s₀ s₁ s₂ e f = e
-
-open_step_suc : (o c : Bool) (s₀ s₁ s₂ s₃ : List OpenBlock) → s₁ ≡ drop 1 s₀ → s₂ ≡ drop 1 s₁ → s₃ ≡ drop 1 s₂ → cond o s₁ (cond c s₃ s₂) ≡ drop 1 (cond o s₀ (cond c s₂ s₁))
-open_step_suc true c s₀ s₁ s₂ s₃ e f g = e
-open_step_suc false true s₀ s₁ s₂ s₃ e f g = g
-open_step_suc false false s₀ s₁ s₂ s₃ e f g = f
-
-pub still_open-suc : (earlier : List LineValue) (n : ℕ) → still_open earlier (suc n) ≡ drop 1 (still_open earlier n)
-still_open-suc [] n = refl
-still_open-suc (l ∷ earlier) zero =
-    open_step_zero (is_opener l) (is_closer l) (block_opened l earlier) (still_open earlier zero) (still_open earlier 1) (still_open earlier 2) (still_open-suc earlier zero) (still_open-suc earlier 1)
-still_open-suc (l ∷ earlier) (suc n) =
-    open_step_suc (is_opener l) (is_closer l) (still_open earlier n) (still_open earlier (suc n)) (still_open earlier (suc (suc n))) (still_open earlier (suc (suc (suc n)))) (still_open-suc earlier n) (still_open-suc earlier (suc n)) (still_open-suc earlier (suc (suc n)))
 
 -- the block that a line may open, by its keyword, and by what may be its keyword
 abbrev pub block_of : Keyword → ℕ → ℕ → ℕ → OpenBlock
@@ -56,9 +38,8 @@ module _ (l : LineValue) (earlier : List LineValue) (k : Keyword) (is : keyword_
 
   pub open_blocks-cons : open_blocks (l ∷ earlier) ≡ blocks_after k (block_opened l earlier) (open_blocks earlier)
   open_blocks-cons =
-      ap (λ b. cond b (block_opened l earlier ∷ still_open earlier zero) (cond (is_closer l) (still_open earlier 1) (still_open earlier zero))) (of_word is_opener_word)
-      ∙ ap (λ b. cond (is_opener_word k) (block_opened l earlier ∷ still_open earlier zero) (cond b (still_open earlier 1) (still_open earlier zero))) (of_word is_closer_word)
-      ∙ ap (λ (bs : List OpenBlock). cond (is_opener_word k) (block_opened l earlier ∷ still_open earlier zero) (cond (is_closer_word k) bs (still_open earlier zero))) (still_open-suc earlier zero)
+      ap (λ b. cond b (block_opened l earlier ∷ open_blocks earlier) (cond (is_closer l) (drop 1 (open_blocks earlier)) (open_blocks earlier))) (of_word is_opener_word)
+      ∙ ap (λ b. cond (is_opener_word k) (block_opened l earlier ∷ open_blocks earlier) (cond b (drop 1 (open_blocks earlier)) (open_blocks earlier))) (of_word is_closer_word)
 
 counted : {X : Type 0} (p : X → Bool) (x : X) (xs : List X) → count_by p (x ∷ xs) ≡ cond (p x) (count_by p xs + 1) (count_by p xs)
 counted p x xs = sum_by-cons (λ y. cond (p y) 1 0) x xs ∙ step (p x) (count_by p xs) where
@@ -163,8 +144,8 @@ module _ (names : List (List ℕ)) (l : LineValue) (earlier : List LineValue) (p
       let no = λ (w : Keyword → Bool). ap (λ o. option_map_or w o false) is in
       context_more false false false false false (no is_attribute_word) (no is_opener_word) (no is_config_word) (no is_choice_word) (no is_comment_word)
       (stack ∙ known.stack ∙ sym (
-      ap (λ b. cond b (block_opened l earlier ∷ still_open earlier zero) (cond (is_closer l) (still_open earlier 1) (still_open earlier zero))) (no is_opener_word)
-      ∙ ap (λ b. cond b (still_open earlier 1) (still_open earlier zero)) (no is_closer_word)))
+      ap (λ b. cond b (block_opened l earlier ∷ open_blocks earlier) (cond (is_closer l) (drop 1 (open_blocks earlier)) (open_blocks earlier))) (no is_opener_word)
+      ∙ ap (λ b. cond b (drop 1 (open_blocks earlier)) (open_blocks earlier)) (no is_closer_word)))
       (statement ∙ sym is)
       (owner ∙ sym (ap (λ o. made_by names o l earlier) is))
       definitions blocks choices comments

@@ -7,7 +7,7 @@ use Rattle.kc_statement.specs.Keywords.{is_choice, is_comment, is_config, is_ope
 use Rattle.kc_outline.specs.declared.context.Context.{Context}
 use Rattle.kc_outline.specs.ContextAfter.{HasRoom, IsContextAfter}
 use Rattle.kc_outline.specs.Reader.{IsOutlineAfter}
-use Rattle.kc_outline.specs.TreeOf.{map_placed, choice_at, choice_heads}
+use Rattle.kc_outline.specs.TreeOf.{map_placed, choice_at, choice_blocks}
 use Rattle.kc_outline.specs.TreeValue.{TreeValue}
 use Rattle.kc_outline.proofs.OwnerLaws.{counted}
 
@@ -36,8 +36,8 @@ pub choices_of_outline : (names : List (List ℕ)) (following : ℕ) (earlier : 
 choices_of_outline names following earlier t after =
     let rs = after.readings in
     ap (λ x. length x.choices) after.tree
-    ∙ length-map_placed (λ c b. choice_at rs c b) 0 (choice_heads rs)
-    ∙ ap (λ qs. length (choice_heads qs)) (sym (reverse_twice rs))
+    ∙ length-map_placed (choice_at rs) 0 (choice_blocks rs)
+    ∙ ap (λ qs. length (choice_blocks qs)) (sym (reverse_twice rs))
     ∙ (counted names following earlier (reverse rs) after.read).choices
 
 -- what is counted of few lines has a number

@@ -1,7 +1,7 @@
 -- Symbols are first defined in the order of their numbers.
 use Rattle.std.proofs.Common.{◌≡◌, ℕ, ◌+◌, ◌<◌, ◌≤◌, ◌==◌, Bool, true, false, ◌||◌, cond, if◌then◌else◌, List, [], ◌∷◌, ◌++◌, Option, Some, None, length, map, get_or, position, reverse, filter_map, refl, sym, ap, ◌∙◌, subst, inl, inr, arith}
 use Rattle.std.specs.Prelude.{nat_le}
-use Rattle.std.specs.List.{list_any, range_with_len}
+use Rattle.std.specs.List.{cons_option, list_any, range_with_len}
 use Rattle.std.specs.Option.{option_map, option_map_or}
 use Rattle.std.specs.Str.{bytes_eq}
 use Rattle.std.proofs.lemmas.Bool.{true≢false, eq-eqb, ne_eqb, leb-true, cases_lt}
@@ -29,9 +29,10 @@ use Rattle.kc_outline.specs.Adding.{with_some}
 use Rattle.kc_outline.specs.Enclosing.{open_blocks, nearest_statement}
 use Rattle.kc_outline.specs.Entries.{first_symbol, first_symbols, symbol_ids}
 use Rattle.kc_outline.specs.LineFaults.{is_no_choice_default, opens_too_deep, is_past_limit}
-use Rattle.kc_outline.specs.Reader.{IsOutlineAfter}
-use Rattle.kc_outline.specs.TreeOf.{Reading, IsReading, AreReadingsBefore, defined_in, defines, definition_number, symbol_entry, menu_entry, choice_entry, comment_entry, entry_at, with_entry, entries_before}
+use Rattle.kc_outline.specs.Reader.{AreReadingsBefore, IsOutlineAfter}
+use Rattle.kc_outline.specs.TreeOf.{Reading, DefinitionLine, IsReading, defined_in, defines, definition_number, symbol_entry, menu_entry, choice_entry, comment_entry, entry_at}
 use Rattle.kc_outline.specs.TreeValue.{TreeValue}
+use Rattle.kc_outline.proofs.EntryLaws.{entries_before, entries_of}
 use Rattle.kc_outline.proofs.AddingParts.{reading}
 use Rattle.kc_outline.proofs.ChangeLaws.{filter_map_push}
 use Rattle.kc_outline.proofs.FormLaws.{defined-form}
@@ -104,32 +105,32 @@ stay_undefined : (s : SymId) (q : Reading) (qs : List Reading) → definition_nu
 stay_undefined s q qs none h = numbers_next s q qs ∙ ap (with_some (numbers_of s qs)) none ∙ h
 
 -- ---- a line that defines no symbol
-of_menu : (es : List Entry) (o : Option Owner) → first_symbols (with_entry es (menu_entry o)) ≡ first_symbols es
+of_menu : (es : List Entry) (o : Option Owner) → first_symbols (with_some es (menu_entry o)) ≡ first_symbols es
 of_menu es None = refl
 of_menu es (Some (owner.Definition s j)) = refl
 of_menu es (Some (owner.Menu b)) = filter_map_push first_symbol es (entry.Menu b)
 of_menu es (Some (owner.Choice c b)) = refl
 of_menu es (Some (owner.Comment c)) = refl
 
-of_choice : (es : List Entry) (o : Option Owner) → first_symbols (with_entry es (choice_entry o)) ≡ first_symbols es
+of_choice : (es : List Entry) (o : Option Owner) → first_symbols (with_some es (choice_entry o)) ≡ first_symbols es
 of_choice es None = refl
 of_choice es (Some (owner.Definition s j)) = refl
 of_choice es (Some (owner.Menu b)) = refl
 of_choice es (Some (owner.Choice c b)) = filter_map_push first_symbol es (entry.Choice c)
 of_choice es (Some (owner.Comment c)) = refl
 
-of_comment : (es : List Entry) (o : Option Owner) → first_symbols (with_entry es (comment_entry o)) ≡ first_symbols es
+of_comment : (es : List Entry) (o : Option Owner) → first_symbols (with_some es (comment_entry o)) ≡ first_symbols es
 of_comment es None = refl
 of_comment es (Some (owner.Definition s j)) = refl
 of_comment es (Some (owner.Menu b)) = refl
 of_comment es (Some (owner.Choice c b)) = refl
 of_comment es (Some (owner.Comment c)) = filter_map_push first_symbol es (entry.Comment c)
 
-of_end : (es : List Entry) (b : Option BlockId) → first_symbols (with_entry es (option_map entry.EndMenu b)) ≡ first_symbols es
+of_end : (es : List Entry) (b : Option BlockId) → first_symbols (with_some es (option_map entry.EndMenu b)) ≡ first_symbols es
 of_end es None = refl
 of_end es (Some b) = filter_map_push first_symbol es (entry.EndMenu b)
 
-quiet_entry : (earlier : List Reading) (es : List Entry) (st : Statement) (b : Option BlockId) (ch : Option ChoiceId) (o : Option Owner) → defined_in st ≡ None → first_symbols (with_entry es (entry_at earlier (reading st b ch o))) ≡ first_symbols es
+quiet_entry : (earlier : List Reading) (es : List Entry) (st : Statement) (b : Option BlockId) (ch : Option ChoiceId) (o : Option Owner) → defined_in st ≡ None → first_symbols (with_some es (entry_at earlier (reading st b ch o))) ≡ first_symbols es
 quiet_entry earlier es (statement.Config None) b ch o none = refl
 quiet_entry earlier es (statement.Config (Some s)) b ch o none = absurd (none-some s (sym none))
 quiet_entry earlier es (statement.Menu title) b ch o none = of_menu es o
@@ -211,8 +212,8 @@ config_is _ s e = absurd (none-some s e)
 no_word : (st : Statement) → defined_in st ≡ None → is_past_limit st ≡ false → option_map_or is_config_word (word_of st) false ≡ false
 no_word st none past = by (option_map_or is_config_word (word_of st) false) (sym (one_definition None st past) ∙ ap (λ o. length (counted o)) none)
   where
-    counted : Option SymId → List (Option BlockId × SymId)
-    counted o = filter_map (λ x. x) (option_map (λ (d : SymId). (None, d)) o ∷ [])
+    counted : Option SymId → List DefinitionLine
+    counted o = cons_option (option_map (λ (d : SymId). record { symbol = d; block = None }) o) []
 
     by : (t : Bool) → ◌≡◌ {A = ℕ} (cond t 1 0) 0 → t ≡ false
     by true e = absurd (omega (arith, e))
@@ -286,4 +287,4 @@ pub firsts_of_outline : (names : List (List ℕ)) (following : ℕ) (earlier : L
 firsts_of_outline names following earlier t is few after =
     let firsts = firsts_before names few following earlier (reverse after.readings) after.read [] (is ∙ sym (append-nil (names_before earlier))) in
     let count : length (names_before earlier) ≡ length t.symbols = ap length (sym is) ∙ sym (symbols_of_outline names following earlier t after) in
-    ap (λ x. first_symbols x.entries) after.tree ∙ firsts.firsts ∙ ap ids count
+    ap (λ x. first_symbols x.entries) after.tree ∙ ap first_symbols (entries_of after.readings) ∙ firsts.firsts ∙ ap ids count

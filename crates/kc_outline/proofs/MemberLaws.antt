@@ -23,8 +23,8 @@ use Rattle.kc_statement.specs.Names.{symbol_among, defined_name}
 use Rattle.kc_outline.specs.Enclosing.{made_by, owner_at}
 use Rattle.kc_outline.specs.Members.{AreMembersListed}
 use Rattle.kc_outline.specs.Outline.{IsNamedIn, IsChoiceMadeBy, IsMade}
-use Rattle.kc_outline.specs.Reader.{IsOutlineAfter}
-use Rattle.kc_outline.specs.TreeOf.{Reading, IsReading, AreReadingsBefore, defined_in, defines, definition_number, choice_at_definition, member_of, symbol_at, symbols_in, map_placed, choice_at, choice_heads, choices_in, tree_of}
+use Rattle.kc_outline.specs.Reader.{AreReadingsBefore, IsOutlineAfter}
+use Rattle.kc_outline.specs.TreeOf.{Reading, IsReading, defined_in, defines, definition_number, choice_at_definition, member_of, symbol_at, symbols_in, map_placed, choice_at, choice_blocks, choices_in, tree_of}
 use Rattle.kc_outline.specs.TreeValue.{TreeValue, SymbolValue, ChoiceValue}
 use Rattle.kc_outline.proofs.AddingParts.{reading, no_choice}
 use Rattle.kc_outline.proofs.Counts.{length-map_placed}
@@ -196,21 +196,21 @@ module _ (s : SymId) (c : ChoiceId) where
       chosen_step r.statement r.block r.choice r.owner (filter_map (choice_at_definition s) rs) (filter_map (member_of c.0) rs) e (chosen_listed rs)
 
   module _ (all : List Reading) where
-    made_step : (st : Statement) (b : Option BlockId) (ch : Option ChoiceId) (o : Option Owner) (cs : List ChoiceId) → IsChoiceMadeBy all ch → slice_get (cons_option (choice_at_definition s (reading st b ch o)) cs) 0 ≡ Some c → (slice_get cs 0 ≡ Some c → c.0 < length (choice_heads all)) → c.0 < length (choice_heads all)
+    made_step : (st : Statement) (b : Option BlockId) (ch : Option ChoiceId) (o : Option Owner) (cs : List ChoiceId) → IsChoiceMadeBy all ch → slice_get (cons_option (choice_at_definition s (reading st b ch o)) cs) 0 ≡ Some c → (slice_get cs 0 ≡ Some c → c.0 < length (choice_blocks all)) → c.0 < length (choice_blocks all)
     made_step st b None o cs made e rest =
         rest (ap (λ x. slice_get (cons_option x cs) 0) (sym (no_choice {A = Option ChoiceId} (defines s st) None)) ∙ e)
     made_step st b (Some k) o cs made e rest = by (defines s st) refl
       where
-        by : (t : Bool) → defines s st ≡ t → c.0 < length (choice_heads all)
+        by : (t : Bool) → defines s st ≡ t → c.0 < length (choice_blocks all)
         by true p =
             let chosen : choice_at_definition s (reading st b (Some k) o) ≡ Some k = rw p refl in
             let same : k ≡ c = same_Some k c (sym (ap (λ x. slice_get (cons_option x cs) 0) chosen) ∙ e) in
-            subst (λ x. x.0 < length (choice_heads all)) same made
+            subst (λ x. x.0 < length (choice_blocks all)) same made
         by false p =
             let unchosen : choice_at_definition s (reading st b (Some k) o) ≡ None = rw p refl in
             rest (sym (ap (λ x. slice_get (cons_option x cs) 0) unchosen) ∙ e)
 
-    chosen_made : (rs : List Reading) → AllByRecursion (IsMade all) rs → slice_get (filter_map (choice_at_definition s) rs) 0 ≡ Some c → c.0 < length (choice_heads all)
+    chosen_made : (rs : List Reading) → AllByRecursion (IsMade all) rs → slice_get (filter_map (choice_at_definition s) rs) 0 ≡ Some c → c.0 < length (choice_blocks all)
     chosen_made [] made e = absurd (none-some c e)
     chosen_made (r ∷ rs) made e =
         made_step r.statement r.block r.choice r.owner (filter_map (choice_at_definition s) rs) made.0.choice e (chosen_made rs made.1)
@@ -236,7 +236,7 @@ symbol_there rs s n within =
 members_at : (rs : List Reading) (c : ChoiceId) (y : ChoiceValue) → slice_get (choices_in rs) c.0 ≡ Some y → y.members ≡ filter_map (member_of c.0) rs
 members_at rs c y is =
     let same : 0 + c.0 ≡ c.0 = omega arith in
-    ap (λ x. x.members) (placed_at (λ k b. choice_at rs k b) 0 (choice_heads rs) c.0 y is).1
+    ap (λ x. x.members) (placed_at (choice_at rs) 0 (choice_blocks rs) c.0 y is).1
     ∙ ap (λ k. filter_map (member_of k) rs) same
 
 listed_of : (names : List (List ℕ)) (rs : List Reading) → AllByRecursion (IsDefining names) rs → AllByRecursion (IsMade rs) rs → AreMembersListed (tree_of names rs)
@@ -257,7 +257,7 @@ listed_of names rs defining made = record {
       let same : symbol_at rs s ≡ x = same_Some (symbol_at rs s) x (sym (symbol_there rs s (length names) within) ∙ is) in
       let chosen : slice_get (filter_map (choice_at_definition s) rs) 0 ≡ Some c = ap (λ (v : SymbolValue). v.choice) same ∙ first in
       let made_there = chosen_made s c rs rs made chosen in
-      let count = length-map_placed (λ k b. choice_at rs k b) 0 (choice_heads rs) in
+      let count = length-map_placed (choice_at rs) 0 (choice_blocks rs) in
       elim (slice_get_cases (choices_in rs) c.0).1 [
         | inl p ↦ (p.0, p.2, ap (is_listed s) (members_at rs c p.0 p.2) ∙ chosen_listed s c rs chosen)
         | inr p ↦ absurd (let late = p.0 in omega (arith, late, made_there, count))

@@ -1,5 +1,5 @@
 -- Each menu ends once, after it began.
-use Rattle.std.proofs.Common.{◌≡◌, ℕ, zero, suc, ◌+◌, ◌<◌, ◌≤◌, ◌==◌, Bool, true, false, not, ◌||◌, ◌&&◌, cond, if◌then◌else◌, List, [], ◌∷◌, ◌++◌, drop, Option, Some, None, count_by, filter_map, unwrap_or, reverse, refl, sym, ap, ◌∙◌, subst, inl, inr, ◌⊎◌, arith}
+use Rattle.std.proofs.Common.{◌≡◌, ℕ, ◌+◌, ◌<◌, ◌≤◌, ◌==◌, Bool, true, false, not, ◌||◌, ◌&&◌, cond, if◌then◌else◌, List, [], ◌∷◌, ◌++◌, drop, Option, Some, None, count_by, filter_map, unwrap_or, reverse, refl, sym, ap, ◌∙◌, subst, inl, inr, ◌⊎◌, arith}
 use Rattle.std.specs.List.{Contains, list_any}
 use Rattle.std.specs.Option.{option_map, option_map_or}
 use Rattle.std.proofs.lemmas.Bool.{true≢false, eqb-true, eq-eqb, ne_eqb, or_parts, or_from, or_left, and_from, and_left, and_right}
@@ -29,13 +29,15 @@ use Rattle.kc_outline.specs.declared.fault.LineProblem.TheVariants.{Limit, Stray
 use Rattle.kc_statement.specs.Keywords.{keyword_of, is_opener, is_closer, is_opener_word, is_closer_word, is_attribute_word, is_end_of}
 use Rattle.kc_statement.specs.NestingDepth.{nests_too_deep}
 use Rattle.kc_statement.specs.Statements.{HasFormOf, HasForm, type_word, default_word}
-use Rattle.kc_outline.specs.Enclosing.{block_opened, still_open, open_blocks, innermost, made_by, nearest_statement, owner_at}
+use Rattle.kc_outline.specs.Enclosing.{block_opened, open_blocks, innermost, made_by, nearest_statement, owner_at}
 use Rattle.kc_outline.specs.LineFaults.{is_unsupported, is_stray, closes_wrongly, stays_open, block_problem, word_problem, kind_problem}
+use Rattle.kc_outline.specs.Adding.{with_some}
 use Rattle.kc_outline.specs.Entries.{is_of_menu, IsClosedIn, AreMenusClosed}
-use Rattle.kc_outline.specs.Reader.{IsOutlineAfter}
-use Rattle.kc_outline.specs.TreeOf.{Reading, IsReading, AreReadingsBefore, definition_number, symbol_entry, choice_entry, comment_entry, entry_at, with_entry, entries_before}
+use Rattle.kc_outline.specs.Reader.{AreReadingsBefore, IsOutlineAfter}
+use Rattle.kc_outline.specs.TreeOf.{Reading, IsReading, definition_number, symbol_entry, choice_entry, comment_entry, entry_at}
 use Rattle.kc_outline.specs.TreeValue.{TreeValue}
 use Rattle.kc_outline.proofs.AddingParts.{reading}
+use Rattle.kc_outline.proofs.EntryLaws.{entries_before, entries_of}
 use Rattle.kc_outline.proofs.ContextLaws.{open_blocks-cons}
 use Rattle.kc_outline.proofs.ReadingLaws.{word_of, form_word}
 
@@ -48,27 +50,23 @@ stacked_more : (n m : ℕ) (bs : List OpenBlock) → n ≤ m → IsStacked n bs 
 stacked_more n m [] few h = tt
 stacked_more n m (b ∷ bs) few h = (let here = h.0 in omega (arith, here, few), h.1)
 
-stacked_zero : (o c : Bool) (b : OpenBlock) (n : ℕ) (s₀ s₁ : List OpenBlock) → b.id.0 ≡ n → IsStacked n s₀ → IsStacked n s₁ → IsStacked (cond o 1 0 + n) (cond o (b ∷ s₀) (cond c s₁ s₀))
-stacked_zero true c b n s₀ s₁ is first second = (omega (arith, is), subst (λ k. IsStacked k s₀) (sym is) first)
-stacked_zero false true b n s₀ s₁ is first second = stacked_more n (0 + n) s₁ (omega arith) second
-stacked_zero false false b n s₀ s₁ is first second = stacked_more n (0 + n) s₀ (omega arith) first
+stacked_drop : (n : ℕ) (bs : List OpenBlock) → IsStacked n bs → IsStacked n (drop 1 bs)
+stacked_drop n [] h = tt
+stacked_drop n (b ∷ bs) h = stacked_more b.id.0 n bs (let here = h.0 in omega (arith, here)) h.1
 
-stacked_suc : (o c : Bool) (n : ℕ) (s₀ s₁ s₂ : List OpenBlock) → IsStacked n s₀ → IsStacked n s₁ → IsStacked n s₂ → IsStacked (cond o 1 0 + n) (cond o s₀ (cond c s₂ s₁))
-stacked_suc true c n s₀ s₁ s₂ first second third = stacked_more n (1 + n) s₀ (omega arith) first
-stacked_suc false true n s₀ s₁ s₂ first second third = stacked_more n (0 + n) s₂ (omega arith) third
-stacked_suc false false n s₀ s₁ s₂ first second third = stacked_more n (0 + n) s₁ (omega arith) second
+stacked_step : (o c : Bool) (b : OpenBlock) (n : ℕ) (bs : List OpenBlock) → b.id.0 ≡ n → IsStacked n bs → IsStacked (cond o 1 0 + n) (cond o (b ∷ bs) (cond c (drop 1 bs) bs))
+stacked_step true c b n bs is h = (omega (arith, is), subst (λ k. IsStacked k bs) (sym is) h)
+stacked_step false true b n bs is h = stacked_more n (0 + n) (drop 1 bs) (omega arith) (stacked_drop n bs h)
+stacked_step false false b n bs is h = stacked_more n (0 + n) bs (omega arith) h
 
 count_next : (l : LineValue) (earlier : List LineValue) → count_by is_opener (l ∷ earlier) ≡ cond (is_opener l) 1 0 + count_by is_opener earlier
 count_next l earlier = sum_by-cons (λ x. cond (is_opener x) 1 0) l earlier
 
-stacked : (earlier : List LineValue) (closers : ℕ) → IsStacked (count_by is_opener earlier) (still_open earlier closers)
-stacked [] closers = tt
-stacked (l ∷ earlier) zero =
-    subst (λ n. IsStacked n (still_open (l ∷ earlier) zero)) (sym (count_next l earlier))
-    (stacked_zero (is_opener l) (is_closer l) (block_opened l earlier) (count_by is_opener earlier) (still_open earlier zero) (still_open earlier 1) refl (stacked earlier zero) (stacked earlier 1))
-stacked (l ∷ earlier) (suc n) =
-    subst (λ m. IsStacked m (still_open (l ∷ earlier) (suc n))) (sym (count_next l earlier))
-    (stacked_suc (is_opener l) (is_closer l) (count_by is_opener earlier) (still_open earlier n) (still_open earlier (suc n)) (still_open earlier (suc (suc n))) (stacked earlier n) (stacked earlier (suc n)) (stacked earlier (suc (suc n))))
+stacked : (earlier : List LineValue) → IsStacked (count_by is_opener earlier) (open_blocks earlier)
+stacked [] = tt
+stacked (l ∷ earlier) =
+    subst (λ n. IsStacked n (open_blocks (l ∷ earlier))) (sym (count_next l earlier))
+    (stacked_step (is_opener l) (is_closer l) (block_opened l earlier) (count_by is_opener earlier) (open_blocks earlier) refl (stacked earlier))
 
 -- ---- the words of menus and of their ends
 abbrev is_menu_word : Keyword → Bool
@@ -261,21 +259,21 @@ module _ (b : BlockId) where
   symbol_other earlier s (j ∷ js) e = rw e refl
 
   module _ (n : ℕ) (bs : List OpenBlock) (es : List Entry) (h : IsState b n bs es) where
-    choice_step : (o : Option Owner) → IsState b n bs (with_entry es (choice_entry o))
+    choice_step : (o : Option Owner) → IsState b n bs (with_some es (choice_entry o))
     choice_step None = h
     choice_step (Some (owner.Definition s j)) = h
     choice_step (Some (owner.Menu m)) = h
     choice_step (Some (owner.Choice c m)) = more n bs es (entry.Choice c) refl h
     choice_step (Some (owner.Comment c)) = h
 
-    comment_step : (o : Option Owner) → IsState b n bs (with_entry es (comment_entry o))
+    comment_step : (o : Option Owner) → IsState b n bs (with_some es (comment_entry o))
     comment_step None = h
     comment_step (Some (owner.Definition s j)) = h
     comment_step (Some (owner.Menu m)) = h
     comment_step (Some (owner.Choice c m)) = h
     comment_step (Some (owner.Comment c)) = more n bs es (entry.Comment c) refl h
 
-    other_entry : (earlier : List Reading) (st : Statement) (block : Option BlockId) (ch : Option ChoiceId) (o : Option Owner) → is_other st ≡ true → IsState b n bs (with_entry es (entry_at earlier (reading st block ch o)))
+    other_entry : (earlier : List Reading) (st : Statement) (block : Option BlockId) (ch : Option ChoiceId) (o : Option Owner) → is_other st ≡ true → IsState b n bs (with_some es (entry_at earlier (reading st block ch o)))
     other_entry earlier (statement.Menu title) block ch o e = absurd (true≢false (sym e))
     other_entry earlier statement.EndMenu block ch o e = absurd (true≢false (sym e))
     other_entry earlier (statement.Config None) block ch o e = h
@@ -336,7 +334,7 @@ module _ (b : BlockId) (names : List (List ℕ)) where
         no_third (is_unsupported (open_blocks earlier) (nearest_statement earlier) keyword.EndMenu (drop 1 l.tokens)) (is_stray (nearest_statement earlier) keyword.EndMenu) (block_problem earlier is_last keyword.EndMenu l) (nests_too_deep l.tokens) Unsupported StrayAttribute UnbalancedBlock Limit here in
         (or_parts (closes_wrongly (open_blocks earlier) keyword.EndMenu l.run) (is_last && stays_open (open_blocks (l ∷ earlier))) balanced).0
 
-    ended : (n : ℕ) (bs : List OpenBlock) (es : List Entry) → closes_wrongly bs keyword.EndMenu l.run ≡ false → IsStacked n bs → IsState b n bs es → IsState b n (drop 1 bs) (with_entry es (option_map entry.EndMenu (innermost bs)))
+    ended : (n : ℕ) (bs : List OpenBlock) (es : List Entry) → closes_wrongly bs keyword.EndMenu l.run ≡ false → IsStacked n bs → IsState b n bs es → IsState b n (drop 1 bs) (with_some es (option_map entry.EndMenu (innermost bs)))
     ended n [] es closes inwards h = absurd (true≢false closes)
     ended n (x ∷ xs) es closes inwards h = end_step b n x xs es (ends_menu (is_end_of keyword.EndMenu x.keyword) (x.run == l.run) closes) inwards h
 
@@ -354,16 +352,16 @@ module _ (b : BlockId) (names : List (List ℕ)) where
         let blocks : drop 1 (open_blocks earlier) ≡ open_blocks (l ∷ earlier) = sym (open_blocks-cons l earlier keyword.EndMenu word) in
         let last = option_map entry.EndMenu (innermost (open_blocks earlier)) in
         subst (λ r. IsState b (count_by is_opener (l ∷ earlier)) (open_blocks (l ∷ earlier)) (entries_before (r ∷ qs))) (sym reads_as)
-        (subst (λ m. IsState b m (open_blocks (l ∷ earlier)) (with_entry (entries_before qs) last)) count
-        (subst (λ bs. IsState b n bs (with_entry (entries_before qs) last)) blocks
-        (ended n (open_blocks earlier) (entries_before qs) closes (stacked earlier 0) before)))
+        (subst (λ m. IsState b m (open_blocks (l ∷ earlier)) (with_some (entries_before qs) last)) count
+        (subst (λ bs. IsState b n bs (with_some (entries_before qs) last)) blocks
+        (ended n (open_blocks earlier) (entries_before qs) closes (stacked earlier) before)))
 
     blocks_gone : option_map_or is_menu_word (keyword_of l) false ≡ false → (k : Option Keyword) → keyword_of l ≡ k → has_menu b (open_blocks earlier) ≡ false → has_menu b (open_blocks (l ∷ earlier)) ≡ false
     blocks_gone other None e none =
         let no = λ (w : Keyword → Bool). ap (λ o. option_map_or w o false) e in
         let same : open_blocks (l ∷ earlier) ≡ open_blocks earlier =
-        ap (λ t. cond t (block_opened l earlier ∷ still_open earlier zero) (cond (is_closer l) (still_open earlier 1) (still_open earlier zero))) (no is_opener_word)
-        ∙ ap (λ t. cond t (still_open earlier 1) (still_open earlier zero)) (no is_closer_word) in
+        ap (λ t. cond t (block_opened l earlier ∷ open_blocks earlier) (cond (is_closer l) (drop 1 (open_blocks earlier)) (open_blocks earlier))) (no is_opener_word)
+        ∙ ap (λ t. cond t (drop 1 (open_blocks earlier)) (open_blocks earlier)) (no is_closer_word) in
         ap (has_menu b) same ∙ none
     blocks_gone other (Some k) e none =
         let keyword_other : is_menu_word (block_opened l earlier).keyword ≡ false =
@@ -430,7 +428,7 @@ module _ (b : BlockId) where
 pub menus_of_outline : (names : List (List ℕ)) (following : ℕ) (earlier : List LineValue) (t : TreeValue) → IsOutlineAfter names following earlier t → AreMenusClosed t
 menus_of_outline names following earlier t after =
     let qs = reverse after.readings in
-    let same : t.entries ≡ entries_before qs = ap (λ x. x.entries) after.tree in
+    let same : t.entries ≡ entries_before qs = ap (λ x. x.entries) after.tree ∙ entries_of after.readings in
     record {
       closed = λ b there. subst (λ es. IsClosedIn es b) (sym same)
           (closed_by b (count_by is_opener earlier) (open_blocks earlier) (entries_before qs) (subst (λ es. Contains es (entry.EndMenu b)) same there)

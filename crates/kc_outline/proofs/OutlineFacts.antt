@@ -1,11 +1,9 @@
 -- What is known of the outline of the lines so far.
-use Rattle.std.proofs.Common.{inl, inr, ◌≡◌, ℕ, ◌+◌, ◌-◌, ◌<◌, ◌==◌, List, [], ◌∷◌, Option, Some, None, length, take, get_or, reverse, refl, sym, ap, ◌∙◌, subst, arith}
+use Rattle.std.proofs.Common.{◌≡◌, ℕ, ◌+◌, ◌-◌, ◌<◌, ◌≤◌, ◌==◌, List, [], ◌∷◌, Option, Some, None, length, take, get_or, reverse, refl, sym, ap, ◌∙◌, subst, arith}
 use Rattle.std.specs.List.{All, position, filter_map, slice_get}
-use Rattle.std.proofs.lemmas.Bool.{eq-eqb}
-use Rattle.std.proofs.lemmas.Bool.Decides.{eqb_tells}
 use Rattle.std.specs.Option.{option_map}
 use Rattle.std.specs.Str.{bytes_eq}
-use Rattle.std.proofs.lemmas.List.{reverse-append, take_more}
+use Rattle.std.proofs.lemmas.List.{reverse-append, reverse-reverse, take_more}
 use Rattle.std.proofs.lemmas.List.Quantifiers.{position-Some}
 use Rattle.std.proofs.lemmas.List.Elements.{All-push}
 use Rattle.std.proofs.lemmas.List.FromFn.{length-map-range_with_len}
@@ -22,6 +20,7 @@ use Rattle.kc_statement.specs.declared.statement.Statement.{Statement}
 use Rattle.kc_statement.specs.declared.statement.Statement.TheVariants as statement
 use Rattle.kc_outline.specs.declared.entry.Entry.{Entry}
 use Rattle.kc_outline.specs.declared.entry.Entry.TheVariants as entry
+use Rattle.kc_outline.specs.Adding.{with_some}
 use Rattle.kc_outline.specs.Entries.{IsEntryOf}
 use Rattle.kc_outline.specs.Outline.{IsNamedIn}
 use Rattle.kc_outline.specs.declared.fault.LineFault.{LineFault}
@@ -29,20 +28,24 @@ use Rattle.kc_outline.specs.declared.fault.LineFault.TheVariants as fault
 use Rattle.kc_outline.specs.declared.context.Context.{Context}
 use Rattle.kc_outline.specs.declared.all_lines.Stop.{Stop}
 use Rattle.kc_outline.specs.declared.all_lines.Stop.TheVariants.{Problem, NoMemory}
-use Rattle.kc_outline.specs.FirstProblem.{IsReadFault}
-use Rattle.kc_outline.specs.LineFaults.{HasProblem}
+use Rattle.kc_outline.specs.Enclosing.{before}
+use Rattle.kc_outline.specs.FirstProblem.{IsReadFault, AreRefusedFor}
 use Rattle.kc_statement.specs.Names.{names_of}
 use Rattle.kc_outline.specs.ContextAfter.{IsContextAfter}
-use Rattle.kc_outline.specs.Reader.{IsOutlineAfter, IsStop, IsReportedFor}
+use Rattle.kc_outline.specs.Reader.{AreReadingsBefore, IsOnlyProblem, IsOutlineAfter, IsStop, IsReportedFor}
 use Rattle.kc_statement.specs.Statements.{HasFormOf, HasForm}
-use Rattle.kc_outline.specs.TreeOf.{Reading, AreReadingsBefore, tree_of, symbol_at, symbol_entry, menu_entry, choice_entry, comment_entry, definition_number, entry_at, with_entry, entries_before}
+use Rattle.kc_outline.specs.TreeOf.{Reading, IsOutlineOf, tree_of, symbol_at, symbol_entry, menu_entry, choice_entry, comment_entry, definition_number, entry_at}
 use Rattle.kc_outline.specs.TreeValue.{TreeValue}
+use Rattle.kc_outline.proofs.EntryLaws.{entries_before, entries_of}
+use Rattle.kc_outline.proofs.OnlyLaws.{only_fault}
+use Rattle.kc_outline.proofs.PlaceLaws.{AreRead, read_by_place, last_place}
 
 -- before the first line
 pub first_outline : (names : List (List ℕ)) (following : ℕ) → IsOutlineAfter names following [] (tree_of names [])
 first_outline names following = record {
   readings = [];
   read = tt;
+  only = tt;
   tree = refl;
   made = λ k d within. absurd (omega (arith, within));
 }
@@ -81,33 +84,33 @@ module _ (names : List (List ℕ)) (t : TreeValue) (same : length t.symbols ≡ 
   symbol_entry_within earlier s [] within e = rw e within
   symbol_entry_within earlier s (j ∷ js) within e = rw e within
 
-  menu_more : (es : List Entry) (o : Option Owner) → All (IsEntryOf t) es → All (IsEntryOf t) (with_entry es (menu_entry o))
+  menu_more : (es : List Entry) (o : Option Owner) → All (IsEntryOf t) es → All (IsEntryOf t) (with_some es (menu_entry o))
   menu_more es None all = all
   menu_more es (Some (owner.Definition s j)) all = all
   menu_more es (Some (owner.Menu b)) all = All-push (IsEntryOf t) es (entry.Menu b) all tt
   menu_more es (Some (owner.Choice c b)) all = all
   menu_more es (Some (owner.Comment c)) all = all
 
-  choice_more : (es : List Entry) (o : Option Owner) → All (IsEntryOf t) es → All (IsEntryOf t) (with_entry es (choice_entry o))
+  choice_more : (es : List Entry) (o : Option Owner) → All (IsEntryOf t) es → All (IsEntryOf t) (with_some es (choice_entry o))
   choice_more es None all = all
   choice_more es (Some (owner.Definition s j)) all = all
   choice_more es (Some (owner.Menu b)) all = all
   choice_more es (Some (owner.Choice c b)) all = All-push (IsEntryOf t) es (entry.Choice c) all tt
   choice_more es (Some (owner.Comment c)) all = all
 
-  comment_more : (es : List Entry) (o : Option Owner) → All (IsEntryOf t) es → All (IsEntryOf t) (with_entry es (comment_entry o))
+  comment_more : (es : List Entry) (o : Option Owner) → All (IsEntryOf t) es → All (IsEntryOf t) (with_some es (comment_entry o))
   comment_more es None all = all
   comment_more es (Some (owner.Definition s j)) all = all
   comment_more es (Some (owner.Menu b)) all = all
   comment_more es (Some (owner.Choice c b)) all = all
   comment_more es (Some (owner.Comment c)) all = All-push (IsEntryOf t) es (entry.Comment c) all tt
 
-  end_more : (es : List Entry) (b : Option BlockId) → All (IsEntryOf t) es → All (IsEntryOf t) (with_entry es (option_map entry.EndMenu b))
+  end_more : (es : List Entry) (b : Option BlockId) → All (IsEntryOf t) es → All (IsEntryOf t) (with_some es (option_map entry.EndMenu b))
   end_more es None all = all
   end_more es (Some b) all = All-push (IsEntryOf t) es (entry.EndMenu b) all tt
 
   entry_more : (earlier : List Reading) (es : List Entry) (s : Statement) (b : Option BlockId) (ch : Option ChoiceId) (o : Option Owner) → IsNamedIn names s
-      → All (IsEntryOf t) es → All (IsEntryOf t) (with_entry es (entry_at earlier (record { statement = s; block = b; choice = ch; owner = o })))
+      → All (IsEntryOf t) es → All (IsEntryOf t) (with_some es (entry_at earlier (record { statement = s; block = b; choice = ch; owner = o })))
   entry_more earlier es (statement.Config None) b ch o named all = all
   entry_more earlier es (statement.Config (Some s)) b ch o named all =
       let within : s.0 < length t.symbols = omega (arith, named, same) in
@@ -138,7 +141,7 @@ names_of_outline names following lines t after = ap (λ x. x.names) after.tree
 
 pub entries_of_outline : (names : List (List ℕ)) (following : ℕ) (lines : List LineValue) (t : TreeValue) → IsOutlineAfter names following lines t → All (IsEntryOf t) t.entries
 entries_of_outline names following lines t after =
-    subst (λ es. All (IsEntryOf t) es) (sym (ap (λ x. x.entries) after.tree))
+    subst (λ es. All (IsEntryOf t) es) (sym (ap (λ x. x.entries) after.tree ∙ entries_of after.readings))
     (entries_within names t (symbols_of_outline names following lines t after) following lines (reverse after.readings) after.read)
 
 -- one more line than those up to a place
@@ -160,38 +163,58 @@ module _ (names : List (List ℕ)) (lines : List LineValue) (i : ℕ) (l : LineV
       subst (λ ls. IsContextAfter names ls p) (lines_at within is)
       (subst (λ ns. IsContextAfter ns (l ∷ reverse (take i lines)) p) same after)
 
--- no line follows the last
-last_place : (n i : ℕ) → i < n → (n - i - 1 == 0) ≡ (i + 1 == n)
-last_place n i within = elim (eqb_tells (i + 1) n) [
-  | inl same ↦
-      let zero_left : n - i - 1 ≡ 0 = omega (arith, same.1) in
-      eq-eqb (n - i - 1) 0 zero_left ∙ sym same.0
-  | inr other ↦
-      elim (eqb_tells (n - i - 1) 0) [
-        | inl zero_left ↦ absurd (other.1 (omega (arith, within, zero_left.1)))
-        | inr more ↦ more.0 ∙ sym other.0
-      ]
-]
+-- the readings of the lines so far, by place
+pub read_at : (lines : List LineValue) (i : ℕ) (t : TreeValue) → i ≤ length lines → (after : IsOutlineAfter (names_of lines) (length lines - i) (before lines i) t) → AreRead lines i after.readings
+read_at lines i t few after =
+    subst (AreRead lines i) (reverse-reverse after.readings) (read_by_place lines i (reverse after.readings) few after.read after.only)
 
--- the fault of the first line that is not taken
+-- all lines are read, and this is their tree
+pub record IsWhole (lines : List LineValue) (t : TreeValue) : Type 0 where
+  pub readings : List Reading
+  pub read : AreRead lines (length lines) readings
+  pub tree : t ≡ tree_of (names_of lines) readings
+
+pub whole : (lines : List LineValue) (i : ℕ) (t : TreeValue) → i ≡ length lines → IsOutlineAfter (names_of lines) (length lines - i) (before lines i) t → IsWhole lines t
+whole lines i t end after = record {
+  readings = after.readings;
+  read = subst (λ n. AreRead lines n after.readings) end (read_at lines i t (omega (arith, end)) after);
+  tree = after.tree;
+}
+
+pub outline_of : (lines : List LineValue) (t : TreeValue) → IsWhole lines t → IsOutlineOf lines t
+outline_of lines t all = record { readings = all.readings; read = all.read.readings; tree = all.tree }
+
+-- the fault of the first line that is not taken, and that there is no other
+pub record IsTheFault (lines : List LineValue) (f : LineFault) : Type 0 where
+  pub fault : IsReadFault lines f
+  pub refused : AreRefusedFor lines f
+
 pub first_fault : (lines : List LineValue) (i : ℕ) (l : LineValue) (names : List (List ℕ)) (t : TreeValue) (stop : Stop) (reported : LineFault)
     → slice_get lines i ≡ Some l → names ≡ names_of lines
-    → IsOutlineAfter names (length lines - i) (reverse (take i lines)) t
-    → IsStop names (reverse (take i lines)) (length lines - i - 1 == 0) l stop
-    → i < length lines → IsReportedFor stop l reported → IsReadFault lines reported
-first_fault lines i l names t NoMemory reported is same after stopped within tells = subst (IsReadFault lines) (sym tells) tt
+    → IsOutlineAfter names (length lines - i) (before lines i) t
+    → IsStop names (before lines i) (length lines - i - 1 == 0) l stop
+    → i < length lines → IsReportedFor stop l reported → IsTheFault lines reported
+first_fault lines i l names t NoMemory reported is same after stopped within tells = subst (IsTheFault lines) (sym tells) (record { fault = tt; refused = tt })
 first_fault lines i l names t (Problem problem) (fault.At p path number) is same after stopped within tells =
     let last : (length lines - i - 1 == 0) ≡ (i + 1 == length lines) = last_place (length lines) i within in
-    let here : HasProblem names (reverse (take i lines)) (i + 1 == length lines) l problem = subst (λ b. HasProblem names (reverse (take i lines)) b l problem) last stopped in (
-      i,
-      record {
-        line = l;
-        is = is;
-        path_is = tells.1;
-        number_is = tells.2;
-        here = subst (λ ns. HasProblem ns (reverse (take i lines)) (i + 1 == length lines) l p) same (subst (λ q. HasProblem names (reverse (take i lines)) (i + 1 == length lines) l q) (sym tells.0) here);
-        readings = after.readings;
-        before = subst (λ ns. AreReadingsBefore ns (length lines - i) (reverse (take i lines)) (reverse after.readings)) same after.read;
-      },
-    )
-first_fault lines i l names t (Problem problem) fault.NoMemory is same after stopped within tells = tt
+    let here : IsOnlyProblem names (before lines i) (i + 1 == length lines) l problem = subst (λ b. IsOnlyProblem names (before lines i) b l problem) last stopped in
+    let named : IsOnlyProblem (names_of lines) (before lines i) (i + 1 == length lines) l problem = subst (λ ns. IsOnlyProblem ns (before lines i) (i + 1 == length lines) l problem) same here in
+    let alone : IsOnlyProblem (names_of lines) (before lines i) (i + 1 == length lines) l p = subst (λ q. IsOnlyProblem (names_of lines) (before lines i) (i + 1 == length lines) l q) (sym tells.0) named in
+    let earlier : IsOutlineAfter (names_of lines) (length lines - i) (before lines i) t = subst (λ ns. IsOutlineAfter ns (length lines - i) (before lines i) t) same after in
+    let read = read_at lines i t (omega (arith, within)) earlier in
+    record {
+      fault = (
+        i,
+        record {
+          line = l;
+          is = is;
+          path_is = tells.1;
+          number_is = tells.2;
+          here = alone.has;
+          readings = earlier.readings;
+          earlier = read.readings;
+        },
+      );
+      refused = only_fault lines i l is p earlier.readings read alone path number tells.1 tells.2;
+    }
+first_fault lines i l names t (Problem problem) fault.NoMemory is same after stopped within tells = record { fault = tt; refused = tt }

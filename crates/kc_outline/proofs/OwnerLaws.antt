@@ -9,9 +9,7 @@ use Rattle.kc_text.specs.LineValue.{LineValue}
 use Rattle.kc_statement.specs.declared.id.SymId.{SymId}
 use Rattle.kc_outline.specs.declared.id.BlockId.{BlockId}
 use Rattle.kc_outline.specs.declared.id.ChoiceId.{ChoiceId}
-use Rattle.kc_statement.specs.declared.expr.Expr.{Expr}
 use Rattle.kc_statement.specs.declared.symbol_type.SymbolType.TheVariants as kind
-use Rattle.kc_outline.specs.declared.block.BlockKind.{BlockKind}
 use Rattle.kc_statement.specs.declared.keyword.Keyword.{Keyword}
 use Rattle.kc_statement.specs.declared.keyword.Keyword.TheVariants as keyword
 use Rattle.kc_outline.specs.declared.context.Owner.{Owner}
@@ -23,8 +21,8 @@ use Rattle.kc_statement.specs.Keywords.{keyword_of, is_attribute, is_config, is_
 use Rattle.kc_outline.specs.LineFaults.{IsSound, is_no_choice_default, opens_too_deep, is_past_limit}
 use Rattle.kc_outline.specs.Enclosing.{made_by, owner_at, open_blocks, choice_among, nearest_statement}
 use Rattle.kc_outline.specs.Outline.{IsMadeBy, IsChoiceMadeBy, IsMade, AreMade, IsNamedIn}
-use Rattle.kc_outline.specs.Reader.{IsOutlineAfter}
-use Rattle.kc_outline.specs.TreeOf.{Reading, IsReading, AreReadingsBefore, tree_of, defined_in, opened_in, title_in, choice_block, definition_heads, block_heads, choice_heads, comment_heads}
+use Rattle.kc_outline.specs.Reader.{AreReadingsBefore, IsOnlyForm, AreOnlyForms, IsOutlineAfter}
+use Rattle.kc_outline.specs.TreeOf.{Reading, IsReading, tree_of, DefinitionLine, BlockLine, CommentLine, definition_line, block_line, comment_line, choice_block, definition_lines, block_lines, choice_blocks, comment_lines}
 use Rattle.kc_statement.specs.Names.{symbol_among}
 use Rattle.kc_outline.specs.TreeValue.{TreeValue}
 use Rattle.kc_statement.specs.Names.{defined_name}
@@ -39,14 +37,14 @@ within_limit false true past h = cc
 within_limit false false true h = cc
 within_limit false false false h = refl
 
-abbrev pub definitions_made : Option BlockId → Statement → List (Option BlockId × SymId)
-definitions_made b s = cons_option (option_map (λ d. (b, d)) (defined_in s)) []
+abbrev pub definitions_made : Option BlockId → Statement → List DefinitionLine
+definitions_made b s = cons_option (definition_line b s) []
 
-abbrev blocks_made : Option BlockId → Statement → List (Option BlockId × (BlockKind × List Expr))
-blocks_made b s = cons_option (option_map (λ o. (b, o)) (opened_in s)) []
+abbrev pub blocks_made : Option BlockId → Statement → List BlockLine
+blocks_made b s = cons_option (block_line b s) []
 
-abbrev comments_made : Option BlockId → Option ChoiceId → Statement → List (Option BlockId × (Option ChoiceId × List ℕ))
-comments_made b h s = cons_option (option_map (λ t. (b, (h, t))) (title_in s)) []
+abbrev comments_made : Option BlockId → Option ChoiceId → Statement → List CommentLine
+comments_made b h s = cons_option (comment_line b h s) []
 
 abbrev choices_made : Statement → Option Owner → List BlockId
 choices_made s o = cons_option (choice_block s o) []
@@ -90,7 +88,7 @@ one_definition b statement.AllNoConfigYes h = refl
 one_definition b statement.Optional h = refl
 one_definition b statement.Help h = refl
 
-one_block : (b : Option BlockId) (s : Statement) → length (blocks_made b s) ≡ cond (option_map_or is_opener_word (word_of s) false) 1 0
+pub one_block : (b : Option BlockId) (s : Statement) → length (blocks_made b s) ≡ cond (option_map_or is_opener_word (word_of s) false) 1 0
 one_block b statement.EndOfFile = refl
 one_block b (statement.Config s) = refl
 one_block b (statement.Menu t) = refl
@@ -211,7 +209,7 @@ one_choice statement.Optional o h = refl
 one_choice statement.Help o h = refl
 
 -- the keyword of a choice
-the_choice : (k : Option Keyword) → option_map_or is_choice_word k false ≡ true → k ≡ Some keyword.Choice
+pub the_choice : (k : Option Keyword) → option_map_or is_choice_word k false ≡ true → k ≡ Some keyword.Choice
 the_choice None h = cc
 the_choice (Some keyword.Choice) h = refl
 the_choice (Some _) h = cc
@@ -223,17 +221,17 @@ count_cons p l ls = sum_by-append (λ x. cond (p x) 1 0) (l ∷ []) ls
 push_length : {Y : Type 0} (h : Reading → Option Y) (rs : List Reading) (r : Reading) → length (filter_map h (rs ++ r ∷ [])) ≡ length (filter_map h rs) + length (cons_option (h r) [])
 push_length h rs r = ap length (filter_map-append h rs (r ∷ [])) ∙ length-append (filter_map h rs) (filter_map h (r ∷ []))
 
-more_definitions_by : (rs : List Reading) (r : Reading) → length (definition_heads (rs ++ r ∷ [])) ≡ length (definition_heads rs) + length (definitions_made r.block r.statement)
-more_definitions_by rs r = push_length {Y = Option BlockId × SymId} (λ q. option_map (λ d. (q.block, d)) (defined_in q.statement)) rs r
+more_definitions_by : (rs : List Reading) (r : Reading) → length (definition_lines (rs ++ r ∷ [])) ≡ length (definition_lines rs) + length (definitions_made r.block r.statement)
+more_definitions_by rs r = push_length {Y = DefinitionLine} (λ q. definition_line q.block q.statement) rs r
 
-more_blocks_by : (rs : List Reading) (r : Reading) → length (block_heads (rs ++ r ∷ [])) ≡ length (block_heads rs) + length (blocks_made r.block r.statement)
-more_blocks_by rs r = push_length {Y = Option BlockId × (BlockKind × List Expr)} (λ q. option_map (λ o. (q.block, o)) (opened_in q.statement)) rs r
+more_blocks_by : (rs : List Reading) (r : Reading) → length (block_lines (rs ++ r ∷ [])) ≡ length (block_lines rs) + length (blocks_made r.block r.statement)
+more_blocks_by rs r = push_length {Y = BlockLine} (λ q. block_line q.block q.statement) rs r
 
-more_comments_by : (rs : List Reading) (r : Reading) → length (comment_heads (rs ++ r ∷ [])) ≡ length (comment_heads rs) + length (comments_made r.block r.choice r.statement)
+more_comments_by : (rs : List Reading) (r : Reading) → length (comment_lines (rs ++ r ∷ [])) ≡ length (comment_lines rs) + length (comments_made r.block r.choice r.statement)
 more_comments_by rs r =
-    push_length {Y = Option BlockId × (Option ChoiceId × List ℕ)} (λ q. option_map (λ t. (q.block, (q.choice, t))) (title_in q.statement)) rs r
+    push_length {Y = CommentLine} (λ q. comment_line q.block q.choice q.statement) rs r
 
-more_choices_by : (rs : List Reading) (r : Reading) → length (choice_heads (rs ++ r ∷ [])) ≡ length (choice_heads rs) + length (choices_made r.statement r.owner)
+more_choices_by : (rs : List Reading) (r : Reading) → length (choice_blocks (rs ++ r ∷ [])) ≡ length (choice_blocks rs) + length (choices_made r.statement r.owner)
 more_choices_by rs r = push_length {Y = BlockId} (λ q. choice_block q.statement q.owner) rs r
 
 made_more : (rs : List Reading) (r : Reading) (o : Option Owner) → IsMadeBy rs o → IsMadeBy (rs ++ r ∷ []) o
@@ -245,8 +243,8 @@ made_more rs r (Some (Menu b)) h =
 made_more rs r (Some (Choice c b)) h =
     let choices = more_choices_by rs r in
     let blocks = more_blocks_by rs r in
-    let choice : c.0 < length (choice_heads (rs ++ r ∷ [])) = (let here = h.0 in omega (arith, here, choices)) in
-    let block : b.0 < length (block_heads (rs ++ r ∷ [])) = (let here = h.1 in omega (arith, here, blocks)) in
+    let choice : c.0 < length (choice_blocks (rs ++ r ∷ [])) = (let here = h.0 in omega (arith, here, choices)) in
+    let block : b.0 < length (block_lines (rs ++ r ∷ [])) = (let here = h.1 in omega (arith, here, blocks)) in
     (choice, block)
 made_more rs r (Some (Comment c)) h =
     let more = more_comments_by rs r in omega (arith, h, more)
@@ -265,10 +263,10 @@ is_made_more rs r q h = record {
 module _ (names : List (List ℕ)) where
   -- the readings have made what their lines count
   pub record AreCounted (earlier : List LineValue) (rs : List Reading) : Type 0 where
-    pub definitions : length (definition_heads rs) ≡ count_by is_config earlier
-    pub blocks : length (block_heads rs) ≡ count_by is_opener earlier
-    pub choices : length (choice_heads rs) ≡ count_by is_choice earlier
-    pub comments : length (comment_heads rs) ≡ count_by is_comment earlier
+    pub definitions : length (definition_lines rs) ≡ count_by is_config earlier
+    pub blocks : length (block_lines rs) ≡ count_by is_opener earlier
+    pub choices : length (choice_blocks rs) ≡ count_by is_choice earlier
+    pub comments : length (comment_lines rs) ≡ count_by is_comment earlier
     pub owner : IsMadeBy rs (owner_at names earlier)
 
   module _ (earlier : List LineValue) (is_last : Bool) (l : LineValue) (r : Reading) (sound : IsSound names earlier is_last l r.statement) (owned : r.owner ≡ owner_at names (l ∷ earlier)) where
@@ -300,25 +298,25 @@ module _ (names : List (List ℕ)) where
     of_comment = one_comment r.block r.choice r.statement ∙ ap (λ x. cond x 1 0) (sym (form_word is_comment_word refl names l r.statement sound.form))
 
     module _ (rs : List Reading) (counted : AreCounted earlier rs) where
-      more_definitions : length (definition_heads (rs ++ r ∷ [])) ≡ count_by is_config (l ∷ earlier)
+      more_definitions : length (definition_lines (rs ++ r ∷ [])) ≡ count_by is_config (l ∷ earlier)
       more_definitions =
           let more = more_definitions_by rs r in
           let count = count_cons is_config l earlier in
           omega (arith, more, count, of_definition, counted.definitions)
 
-      more_blocks : length (block_heads (rs ++ r ∷ [])) ≡ count_by is_opener (l ∷ earlier)
+      more_blocks : length (block_lines (rs ++ r ∷ [])) ≡ count_by is_opener (l ∷ earlier)
       more_blocks =
           let more = more_blocks_by rs r in
           let count = count_cons is_opener l earlier in
           omega (arith, more, count, of_block, counted.blocks)
 
-      more_choices : length (choice_heads (rs ++ r ∷ [])) ≡ count_by is_choice (l ∷ earlier)
+      more_choices : length (choice_blocks (rs ++ r ∷ [])) ≡ count_by is_choice (l ∷ earlier)
       more_choices =
           let more = more_choices_by rs r in
           let count = count_cons is_choice l earlier in
           omega (arith, more, count, of_choice, counted.choices)
 
-      more_comments : length (comment_heads (rs ++ r ∷ [])) ≡ count_by is_comment (l ∷ earlier)
+      more_comments : length (comment_lines (rs ++ r ∷ [])) ≡ count_by is_comment (l ∷ earlier)
       more_comments =
           let more = more_comments_by rs r in
           let count = count_cons is_comment l earlier in
@@ -330,10 +328,10 @@ module _ (names : List (List ℕ)) where
       made_itself (Some keyword.Config) e =
           let one : ◌≡◌ {A = ℕ} (cond (is_config l) 1 0) 1 = ap (λ k. cond (option_map_or is_config_word k false) 1 0) e in
           let count = count_cons is_config l earlier in
-          let here : count_by is_config earlier < length (definition_heads (rs ++ r ∷ [])) = omega (arith, count, more_definitions, one) in
+          let here : count_by is_config earlier < length (definition_lines (rs ++ r ∷ [])) = omega (arith, count, more_definitions, one) in
           at (option_and_then (symbol_among names) (defined_name l)) here
         where
-          at : (o : Option SymId) → count_by is_config earlier < length (definition_heads (rs ++ r ∷ [])) → IsMadeBy (rs ++ r ∷ []) (option_map (λ s. Definition s (count_by is_config earlier)) o)
+          at : (o : Option SymId) → count_by is_config earlier < length (definition_lines (rs ++ r ∷ [])) → IsMadeBy (rs ++ r ∷ []) (option_map (λ s. Definition s (count_by is_config earlier)) o)
           at None h = tt
           at (Some s) h = h
       made_itself (Some keyword.Menu) e =
@@ -345,8 +343,8 @@ module _ (names : List (List ℕ)) where
           let block_one : ◌≡◌ {A = ℕ} (cond (is_opener l) 1 0) 1 = ap (λ k. cond (option_map_or is_opener_word k false) 1 0) e in
           let choice_count = count_cons is_choice l earlier in
           let block_count = count_cons is_opener l earlier in
-          let choice : count_by is_choice earlier < length (choice_heads (rs ++ r ∷ [])) = omega (arith, choice_count, more_choices, choice_one) in
-          let block : count_by is_opener earlier < length (block_heads (rs ++ r ∷ [])) = omega (arith, block_count, more_blocks, block_one) in
+          let choice : count_by is_choice earlier < length (choice_blocks (rs ++ r ∷ [])) = omega (arith, choice_count, more_choices, choice_one) in
+          let block : count_by is_opener earlier < length (block_lines (rs ++ r ∷ [])) = omega (arith, block_count, more_blocks, block_one) in
           (choice, block)
       made_itself (Some keyword.Comment) e =
           let one : ◌≡◌ {A = ℕ} (cond (is_comment l) 1 0) 1 = ap (λ k. cond (option_map_or is_comment_word k false) 1 0) e in
@@ -409,7 +407,7 @@ made_push rs r all this =
     All-push (IsMade (rs ++ r ∷ [])) rs r (λ k d within. is_made_more rs r (slice_index_or rs k d) (all k d within)) this
 
 -- a choice that the lines before have opened
-choice_made : (rs : List Reading) (n : ℕ) (o : Option ChoiceId) → n ≤ length (choice_heads rs) → IsBelow n o → IsChoiceMadeBy rs o
+choice_made : (rs : List Reading) (n : ℕ) (o : Option ChoiceId) → n ≤ length (choice_blocks rs) → IsBelow n o → IsChoiceMadeBy rs o
 unfolding IsBelow
 choice_made rs n None few h = tt
 choice_made rs n (Some c) few h = omega (arith, few, h)
@@ -427,25 +425,26 @@ next_made names following l earlier rs r read owner_is choice_is all =
     subst (AreCounted names (l ∷ earlier)) (reverse-reverse (rs ++ r ∷ [])) (counted names following (l ∷ earlier) (reverse (rs ++ r ∷ [])) read) in
     let count = count_cons is_choice l earlier in
     let opened = all_counted.choices in
-    let few : count_by is_choice earlier ≤ length (choice_heads (rs ++ r ∷ [])) = omega (arith, count, opened) in
+    let few : count_by is_choice earlier ≤ length (choice_blocks (rs ++ r ∷ [])) = omega (arith, count, opened) in
     made_push rs r all (record {
       owner = subst (IsMadeBy (rs ++ r ∷ [])) (sym owner_is) all_counted.owner;
       choice = subst (IsChoiceMadeBy (rs ++ r ∷ [])) (sym choice_is)
-          (choice_made (rs ++ r ∷ []) (count_by is_choice earlier) (choice_among (open_blocks earlier)) few (choice_below earlier 0));
+          (choice_made (rs ++ r ∷ []) (count_by is_choice earlier) (choice_among (open_blocks earlier)) few (choice_below earlier));
     })
 
 -- one more line that is read, and taken by the outline
 pub next_outline : (names : List (List ℕ)) (following : ℕ) (earlier : List LineValue) (l : LineValue) (old new : TreeValue) (r : Reading)
     → IsOutlineAfter names (following + 1) earlier old
-    → IsReading names earlier (following == 0) l r
+    → IsReading names earlier (following == 0) l r → IsOnlyForm names l r.statement
     → ((rs : List Reading) → AreMade rs → IsNamedIn names r.statement → old ≡ tree_of names rs → new ≡ tree_of names (rs ++ r ∷ []))
     → IsOutlineAfter names following (l ∷ earlier) new
-next_outline names following earlier l old new r before reading takes =
+next_outline names following earlier l old new r before reading form takes =
     let read : AreReadingsBefore names following (l ∷ earlier) (reverse (before.readings ++ r ∷ [])) =
     subst (AreReadingsBefore names following (l ∷ earlier)) (sym (reverse_end before.readings r)) (reading, before.read) in
     record {
       readings = before.readings ++ r ∷ [];
       read = read;
+      only = subst (AreOnlyForms names (l ∷ earlier)) (sym (reverse_end before.readings r)) (form, before.only);
       tree = takes before.readings before.made (named_by_form names l r.statement reading.sound.form) before.tree;
       made = next_made names following l earlier before.readings r read reading.owner reading.choice before.made;
     }

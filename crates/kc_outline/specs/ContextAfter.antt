@@ -1,4 +1,4 @@
--- What is known of the lines before a line, and what one more line makes of it: this project's own.
+-- Steps: what is known of the lines before a line, and what one more line makes of it. No public contract reaches it.
 use Rattle.std.specs.Prelude.{◌≡◌, ℕ, ◌<◌, ◌^◌, List, ◌∷◌, Option, Some, None, option_map, count_by, drop, if◌then◌else◌}
 use Rattle.kc_text.specs.LineValue.{LineValue}
 use Rattle.kc_statement.specs.declared.id.SymId.{SymId}
@@ -11,7 +11,7 @@ use Rattle.kc_outline.specs.declared.context.Context.{Context}
 use Rattle.kc_statement.specs.Keywords.{is_config, is_opener, is_choice, is_comment, is_opener_word, is_closer_word}
 use Rattle.kc_outline.specs.Enclosing.{open_blocks, owner_at, nearest_statement}
 
--- the lines before stand in reverse, the last first
+-- the lines before are in reverse, the last first
 pub record IsContextAfter (names : List (List ℕ)) (earlier : List LineValue) (p : Context) : Type 0 where
   pub stack : p.stack ≡ open_blocks earlier
   pub statement : p.statement ≡ nearest_statement earlier

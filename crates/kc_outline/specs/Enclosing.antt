@@ -1,7 +1,7 @@
--- Where a line stands: which blocks are open around it, and which statement its attributes belong to. This project's
--- own, after kconfig-language.rst, "Menu structure". Lines before a line stand in reverse here, the last first, so
+-- Where a line is: which blocks are open around it, and which statement its attributes belong to. This project's
+-- own, after kconfig-language.rst, "Menu structure". Lines before a line are in reverse here, the last first, so
 -- that each of these looks back from the line.
-use Rattle.std.specs.Prelude.{ℕ, zero, suc, not, List, [], ◌∷◌, Option, Some, None, option_map, option_and_then, unwrap_or, if◌then◌else◌, count_by, find}
+use Rattle.std.specs.Prelude.{ℕ, not, List, [], ◌∷◌, Option, Some, None, option_map, option_and_then, unwrap_or, if◌then◌else◌, count_by, drop, find, reverse, take}
 use Rattle.kc_text.specs.LineValue.{LineValue}
 use Rattle.std.specs.Option.{option_or}
 use Rattle.kc_outline.specs.declared.id.BlockId.{BlockId}
@@ -14,6 +14,10 @@ use Rattle.kc_outline.specs.declared.context.OpenBlock.{OpenBlock}
 use Rattle.kc_statement.specs.Keywords.{keyword_of, is_attribute, is_opener, is_closer, is_config, is_choice, is_comment}
 use Rattle.kc_statement.specs.Names.{defined_name}
 use Rattle.kc_statement.specs.Names.{symbol_among}
+
+-- the lines before a place, the last first
+abbrev pub before : List LineValue → ℕ → List LineValue
+before lines i = reverse (take i lines)
 
 -- ---- blocks
 -- the choice that a line opens, whose number is how many were opened before
@@ -29,19 +33,13 @@ block_opened l earlier = record {
   choice = choice_opened l earlier;
 }
 
--- The blocks that are still open, the innermost first: going back, each closer closes one opener before it. So many
--- closers are still without theirs.
-abbrev pub still_open : List LineValue → ℕ → List OpenBlock
-still_open [] closers = []
-still_open (l ∷ earlier) zero =
-    if is_opener l then block_opened l earlier ∷ still_open earlier zero
-    else (if is_closer l then still_open earlier 1 else still_open earlier zero)
-still_open (l ∷ earlier) (suc n) =
-    if is_opener l then still_open earlier n
-    else (if is_closer l then still_open earlier (suc (suc n)) else still_open earlier (suc n))
-
+-- The blocks that are open after lines, the innermost first: an opener puts its block in front, a closer takes the
+-- first one away, any other line leaves them.
 abbrev pub open_blocks : List LineValue → List OpenBlock
-open_blocks earlier = still_open earlier 0
+open_blocks [] = []
+open_blocks (l ∷ earlier) =
+    if is_opener l then block_opened l earlier ∷ open_blocks earlier
+    else (if is_closer l then drop 1 (open_blocks earlier) else open_blocks earlier)
 
 -- the innermost
 abbrev pub innermost : List OpenBlock → Option BlockId

@@ -1,4 +1,5 @@
 pub mod Adding
+pub mod Blocks
 pub mod ContextAfter
 pub mod Enclosing
 pub mod Entries

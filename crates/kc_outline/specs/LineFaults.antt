@@ -32,17 +32,13 @@ is_unquoted (Expanded w) = true
 is_unquoted (Quoted q) = false
 is_unquoted (Operator o) = false
 
--- an unquoted word without reference
-abbrev pub is_fixed : List ℕ → Token → Bool
-is_fixed = is_word
-
 abbrev pub starts_with : (Token → Bool) → List Token → Bool
 starts_with p [] = false
 starts_with p (t ∷ rest) = p t
 
 -- `depends on` with a condition of its own
 abbrev pub has_condition : List Token → Bool
-has_condition tokens = starts_with (is_fixed (codes "on")) tokens && list_any (is_fixed (codes "if")) (drop 1 tokens)
+has_condition tokens = starts_with (is_word (codes "on")) tokens && list_any (is_word (codes "if")) (drop 1 tokens)
 
 -- a choice is among the open blocks
 abbrev pub is_in_choice : List OpenBlock → Bool
@@ -57,11 +53,11 @@ has_tokens [] = false
 has_tokens (t ∷ rest) = true
 
 -- by the open blocks, the nearest statement, the keyword and the tokens after it: words that are unsupported, `option env` and
--- `option defconfig_list`, `depends on E if F`, a prompt without quotes, a choice with anything behind its word, a menu
+-- `option defconfig_list`, `depends on E if F`, a prompt without quotes, a choice with anything after its word, a menu
 -- or a choice in a choice, a tristate choice
 abbrev pub is_unsupported : List OpenBlock → Option Keyword → Keyword → List Token → Bool
 is_unsupported blocks nearest keyword.Unsupported rest = true
-is_unsupported blocks nearest keyword.Option rest = starts_with (is_fixed (codes "env")) rest || starts_with (is_fixed (codes "defconfig_list")) rest
+is_unsupported blocks nearest keyword.Option rest = starts_with (is_word (codes "env")) rest || starts_with (is_word (codes "defconfig_list")) rest
 is_unsupported blocks nearest keyword.Depends rest = has_condition rest
 is_unsupported blocks nearest keyword.Choice rest = has_tokens rest || is_in_choice blocks
 is_unsupported blocks nearest keyword.Menu rest = starts_with is_unquoted rest || is_in_choice blocks
@@ -87,23 +83,42 @@ stays_open (b ∷ bs) = true
 abbrev pub leaves_open : List OpenBlock → ℕ → Bool
 leaves_open blocks run = list_any (λ b. b.run == run) blocks
 
--- ---- the problem of a line, before its form is looked at
+-- ---- problems in their order
+-- a problem, and whether a line has it
+pub record Test : Type 0 where
+  pub problem : LineProblem
+  pub holds : Bool
+
+abbrev pub test : LineProblem → Bool → Test
+test problem holds = record { problem = problem; holds = holds }
+
+-- the first that holds
+abbrev pub first_problem : List Test → Option LineProblem
+first_problem [] = None
+first_problem (t ∷ tests) = if t.holds then Some t.problem else first_problem tests
+
+-- ---- the problems of a line, before its form is looked at
 -- by the lines before, the last first; `is_last` says that no line follows
 abbrev pub block_problem : List LineValue → Bool → Keyword → LineValue → Bool
 block_problem earlier is_last k l =
     closes_wrongly (open_blocks earlier) k l.run || (is_last && stays_open (open_blocks (l ∷ earlier)))
 
+-- of a line that begins with this keyword: K20, K06, K07, and K01 of parentheses
 abbrev pub word_problem : List LineValue → Bool → Keyword → LineValue → Option LineProblem
-word_problem earlier is_last k l =
-    if is_unsupported (open_blocks earlier) (nearest_statement earlier) k (drop 1 l.tokens) then Some Unsupported
-    else (if is_stray (nearest_statement earlier) k then Some StrayAttribute
-    else (if block_problem earlier is_last k l then Some UnbalancedBlock
-    else (if nests_too_deep l.tokens then Some Limit else None)))
+word_problem earlier is_last k l = first_problem (
+    test Unsupported (is_unsupported (open_blocks earlier) (nearest_statement earlier) k (drop 1 l.tokens))
+    ∷ test StrayAttribute (is_stray (nearest_statement earlier) k)
+    ∷ test UnbalancedBlock (block_problem earlier is_last k l)
+    ∷ test Limit (nests_too_deep l.tokens)
+    ∷ [])
 
--- an end of file closes no block: those of its run are left open
+-- of an end of file, which closes no block: those of its run are left open (K07)
 abbrev pub end_problem : List OpenBlock → Bool → LineValue → Option LineProblem
-end_problem blocks is_last l = if leaves_open blocks l.run || (is_last && stays_open blocks) then Some UnbalancedBlock else None
+end_problem blocks is_last l = first_problem (
+    test UnbalancedBlock (leaves_open blocks l.run || (is_last && stays_open blocks))
+    ∷ [])
 
+-- a line that begins with no keyword is unknown (K04)
 abbrev pub kind_problem : List LineValue → Bool → LineKind → LineValue → Option LineProblem
 kind_problem earlier is_last EndOfFile l = end_problem (open_blocks earlier) is_last l
 kind_problem earlier is_last StatementLine l =
@@ -112,7 +127,7 @@ kind_problem earlier is_last StatementLine l =
 abbrev pub early_problem : List LineValue → Bool → LineValue → Option LineProblem
 early_problem earlier is_last l = kind_problem earlier is_last l.kind l
 
--- ---- the problem of a line that has a form: a default of a choice that is no name, a block too deep, a symbol too many
+-- ---- the problems of a line that has a form
 -- the name that a term is, defined or not
 abbrev pub is_name_term : Option Term → Bool
 is_name_term (Some (Symbol s)) = true
@@ -131,10 +146,12 @@ abbrev pub is_past_limit : Statement → Bool
 is_past_limit (Config None) = true
 is_past_limit _ = false
 
+-- K05 of a default of a choice, and K01 of blocks and of symbols
 abbrev pub late_problem : List LineValue → LineValue → Statement → Option LineProblem
-late_problem earlier l s =
-    if is_no_choice_default (nearest_statement earlier) s then Some Malformed
-    else (if opens_too_deep (open_blocks earlier) l || is_past_limit s then Some Limit else None)
+late_problem earlier l s = first_problem (
+    test Malformed (is_no_choice_default (nearest_statement earlier) s)
+    ∷ test Limit (opens_too_deep (open_blocks earlier) l || is_past_limit s)
+    ∷ [])
 
 -- ---- the fault of a line
 -- the line says this, and has no problem
@@ -143,7 +160,8 @@ pub record IsSound (names : List (List ℕ)) (earlier : List LineValue) (is_last
   pub form : HasForm names l s
   pub late : late_problem earlier l s ≡ None
 
--- the line has this problem, and none that comes before it
+-- the line has this problem, and none that comes before it: one before its form is looked at, no form (K05), or one of
+-- the statement that it is
 abbrev pub HasProblem : List (List ℕ) → List LineValue → Bool → LineValue → LineProblem → Type 0
 HasProblem names earlier is_last l problem =
     (early_problem earlier is_last l ≡ Some problem)

@@ -1,26 +1,53 @@
--- What is known while lines are read: this project's own.
-use Rattle.std.specs.Prelude.{◌≡◌, ℕ, Bool, List, reverse}
+-- Steps: what is known while lines are read. No public contract reaches it.
+use Rattle.std.specs.Prelude.{◌≡◌, ℕ, ◌+◌, ◌==◌, Bool, List, [], ◌∷◌, reverse}
 use Rattle.kc_text.specs.LineValue.{LineValue}
 use Rattle.kc_outline.specs.declared.fault.LineFault.{LineFault}
 use Rattle.kc_outline.specs.declared.fault.LineFault.TheVariants as fault
 use Rattle.kc_outline.specs.declared.fault.LineProblem.{LineProblem}
 use Rattle.kc_outline.specs.declared.all_lines.Stop.{Stop}
 use Rattle.kc_outline.specs.declared.all_lines.Stop.TheVariants.{Problem, NoMemory}
-use Rattle.kc_outline.specs.LineFaults.{HasProblem}
-use Rattle.kc_outline.specs.TreeOf.{Reading, AreReadingsBefore, tree_of}
+use Rattle.kc_statement.specs.declared.statement.Statement.{Statement}
+use Rattle.kc_statement.specs.Statements.{HasForm}
+use Rattle.kc_outline.specs.LineFaults.{HasProblem, IsSound}
+use Rattle.kc_outline.specs.TreeOf.{Reading, IsReading, tree_of}
 use Rattle.kc_outline.specs.Outline.{AreMade}
 use Rattle.kc_outline.specs.TreeValue.{TreeValue}
+
+-- no line has a problem, and each is read as its reading; the last come first, and so many lines follow
+abbrev pub AreReadingsBefore : List (List ℕ) → ℕ → List LineValue → List Reading → Type 0
+AreReadingsBefore names following [] [] = Unit {0}
+AreReadingsBefore names following [] (r ∷ rs) = ⊥
+AreReadingsBefore names following (l ∷ earlier) [] = ⊥
+AreReadingsBefore names following (l ∷ earlier) (r ∷ rs) =
+    IsReading names earlier (following == 0) l r × AreReadingsBefore names (following + 1) earlier rs
+
+-- the line says nothing else
+abbrev pub IsOnlyForm : List (List ℕ) → LineValue → Statement → Type 0
+IsOnlyForm names l s = (other : Statement) → HasForm names l other → other ≡ s
+
+-- no line says anything but what its reading says
+abbrev pub AreOnlyForms : List (List ℕ) → List LineValue → List Reading → Type 0
+AreOnlyForms names [] rs = Unit {0}
+AreOnlyForms names (l ∷ earlier) [] = ⊥
+AreOnlyForms names (l ∷ earlier) (r ∷ rs) = IsOnlyForm names l r.statement × AreOnlyForms names earlier rs
 
 -- the lines before, the last first, are read, and the outline is their tree
 pub record IsOutlineAfter (names : List (List ℕ)) (following : ℕ) (earlier : List LineValue) (t : TreeValue) : Type 0 where
   pub readings : List Reading
   pub read : AreReadingsBefore names following earlier (reverse readings)
+  pub only : AreOnlyForms names earlier (reverse readings)
   pub tree : t ≡ tree_of names readings
   pub made : AreMade readings
 
+-- the line has this problem alone
+pub record IsOnlyProblem (names : List (List ℕ)) (earlier : List LineValue) (is_last : Bool) (l : LineValue) (problem : LineProblem) : Type 0 where
+  pub has : HasProblem names earlier is_last l problem
+  pub only : (other : LineProblem) → HasProblem names earlier is_last l other → other ≡ problem
+  pub unsound : (s : Statement) → IsSound names earlier is_last l s → ⊥
+
 -- a line is not taken for a problem that it has, or for lack of memory
 abbrev pub IsStop : List (List ℕ) → List LineValue → Bool → LineValue → Stop → Type 0
-IsStop names earlier is_last l (Problem problem) = HasProblem names earlier is_last l problem
+IsStop names earlier is_last l (Problem problem) = IsOnlyProblem names earlier is_last l problem
 IsStop names earlier is_last l NoMemory = Unit {0}
 
 -- the fault tells the problem, with the line's path and number, if memory serves

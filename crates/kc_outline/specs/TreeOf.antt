@@ -1,6 +1,6 @@
 -- The tree of logical lines: kconfig-language.rst, "Menu entries", "Menu attributes", "Menu dependencies" and "Menu
 -- structure". Each part of the tree is found from the whole list of what the lines say and where they stand.
-use Rattle.std.specs.Prelude.{◌≡◌, ℕ, ◌+◌, ◌==◌, Bool, true, false, not, ◌&&◌, List, [], ◌∷◌, ◌++◌, Option, Some, None, option_map, if◌then◌else◌, nat_lt, length, map, reverse, filter_map, slice_get}
+use Rattle.std.specs.Prelude.{◌≡◌, ℕ, ◌+◌, ◌==◌, Bool, true, false, ◌&&◌, List, [], ◌∷◌, ◌++◌, Option, Some, None, option_map, if◌then◌else◌, option_and_then, length, map, filter_map, slice_get, take}
 use Rattle.std.specs.List.{list_any, range_with_len}
 use Rattle.kc_text.specs.LineValue.{LineValue}
 use Rattle.kc_statement.specs.declared.id.SymId.{SymId}
@@ -15,7 +15,6 @@ use Rattle.kc_statement.specs.declared.attribute.Range.{Range}
 use Rattle.kc_outline.specs.declared.choice.ChoiceDefault.{ChoiceDefault}
 use Rattle.kc_statement.specs.Grammar.{term_alone}
 use Rattle.kc_statement.specs.declared.symbol_type.SymbolType.{SymbolType}
-use Rattle.kc_statement.specs.declared.symbol_type.SymbolType.TheVariants as kind
 use Rattle.kc_outline.specs.declared.symbol.Reverse.{Reverse}
 use Rattle.kc_outline.specs.declared.block.BlockKind.{BlockKind}
 use Rattle.kc_outline.specs.declared.block.BlockKind.TheVariants as block_kind
@@ -26,11 +25,11 @@ use Rattle.kc_statement.specs.declared.statement.Statement.TheVariants as statem
 use Rattle.kc_outline.specs.declared.entry.Entry.{Entry}
 use Rattle.kc_outline.specs.declared.entry.Entry.TheVariants as entry
 use Rattle.kc_statement.specs.Names.{names_of}
-use Rattle.kc_outline.specs.Enclosing.{open_blocks, innermost, choice_among, owner_at}
+use Rattle.kc_outline.specs.Enclosing.{before, open_blocks, innermost, choice_among, owner_at}
 use Rattle.kc_outline.specs.LineFaults.{IsSound}
 use Rattle.kc_outline.specs.TreeValue.{TreeValue, SymbolValue, DefinitionValue, BlockValue, ChoiceValue, CommentValue}
 
--- ---- what a line says and where it stands: the innermost block and the choice that are open before it, and what
+-- ---- what a line says and where it is: the innermost block and the choice that are open before it, and what
 -- owns it
 pub record Reading : Type 0 where
   pub statement : Statement
@@ -38,24 +37,27 @@ pub record Reading : Type 0 where
   pub choice : Option ChoiceId
   pub owner : Option Owner
 
--- a line after those before it, which stand in reverse, is read as this
+-- a line after those before it, which are in reverse, is read as this
 pub record IsReading (names : List (List ℕ)) (earlier : List LineValue) (is_last : Bool) (l : LineValue) (r : Reading) : Type 0 where
   pub sound : IsSound names earlier is_last l r.statement
   pub block : r.block ≡ innermost (open_blocks earlier)
   pub choice : r.choice ≡ choice_among (open_blocks earlier)
   pub owner : r.owner ≡ owner_at names (l ∷ earlier)
 
--- no line has a problem, and each is read as its reading, in their order; so many lines follow
-abbrev pub AreReadingsBefore : List (List ℕ) → ℕ → List LineValue → List Reading → Type 0
-AreReadingsBefore names following [] [] = Unit {0}
-AreReadingsBefore names following [] (r ∷ rs) = ⊥
-AreReadingsBefore names following (l ∷ earlier) [] = ⊥
-AreReadingsBefore names following (l ∷ earlier) (r ∷ rs) =
-    IsReading names earlier (following == 0) l r × AreReadingsBefore names (following + 1) earlier rs
+-- the line at this place is read as this
+pub record IsReadingAt (lines : List LineValue) (i : ℕ) (r : Reading) : Type 0 where
+  pub line : LineValue
+  pub is : slice_get lines i ≡ Some line
+  pub reads : IsReading (names_of lines) (before lines i) (i + 1 == length lines) line r
+
+-- the first so many lines have no problem, and these are their readings in their order
+pub record AreFirstReadings (lines : List LineValue) (count : ℕ) (rs : List Reading) : Type 0 where
+  pub many : length rs ≡ count
+  pub each : (i : ℕ) (r : Reading) → slice_get rs i ≡ Some r → IsReadingAt lines i r
 
 -- the readings of lines
 abbrev pub AreReadings : List LineValue → List Reading → Type 0
-AreReadings lines rs = AreReadingsBefore (names_of lines) 0 (reverse lines) (reverse rs)
+AreReadings lines rs = AreFirstReadings lines (length lines) rs
 
 -- ---- what a statement has
 abbrev pub type_in : Statement → Option SymbolType
@@ -140,21 +142,28 @@ abbrev pub defined_in : Statement → Option SymId
 defined_in (statement.Config s) = s
 defined_in _ = None
 
--- the j-th, whose line stands in this block
-abbrev pub definition_at : List Reading → ℕ → Option BlockId → SymId → DefinitionValue
-definition_at rs j block s = record {
-  symbol = s;
-  block = block;
+-- what a line that makes a definition says of it, and the block that the line is in
+pub record DefinitionLine : Type 0 where
+  pub symbol : SymId
+  pub block : Option BlockId
+
+abbrev pub definition_line : Option BlockId → Statement → Option DefinitionLine
+definition_line block s = option_map (λ d. record { symbol = d; block = block }) (defined_in s)
+
+-- in the order of the lines
+abbrev pub definition_lines : List Reading → List DefinitionLine
+definition_lines rs = filter_map (λ r. definition_line r.block r.statement) rs
+
+-- the j-th, by its line
+abbrev pub definition_at : List Reading → ℕ → DefinitionLine → DefinitionValue
+definition_at rs j line = record {
+  symbol = line.symbol;
+  block = line.block;
   depends = said (is_of_definition j) depends_in rs;
-  prompt = slice_get (said (is_of_definition j) prompt_in rs) 0;
-  has_second_prompt = nat_lt 1 (length (said (is_of_definition j) prompt_in rs));
+  prompts = said (is_of_definition j) prompt_in rs;
   defaults = said (is_of_definition j) default_in rs;
   ranges = said (is_of_definition j) range_in rs;
 }
-
--- the blocks and symbols of the definitions, in the order of their lines
-abbrev pub definition_heads : List Reading → List (Option BlockId × SymId)
-definition_heads rs = filter_map (λ r. option_map (λ s. (r.block, s)) (defined_in r.statement)) rs
 
 -- what a function makes of each element and its place, counted from a number
 abbrev pub map_placed : {A B : Type 0} → (ℕ → A → B) → ℕ → List A → List B
@@ -162,21 +171,9 @@ map_placed f k [] = []
 map_placed f k (x ∷ xs) = f k x ∷ map_placed f (k + 1) xs
 
 abbrev pub definitions_in : List Reading → List DefinitionValue
-definitions_in rs = map_placed (λ j h. definition_at rs j h.0 h.1) 0 (definition_heads rs)
+definitions_in rs = map_placed (definition_at rs) 0 (definition_lines rs)
 
 -- ---- symbols
-abbrev pub same_type : SymbolType → SymbolType → Bool
-same_type kind.Bool kind.Bool = true
-same_type kind.Tristate kind.Tristate = true
-same_type kind.String kind.String = true
-same_type kind.Int kind.Int = true
-same_type kind.Hex kind.Hex = true
-same_type _ _ = false
-
-abbrev pub differ_from_first : List SymbolType → Bool
-differ_from_first [] = false
-differ_from_first (k ∷ ks) = list_any (λ j. not (same_type k j)) ks
-
 -- the number of the definition that a line makes of a symbol
 abbrev pub defines : SymId → Statement → Bool
 defines s (statement.Config (Some d)) = d.0 == s.0
@@ -192,7 +189,7 @@ definition_number s r = if defines s r.statement then number_in r.owner else Non
 abbrev pub choice_at_definition : SymId → Reading → Option ChoiceId
 choice_at_definition s r = if defines s r.statement then r.choice else None
 
--- a `select` or an `imply` of a symbol, and where it stands
+-- a `select` or an `imply` of a symbol, and where it is
 abbrev pub reverse_at : SymId → Option SymId → Option Expr → Option Owner → Option Reverse
 reverse_at s (Some target) c (Some (owner.Definition by j)) =
     if target.0 == s.0 then Some (record { by = by; definition = j; condition = c }) else None
@@ -212,8 +209,7 @@ implication_of s r = in_statement r.statement where
 
 abbrev pub symbol_at : List Reading → SymId → SymbolValue
 symbol_at rs s = record {
-  kind = slice_get (said (is_of_symbol s) type_in rs) 0;
-  has_other_type = differ_from_first (said (is_of_symbol s) type_in rs);
+  types = said (is_of_symbol s) type_in rs;
   choice = slice_get (filter_map (choice_at_definition s) rs) 0;
   definitions = filter_map (definition_number s) rs;
   selected = filter_map (selection_of s) rs;
@@ -228,27 +224,32 @@ abbrev pub symbols_in : ℕ → List Reading → List SymbolValue
 symbols_in count rs = map (λ k. symbol_at rs (record { 0 = k })) (range_with_len 0 count)
 
 -- ---- blocks
--- what opens a block, and what it says itself
-abbrev pub opened_in : Statement → Option (BlockKind × List Expr)
-opened_in (statement.Menu title) = Some (block_kind.Menu title, [])
-opened_in (statement.If e) = Some (block_kind.If, e ∷ [])
-opened_in statement.Choice = Some (block_kind.Choice, [])
-opened_in _ = None
+-- what a line that opens a block says of it, and the block that the line is in
+pub record BlockLine : Type 0 where
+  pub kind : BlockKind
+  pub depends : List Expr
+  pub parent : Option BlockId
 
-abbrev pub block_heads : List Reading → List (Option BlockId × (BlockKind × List Expr))
-block_heads rs = filter_map (λ r. option_map (λ o. (r.block, o)) (opened_in r.statement)) rs
+abbrev pub block_line : Option BlockId → Statement → Option BlockLine
+block_line parent (statement.Menu title) = Some (record { kind = block_kind.Menu title; depends = []; parent = parent })
+block_line parent (statement.If e) = Some (record { kind = block_kind.If; depends = e ∷ []; parent = parent })
+block_line parent statement.Choice = Some (record { kind = block_kind.Choice; depends = []; parent = parent })
+block_line parent _ = None
 
--- the b-th, whose line stands in this block
-abbrev pub block_at : List Reading → ℕ → Option BlockId → BlockKind × List Expr → BlockValue
-block_at rs b parent o = record {
-  kind = o.0;
-  parent = parent;
-  depends = o.1 ++ said (is_of_block b) depends_in rs;
+abbrev pub block_lines : List Reading → List BlockLine
+block_lines rs = filter_map (λ r. block_line r.block r.statement) rs
+
+-- the b-th, by its line
+abbrev pub block_at : List Reading → ℕ → BlockLine → BlockValue
+block_at rs b line = record {
+  kind = line.kind;
+  parent = line.parent;
+  depends = line.depends ++ said (is_of_block b) depends_in rs;
   visible = said (is_of_block b) visible_in rs;
 }
 
 abbrev pub blocks_in : List Reading → List BlockValue
-blocks_in rs = map_placed (λ b h. block_at rs b h.0 h.1) 0 (block_heads rs)
+blocks_in rs = map_placed (block_at rs) 0 (block_lines rs)
 
 -- ---- choices
 -- the block of the choice that a line makes
@@ -256,8 +257,8 @@ abbrev pub choice_block : Statement → Option Owner → Option BlockId
 choice_block statement.Choice (Some (owner.Choice c b)) = Some b
 choice_block _ o = None
 
-abbrev pub choice_heads : List Reading → List BlockId
-choice_heads rs = filter_map (λ r. choice_block r.statement r.owner) rs
+abbrev pub choice_blocks : List Reading → List BlockId
+choice_blocks rs = filter_map (λ r. choice_block r.statement r.owner) rs
 
 -- what a default says: the symbol of its name, where there is one, and its condition
 abbrev pub named_symbol : Option Term → Option SymId
@@ -282,34 +283,43 @@ member_of c r = if is_in c r.choice then defined_in r.statement else None where
 abbrev pub choice_at : List Reading → ℕ → BlockId → ChoiceValue
 choice_at rs c block = record {
   block = block;
-  prompt = slice_get (said (is_of_choice c) prompt_in rs) 0;
-  has_second_prompt = nat_lt 1 (length (said (is_of_choice c) prompt_in rs));
+  prompts = said (is_of_choice c) prompt_in rs;
   defaults = said (is_of_choice c) choice_default_in rs;
   members = filter_map (member_of c) rs;
   is_optional = is_said (is_of_choice c) says_optional rs;
 }
 
 abbrev pub choices_in : List Reading → List ChoiceValue
-choices_in rs = map_placed (λ c b. choice_at rs c b) 0 (choice_heads rs)
+choices_in rs = map_placed (choice_at rs) 0 (choice_blocks rs)
 
 -- ---- comments
 abbrev pub title_in : Statement → Option (List ℕ)
 title_in (statement.Comment title) = Some title
 title_in _ = None
 
-abbrev pub comment_heads : List Reading → List (Option BlockId × (Option ChoiceId × List ℕ))
-comment_heads rs = filter_map (λ r. option_map (λ title. (r.block, (r.choice, title))) (title_in r.statement)) rs
+-- what a comment's line says, and where it is
+pub record CommentLine : Type 0 where
+  pub title : List ℕ
+  pub block : Option BlockId
+  pub choice : Option ChoiceId
 
-abbrev pub comment_at : List Reading → ℕ → Option BlockId → Option ChoiceId × List ℕ → CommentValue
-comment_at rs c block o = record {
-  title = o.1;
-  block = block;
-  choice = o.0;
+abbrev pub comment_line : Option BlockId → Option ChoiceId → Statement → Option CommentLine
+comment_line block choice s = option_map (λ title. record { title = title; block = block; choice = choice }) (title_in s)
+
+abbrev pub comment_lines : List Reading → List CommentLine
+comment_lines rs = filter_map (λ r. comment_line r.block r.choice r.statement) rs
+
+-- the c-th, by its line
+abbrev pub comment_at : List Reading → ℕ → CommentLine → CommentValue
+comment_at rs c line = record {
+  title = line.title;
+  block = line.block;
+  choice = line.choice;
   depends = said (is_of_comment c) depends_in rs;
 }
 
 abbrev pub comments_in : List Reading → List CommentValue
-comments_in rs = map_placed (λ c h. comment_at rs c h.0 h.1) 0 (comment_heads rs)
+comments_in rs = map_placed (comment_at rs) 0 (comment_lines rs)
 
 -- ---- entries
 -- a symbol at its first definition, and again at the others
@@ -342,17 +352,12 @@ entry_at earlier r = in_statement r.statement where
   in_statement (statement.Comment title) = comment_entry r.owner
   in_statement _ = None
 
-abbrev pub with_entry : List Entry → Option Entry → List Entry
-with_entry es None = es
-with_entry es (Some e) = es ++ e ∷ []
-
--- of readings in reverse, the last first
-abbrev pub entries_before : List Reading → List Entry
-entries_before [] = []
-entries_before (r ∷ earlier) = with_entry (entries_before earlier) (entry_at (reverse earlier) r)
+-- the entry of the line at a place
+abbrev pub entry_in : List Reading → ℕ → Option Entry
+entry_in rs i = option_and_then (entry_at (take i rs)) (slice_get rs i)
 
 abbrev pub entries_in : List Reading → List Entry
-entries_in rs = entries_before (reverse rs)
+entries_in rs = filter_map (entry_in rs) (range_with_len 0 (length rs))
 
 -- ---- the tree
 abbrev pub tree_of : List (List ℕ) → List Reading → TreeValue

@@ -1,5 +1,5 @@
 -- A tree as contracts see it: this project's own record of what its lines say.
-use Rattle.std.specs.Prelude.{ℕ, zero, suc, Bool, List, [], ◌∷◌, Option, Some, None, option_and_then, unwrap_or, filter_map, slice_get, slice_index_or, codes}
+use Rattle.std.specs.Prelude.{ℕ, zero, suc, Bool, true, false, List, [], ◌∷◌, Option, Some, None, option_and_then, unwrap_or, filter_map, slice_get, slice_index_or, codes}
 use Rattle.std.specs.Option.{option_map_or}
 use Rattle.kc_statement.specs.declared.id.SymId.{SymId}
 use Rattle.kc_statement.specs.Names.{symbol_among}
@@ -11,29 +11,27 @@ use Rattle.kc_statement.specs.declared.attribute.DefaultValue.{DefaultValue}
 use Rattle.kc_statement.specs.declared.attribute.Range.{Range}
 use Rattle.kc_outline.specs.declared.choice.ChoiceDefault.{ChoiceDefault}
 use Rattle.kc_statement.specs.declared.symbol_type.SymbolType.{SymbolType}
-use Rattle.kc_statement.specs.declared.symbol_type.SymbolType.TheVariants.{Bool as BoolType}
+use Rattle.kc_statement.specs.declared.symbol_type.SymbolType.TheVariants as kind
 use Rattle.kc_outline.specs.declared.symbol.Reverse.{Reverse}
 use Rattle.kc_outline.specs.declared.block.BlockKind.{BlockKind}
 use Rattle.kc_outline.specs.declared.entry.Entry.{Entry}
 use Rattle.kc_outline.specs.declared.limits.TheConstants.{MOST_OPEN_BLOCKS}
 
--- one definition of a symbol: the innermost block around it, its own `depends on` lines, its first prompt and
--- whether it has another, and its defaults and ranges, in the order of the lines
+-- one definition of a symbol: the innermost block around it, and its own `depends on` lines, prompts, defaults and
+-- ranges, each in the order of the lines
 pub record DefinitionValue : Type 0 where
   pub symbol : SymId
   pub block : Option BlockId
   pub depends : List Expr
-  pub prompt : Option Prompt
-  pub has_second_prompt : Bool
+  pub prompts : List Prompt
   pub defaults : List DefaultValue
   pub ranges : List Range
 
--- a symbol: its first type and whether a line gives it another, the choice that it is a member of, the numbers of its
+-- a symbol: the types that lines give it, in their order, the choice that it is a member of, the numbers of its
 -- definitions, the `select` and `imply` lines that name it, whether it has such lines of its own, and whether it has a
 -- `modules` and an `option allnoconfig_y` line
 pub record SymbolValue : Type 0 where
-  pub kind : Option SymbolType
-  pub has_other_type : Bool
+  pub types : List SymbolType
   pub choice : Option ChoiceId
   pub definitions : List ℕ
   pub selected : List Reverse
@@ -49,17 +47,16 @@ pub record BlockValue : Type 0 where
   pub depends : List Expr
   pub visible : List Expr
 
--- a choice: its block, whose `depends on` lines are its own, its first prompt and whether it has another, its defaults
--- and its members, in the order of the lines, and whether it has an `optional` line
+-- a choice: its block, whose `depends on` lines are its own, its prompts, defaults and members, each in the order of the
+-- lines, and whether it has an `optional` line
 pub record ChoiceValue : Type 0 where
   pub block : BlockId
-  pub prompt : Option Prompt
-  pub has_second_prompt : Bool
+  pub prompts : List Prompt
   pub defaults : List ChoiceDefault
   pub members : List SymId
   pub is_optional : Bool
 
--- a comment: its text, the innermost block around it and the choice that it stands in, and its `depends on` lines
+-- a comment: its text, the innermost block around it and the choice that it is in, and its `depends on` lines
 pub record CommentValue : Type 0 where
   pub title : List ℕ
   pub block : Option BlockId
@@ -85,9 +82,25 @@ symbol_named t name = symbol_among t.names name
 abbrev pub name_of : TreeValue → SymId → List ℕ
 name_of t s = slice_index_or t.names s.0 []
 
--- the type of a symbol, bool where no line gives it one
+-- the type of a symbol: the first that a line gives it, bool where none does
 abbrev pub kind_of : SymbolValue → SymbolType
-kind_of x = unwrap_or x.kind BoolType
+kind_of x = unwrap_or (slice_get x.types 0) kind.Bool
+
+abbrev pub same_type : SymbolType → SymbolType → Bool
+same_type kind.Bool kind.Bool = true
+same_type kind.Tristate kind.Tristate = true
+same_type kind.String kind.String = true
+same_type kind.Int kind.Int = true
+same_type kind.Hex kind.Hex = true
+same_type _ _ = false
+
+-- the prompt of a definition, the first
+abbrev pub prompt_of : DefinitionValue → Option Prompt
+prompt_of d = slice_get d.prompts 0
+
+-- the prompt of a choice, the first
+abbrev pub choice_prompt_of : ChoiceValue → Option Prompt
+choice_prompt_of c = slice_get c.prompts 0
 
 -- the symbol that says whether modules are built
 abbrev pub modules_symbol : TreeValue → Option SymId
@@ -113,4 +126,4 @@ choice_of t s = option_and_then (λ x. x.choice) (slice_get t.symbols s.0)
 
 -- the text of a choice's prompt, empty for one that has none
 abbrev pub choice_title : TreeValue → ChoiceId → List ℕ
-choice_title t c = option_map_or (λ x. x.text) (option_and_then (λ x. x.prompt) (slice_get t.choices c.0)) []
+choice_title t c = option_map_or (λ x. x.text) (option_and_then choice_prompt_of (slice_get t.choices c.0)) []

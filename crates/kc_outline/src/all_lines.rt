@@ -1,6 +1,6 @@
 //! From logical lines to what they define, or the first fault.
 
-ghost use Rattle.std.specs.Prelude.{◌≡◌, ◌≤◌, ◌+◌, ◌^◌, ◌==◌, ◌∷◌, List, All, count_by, length, nat_lt, IfOk, IfErr, OnOk};
+ghost use Rattle.std.specs.Prelude.{◌≡◌, ℕ, ◌≤◌, ◌+◌, ◌^◌, ◌==◌, ◌∷◌, List, All, count_by, length, IfOk, IfErr, OnOk};
 ghost use Rattle.kc_outline.specs.Entries.{AreMenusClosed, IsEntryOf, first_symbols, symbol_ids};
 ghost use Rattle.kc_outline.specs.Members.{AreMembersListed};
 ghost use Rattle.kc_outline.specs.NameList.{AreNames};
@@ -8,13 +8,17 @@ ghost use Rattle.kc_text.specs.LineValue.{LineValue};
 ghost use Rattle.kc_statement.specs.Keywords.{is_choice};
 ghost use Rattle.kc_outline.specs.TreeOf.{IsOutlineOf};
 ghost use Rattle.kc_outline.specs.ContextAfter.{HasRoom, IsContextAfter};
-ghost use Rattle.kc_outline.specs.FirstProblem.{IsReadFault};
+ghost use Rattle.kc_outline.specs.Blocks.{AreBlocksEnclosing, AreOpenAt};
+ghost use Rattle.kc_outline.specs.TreeValue.{TreeValue};
+ghost use Rattle.kc_outline.specs.declared.fault.LineFault as fault;
+ghost use Rattle.kc_outline.specs.declared.fault.LineFault.TheVariants.{NoMemory};
+ghost use Rattle.kc_outline.specs.FirstProblem.{AreRefusedFor, IsReadFault};
 ghost use Rattle.kc_outline.specs.Reader.{IsOutlineAfter, IsStop, IsReportedFor};
 ghost use Rattle.kc_statement.specs.declared.limits.TheConstants.{MOST_SYMBOLS};
+ghost use Rattle.kc_text.specs.declared.reading.TheConstants.{MOST_LINES};
 
 use crate::context::Context;
 use crate::fault::{LineFault, LineProblem};
-use crate::limits::MOST_LINES;
 use crate::line_faults::{early_problem, late_problem};
 use crate::outline::Outline;
 use kc_statement::{Seed, Statement, read_keyword, read_names, read_statement};
@@ -48,7 +52,7 @@ fn refused(statement: Statement, stop: Stop) -> Stop
     stop
 }
 
-/// Reads a line behind those that the outline and the context are of. So many lines follow it.
+/// Reads a line after those that the outline and the context are of. So many lines follow it.
 fn read_line(
     alloc: Global,
     outline: &mut Outline,
@@ -90,13 +94,6 @@ fn read_line(
     Ok(())
 }
 
-/// Whether there are more lines than are read.
-fn are_too_many(lines: &[Line<'_>]) -> bool
-    ensures { result ≡ nat_lt (2 ^ 30) (length lines.now) }
-{
-    lines.len() > MOST_LINES
-}
-
 /// The fault of a line that was not added, or that its path could not be copied.
 fn line_fault(alloc: Global, stop: Stop, line: &Line<'_>) -> LineFault
     ensures { IsReportedFor stop line.now result }
@@ -114,16 +111,18 @@ fn line_fault(alloc: Global, stop: Stop, line: &Line<'_>) -> LineFault
     }
 }
 
-/// What logical lines define (kconfig-language.rst, "Menu entries" and "Menu structure"). Its names are kept under the
-/// hash of a seed.
+/// What logical lines define (kconfig-language.rst, "Menu entries" and "Menu structure"), which are no more than
+/// `logical_lines` gives. Its names are kept under the hash of a seed.
 ///
 /// # Errors
 ///
 /// - `LineFault::At` with the first line that has a problem: K04 its word is unknown, K20 it is unsupported, K06 its
 ///   attribute belongs to nothing that takes it, K07 a block is closed wrongly or left open, K05 its form, and K01 a limit
 ///   of parentheses, blocks or symbols.
-/// - `LineFault::NoMemory` where memory was refused, and for more than 2^30 lines.
+/// - `LineFault::NoMemory` where memory was refused.
+#[tactic(auto, using(crate::proofs::BlockLaws::open_at))]
 pub fn read_outline(alloc: Global, seed: Seed, lines: &[Line<'_>]) -> Result<Outline, LineFault>
+    requires { length lines.now ≤ MOST_LINES }
     ensures outline { IfOk result (IsOutlineOf lines.now) }
     ensures few { IfOk result (λ o. length o.symbols ≤ MOST_SYMBOLS) }
     ensures few_choices { IfOk result (λ o. length o.choices ≤ 2 ^ 30) }
@@ -134,11 +133,13 @@ pub fn read_outline(alloc: Global, seed: Seed, lines: &[Line<'_>]) -> Result<Out
     ensures firsts { IfOk result (λ o. first_symbols o.entries ≡ symbol_ids o) }
     ensures menus { IfOk result AreMenusClosed }
     ensures names { IfOk result (λ o. AreNames o.names) }
+    ensures open_blocks { (j : ℕ) → j ≤ length lines.now → AreOpenAt lines.now j }
+    ensures enclosing { IfOk result (AreBlocksEnclosing lines.now) }
+    ensures only { IfOk result (λ o. (t : TreeValue) → IsOutlineOf lines.now t → t ≡ o) }
+    ensures exact { IfOk result (λ o. (f : fault.LineFault) → IsReadFault lines.now f → f ≡ NoMemory) }
     ensures fault { IfErr result (IsReadFault lines.now) }
+    ensures refused { IfErr result (AreRefusedFor lines.now) }
 {
-    if are_too_many(lines) {
-        return Err(LineFault::NoMemory);
-    }
     let names = read_names(alloc, seed, lines)?;
     let mut outline = Outline::new(alloc, names)?;
     let mut context = Context::new(alloc);

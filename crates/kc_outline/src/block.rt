@@ -1,5 +1,5 @@
-ghost use Rattle.std.specs.Prelude.{◌≡◌, None, Some, [], OnOk};
-ghost use Rattle.kc_outline.specs.Adding.{new_block, block_after, new_comment, comment_after};
+ghost use Rattle.std.specs.Prelude.{◌≡◌, OnOk};
+ghost use Rattle.kc_outline.specs.Adding.{block_with_depends, block_with_visible, comment_with_depends, new_block, new_comment};
 
 use crate::id::{BlockId, ChoiceId};
 use crate::room::push_one;
@@ -41,7 +41,7 @@ impl Model for Block {
 }
 
 impl Block {
-    /// Of which no line inside says anything yet. What all inside depends on may be known.
+    /// A block before any line inside is read. What all inside depends on may be known.
     pub(crate) fn new(
         alloc: Global,
         kind: BlockKind,
@@ -60,14 +60,14 @@ impl Block {
 
     /// Adds a `depends on` line of a menu or a choice.
     pub(crate) fn add_depends(&mut self, on: Expr) -> Result<(), AllocError>
-        ensures { OnOk result (self.new ≡ block_after (Some on) None self.old) }
+        ensures { OnOk result (self.new ≡ block_with_depends on self.old) }
     {
         push_one(&mut self.depends, on)
     }
 
     /// Adds a `visible if` line of a menu.
     pub(crate) fn add_visible(&mut self, condition: Expr) -> Result<(), AllocError>
-        ensures { OnOk result (self.new ≡ block_after None (Some condition) self.old) }
+        ensures { OnOk result (self.new ≡ block_with_visible condition self.old) }
     {
         push_one(&mut self.visible, condition)
     }
@@ -86,7 +86,7 @@ impl Block {
         self.parent
     }
 
-    /// What all that stands inside depends on: the expression of an `if`, the `depends on` lines of a menu or a choice.
+    /// What all inside depends on: the expression of an `if`, the `depends on` lines of a menu or a choice.
     pub fn depends(&self) -> &[Expr]
         ensures { result.now ≡ self.now.depends }
     {
@@ -142,7 +142,7 @@ impl Comment {
 
     /// Adds a `depends on` line.
     pub(crate) fn add_depends(&mut self, on: Expr) -> Result<(), AllocError>
-        ensures { OnOk result (self.new ≡ comment_after (Some on) self.old) }
+        ensures { OnOk result (self.new ≡ comment_with_depends on self.old) }
     {
         push_one(&mut self.depends, on)
     }
@@ -161,7 +161,7 @@ impl Comment {
         self.block
     }
 
-    /// The choice that it stands in.
+    /// The choice that it is in.
     pub fn choice(&self) -> Option<ChoiceId>
         ensures { result ≡ self.now.choice }
     {

@@ -1,11 +1,13 @@
-ghost use Rattle.std.specs.Prelude.{◌≡◌, ◌∷◌, ◌++◌, [], None, Some, true, false, OnOk};
+ghost use Rattle.std.specs.Prelude.{◌≡◌, OnOk};
 ghost use Rattle.std.specs.Option.{option_copied};
-ghost use Rattle.kc_outline.specs.Adding.{new_choice, choice_after};
+ghost use Rattle.kc_outline.specs.TreeValue.{choice_prompt_of};
+ghost use Rattle.kc_outline.specs.Adding.{choice_with_default, choice_with_member, choice_with_prompt, new_choice, optional_choice};
 ghost use Rattle.kc_outline.specs.TreeOf.{choice_default};
 
 use crate::id::BlockId;
 use crate::room::push_one;
 use kc_statement::{DefaultValue, Expr, Prompt, SymId, Term, term_alone};
+use smallvec::SmallVec;
 use std::alloc::{AllocError, Global};
 use std::marker::Model;
 
@@ -39,8 +41,7 @@ impl ChoiceDefault {
 #[derive(Debug, Drop)]
 pub struct Choice {
     pub(crate) block: BlockId,
-    pub(crate) prompt: Option<Prompt>,
-    pub(crate) has_second_prompt: bool,
+    pub(crate) prompts: SmallVec<Prompt, 1>,
     pub(crate) defaults: Vec<ChoiceDefault>,
     pub(crate) members: Vec<SymId>,
     pub(crate) is_optional: bool,
@@ -55,7 +56,7 @@ impl Model for Choice {
 
     ghost coded = { Prim.hlevel (codes, expr.the_row.coded) };
 
-    ghost view = { λ c. record { block = c.block; prompt = c.prompt; has_second_prompt = c.has_second_prompt; defaults = c.defaults.items; members = c.members.items; is_optional = c.is_optional } };
+    ghost view = { λ c. record { block = c.block; prompts = c.prompts.items; defaults = c.defaults.items; members = c.members.items; is_optional = c.is_optional } };
 }
 
 impl Choice {
@@ -65,35 +66,31 @@ impl Choice {
     {
         Choice {
             block,
-            prompt: None,
-            has_second_prompt: false,
+            prompts: SmallVec::new(alloc),
             defaults: Vec::new(alloc),
             members: Vec::new(alloc),
             is_optional: false,
         }
     }
 
-    /// Adds a prompt: the first one stays.
-    pub(crate) fn add_prompt(&mut self, prompt: Prompt)
-        ensures { self.new ≡ choice_after (Some prompt) None None false self.old }
+    /// Adds a prompt.
+    pub(crate) fn add_prompt(&mut self, prompt: Prompt) -> Result<(), AllocError>
+        ensures { OnOk result (self.new ≡ choice_with_prompt prompt self.old) }
     {
-        if self.prompt.is_some() {
-            self.has_second_prompt = true;
-        } else {
-            self.prompt = Some(prompt);
-        }
+        self.prompts.push(prompt)?;
+        Ok(())
     }
 
     /// Adds a default.
     pub(crate) fn add_default(&mut self, default: ChoiceDefault) -> Result<(), AllocError>
-        ensures { OnOk result (self.new ≡ choice_after None (Some default) None false self.old) }
+        ensures { OnOk result (self.new ≡ choice_with_default default self.old) }
     {
         push_one(&mut self.defaults, default)
     }
 
     /// Adds a member.
     pub(crate) fn add_member(&mut self, member: SymId) -> Result<(), AllocError>
-        ensures { OnOk result (self.new ≡ choice_after None None (Some member) false self.old) }
+        ensures { OnOk result (self.new ≡ choice_with_member member self.old) }
     {
         self.members.push(member)?;
         Ok(())
@@ -101,7 +98,7 @@ impl Choice {
 
     /// Adds an `optional` line.
     pub(crate) fn add_optional(&mut self)
-        ensures { self.new ≡ choice_after None None None true self.old }
+        ensures { self.new ≡ optional_choice self.old }
     {
         self.is_optional = true;
     }
@@ -113,18 +110,18 @@ impl Choice {
         self.block
     }
 
-    /// The prompt.
+    /// The prompt: the first one.
     pub fn prompt(&self) -> Option<&Prompt>
-        ensures { option_copied result ≡ self.now.prompt }
+        ensures { option_copied result ≡ choice_prompt_of self.now }
     {
-        self.prompt.as_ref()
+        self.prompts.as_slice().first()
     }
 
-    /// Whether it has two prompts or more.
-    pub fn has_second_prompt(&self) -> bool
-        ensures { result ≡ self.now.has_second_prompt }
+    /// The prompts, in the order of their lines.
+    pub fn prompts(&self) -> &[Prompt]
+        ensures { result.now ≡ self.now.prompts }
     {
-        self.has_second_prompt
+        self.prompts.as_slice()
     }
 
     /// The defaults, in the order of their lines.

@@ -1,4 +1,4 @@
-//! Where a line stands: the open blocks around it, and the statement that its attributes belong to.
+//! Where a line is: the open blocks around it, and the statement that its attributes belong to.
 
 ghost use Rattle.std.specs.Prelude.{◌≡◌, ◌+◌, ℕ, List, [], ◌∷◌, Some, None, drop, if◌then◌else◌, length, reverse, slice_get, OnOk};
 ghost use Rattle.kc_text.specs.LineValue.{LineValue};
@@ -40,7 +40,7 @@ pub(crate) struct OpenBlock {
     pub(crate) choice: Option<ChoiceId>,
 }
 
-/// The choice among blocks, the innermost of which stands last.
+/// The choice among blocks; the innermost block is last.
 fn choice_among(blocks: &[OpenBlock]) -> Option<ChoiceId>
     ensures { result ≡ choice_among (reverse blocks.now) }
 {
@@ -127,29 +127,14 @@ impl OpenBlocks {
         }
     }
 
-    /// Opens a block.
-    fn push(&mut self, block: OpenBlock) -> Result<(), AllocError>
-        ensures { OnOk result (self.new ≡ block ∷ self.old) }
-    {
-        self.blocks.push(block)?;
-        Ok(())
-    }
-
-    /// Closes the innermost block, if there is one.
-    fn pop(&mut self)
-        ensures { self.new ≡ drop 1 self.old }
-    {
-        self.blocks.pop();
-    }
-
     /// Goes past a line of this keyword. If it opens a block, this is the block.
     fn pass(&mut self, keyword: Keyword, block: OpenBlock) -> Result<(), AllocError>
         ensures { OnOk result (self.new ≡ blocks_after keyword block self.old) }
     {
         if keyword.opens() {
-            self.push(block)?;
+            self.blocks.push(block)?;
         } else if keyword.closes() {
-            self.pop();
+            self.blocks.pop();
         }
         Ok(())
     }

@@ -1,10 +1,12 @@
-ghost use Rattle.std.specs.Prelude.{◌≡◌, None, Some, OnOk};
+ghost use Rattle.std.specs.Prelude.{◌≡◌, OnOk};
 ghost use Rattle.std.specs.Option.{option_copied};
-ghost use Rattle.kc_outline.specs.Adding.{new_definition, definition_after};
+ghost use Rattle.kc_outline.specs.TreeValue.{prompt_of};
+ghost use Rattle.kc_outline.specs.Adding.{new_definition, definition_with_default, definition_with_depends, definition_with_prompt, definition_with_range};
 
 use crate::id::BlockId;
 use crate::room::push_one;
 use kc_statement::{DefaultValue, Expr, Prompt, Range, SymId};
+use smallvec::SmallVec;
 use std::alloc::{AllocError, Global};
 use std::marker::Model;
 
@@ -15,8 +17,7 @@ pub struct Definition {
     pub(crate) symbol: SymId,
     pub(crate) block: Option<BlockId>,
     pub(crate) depends: Vec<Expr>,
-    pub(crate) prompt: Option<Prompt>,
-    pub(crate) has_second_prompt: bool,
+    pub(crate) prompts: SmallVec<Prompt, 1>,
     pub(crate) defaults: Vec<DefaultValue>,
     pub(crate) ranges: Vec<Range>,
 }
@@ -30,7 +31,7 @@ impl Model for Definition {
 
     ghost coded = { Prim.hlevel (codes, expr.the_row.coded) };
 
-    ghost view = { λ d. record { symbol = d.symbol; block = d.block; depends = d.depends.items; prompt = d.prompt; has_second_prompt = d.has_second_prompt; defaults = d.defaults.items; ranges = d.ranges.items } };
+    ghost view = { λ d. record { symbol = d.symbol; block = d.block; depends = d.depends.items; prompts = d.prompts.items; defaults = d.defaults.items; ranges = d.ranges.items } };
 }
 
 impl Definition {
@@ -42,8 +43,7 @@ impl Definition {
             symbol,
             block,
             depends: Vec::new(alloc),
-            prompt: None,
-            has_second_prompt: false,
+            prompts: SmallVec::new(alloc),
             defaults: Vec::new(alloc),
             ranges: Vec::new(alloc),
         }
@@ -51,32 +51,29 @@ impl Definition {
 
     /// Adds a `depends on` line.
     pub(crate) fn add_depends(&mut self, on: Expr) -> Result<(), AllocError>
-        ensures { OnOk result (self.new ≡ definition_after (Some on) None None None self.old) }
+        ensures { OnOk result (self.new ≡ definition_with_depends on self.old) }
     {
         push_one(&mut self.depends, on)
     }
 
-    /// Adds a prompt: the first one stays.
-    pub(crate) fn add_prompt(&mut self, prompt: Prompt)
-        ensures { self.new ≡ definition_after None (Some prompt) None None self.old }
+    /// Adds a prompt.
+    pub(crate) fn add_prompt(&mut self, prompt: Prompt) -> Result<(), AllocError>
+        ensures { OnOk result (self.new ≡ definition_with_prompt prompt self.old) }
     {
-        if self.prompt.is_some() {
-            self.has_second_prompt = true;
-        } else {
-            self.prompt = Some(prompt);
-        }
+        self.prompts.push(prompt)?;
+        Ok(())
     }
 
     /// Adds a default.
     pub(crate) fn add_default(&mut self, value: DefaultValue) -> Result<(), AllocError>
-        ensures { OnOk result (self.new ≡ definition_after None None (Some value) None self.old) }
+        ensures { OnOk result (self.new ≡ definition_with_default value self.old) }
     {
         push_one(&mut self.defaults, value)
     }
 
     /// Adds a range.
     pub(crate) fn add_range(&mut self, range: Range) -> Result<(), AllocError>
-        ensures { OnOk result (self.new ≡ definition_after None None None (Some range) self.old) }
+        ensures { OnOk result (self.new ≡ definition_with_range range self.old) }
     {
         push_one(&mut self.ranges, range)
     }
@@ -102,18 +99,18 @@ impl Definition {
         self.depends.as_slice()
     }
 
-    /// The prompt.
+    /// The prompt: the first one.
     pub fn prompt(&self) -> Option<&Prompt>
-        ensures { option_copied result ≡ self.now.prompt }
+        ensures { option_copied result ≡ prompt_of self.now }
     {
-        self.prompt.as_ref()
+        self.prompts.as_slice().first()
     }
 
-    /// Whether it has two prompts or more.
-    pub fn has_second_prompt(&self) -> bool
-        ensures { result ≡ self.now.has_second_prompt }
+    /// The prompts, in the order of their lines.
+    pub fn prompts(&self) -> &[Prompt]
+        ensures { result.now ≡ self.now.prompts }
     {
-        self.has_second_prompt
+        self.prompts.as_slice()
     }
 
     /// The defaults, in the order of their lines.

@@ -1,8 +1,5 @@
 //! Why lines have no outline.
 
-ghost use Rattle.std.specs.Prelude.{◌≡◌};
-ghost use Rattle.kc_outline.specs.FirstProblem.{problem_number};
-
 use kc_text::Text;
 use std::alloc::AllocError;
 
@@ -23,22 +20,6 @@ pub enum LineProblem {
     Unsupported,
 }
 
-impl LineProblem {
-    /// The number that is printed, as 5 in `K05`.
-    pub fn number(self) -> u8
-        ensures { result ≡ problem_number self }
-    {
-        match self {
-            LineProblem::Limit => 1,
-            LineProblem::UnknownStatement => 4,
-            LineProblem::Malformed => 5,
-            LineProblem::StrayAttribute => 6,
-            LineProblem::UnbalancedBlock => 7,
-            LineProblem::Unsupported => 20,
-        }
-    }
-}
-
 /// Why lines have no outline.
 #[derive(Debug, Drop)]
 pub enum LineFault {
@@ -48,7 +29,7 @@ pub enum LineFault {
         path: Text,
         line: usize,
     },
-    /// Memory was refused, or there are more than 2^30 lines.
+    /// Memory was refused.
     NoMemory,
 }
 

@@ -23,6 +23,6 @@ pub use definition::Definition;
 pub use entry::Entry;
 pub use fault::{LineFault, LineProblem};
 pub use id::{BlockId, ChoiceId, CommentId};
-pub use limits::{MOST_LINES, MOST_OPEN_BLOCKS};
+pub use limits::MOST_OPEN_BLOCKS;
 pub use outline::Outline;
 pub use symbol::{Reverse, Symbol};

@@ -4,40 +4,29 @@ ghost use Rattle.std.specs.Prelude.{◌≡◌, Some, List, drop};
 ghost use Rattle.std.specs.List.{list_any};
 ghost use Rattle.std.specs.Option.{option_copied};
 ghost use Rattle.kc_text.specs.LineValue.{LineValue};
+ghost use Rattle.kc_statement.specs.Forms.{is_word};
 ghost use Rattle.kc_statement.specs.Keywords.{keyword_of};
-ghost use Rattle.kc_outline.specs.LineFaults.{block_problem, closes_wrongly, early_problem, end_problem, has_condition, is_fixed, is_in_choice, is_unsupported, is_name_term, is_no_choice_default, is_of_choice, is_past_limit, is_stray, is_unquoted, late_problem, opens_too_deep, starts_with, word_problem};
+ghost use Rattle.kc_outline.specs.LineFaults.{block_problem, closes_wrongly, early_problem, end_problem, is_unsupported, is_name_term, is_no_choice_default, is_of_choice, is_past_limit, is_stray, is_unquoted, late_problem, opens_too_deep, starts_with, word_problem};
 ghost use Rattle.kc_outline.specs.Enclosing.{open_blocks, nearest_statement};
 
 use crate::context::{Context, OpenBlocks};
 use crate::fault::LineProblem;
 use crate::limits::MOST_OPEN_BLOCKS;
-use kc_statement::{Keyword, Statement, Term, is_name, nests_too_deep, term_alone};
+use kc_statement::{Keyword, Statement, Term, is_name, is_word, nests_too_deep, term_alone};
 use kc_text::{Line, LineKind, Token};
-
-/// Whether a token is this word, unquoted and without reference.
-fn is_fixed(word: &str, token: &Token<'_>) -> bool
-    ensures { result ≡ is_fixed word.now token.now }
-{
-    match token {
-        Token::Word(text) => text.as_str() == word,
-        Token::Expanded(_) => false,
-        Token::Quoted(_) => false,
-        Token::Operator(_) => false,
-    }
-}
 
 /// Whether tokens begin with this word, unquoted and without reference.
 fn starts_with_word(tokens: &[Token<'_>], word: &str) -> bool
-    ensures { result ≡ starts_with (is_fixed word.now) tokens.now }
+    ensures { result ≡ starts_with (is_word word.now) tokens.now }
 {
-    tokens.first().is_some_and(|token| is_fixed(word, token))
+    tokens.first().is_some_and(|token| is_word(token, word))
 }
 
 /// Whether this word is among tokens, unquoted and without reference.
 fn has_word(tokens: &[Token<'_>], word: &str) -> bool
-    ensures { result ≡ list_any (is_fixed word.now) tokens.now }
+    ensures { result ≡ list_any (is_word word.now) tokens.now }
 {
-    tokens.iter().any(|token| is_fixed(word, token))
+    tokens.iter().any(|token| is_word(token, word))
 }
 
 /// Whether tokens begin with an unquoted word.
@@ -63,13 +52,6 @@ fn after_first<'a, 'b>(tokens: &'a [Token<'b>]) -> &'a [Token<'b>]
     rest
 }
 
-/// Whether the tokens after `depends` have a condition of their own.
-fn has_condition(tokens: &[Token<'_>]) -> bool
-    ensures { result ≡ has_condition tokens.now }
-{
-    starts_with_word(tokens, "on") && has_word(after_first(tokens), "if")
-}
-
 /// Whether the nearest statement is a `choice`.
 fn is_of_choice(context: &Context) -> bool
     ensures { result ≡ is_of_choice context.now.statement }
@@ -79,31 +61,24 @@ fn is_of_choice(context: &Context) -> bool
         .is_some_and(|statement| statement == Keyword::Choice)
 }
 
-/// Whether a choice is open.
-fn is_in_choice(context: &Context) -> bool
-    ensures { result ≡ is_in_choice context.now.stack }
-{
-    context.choice().is_some()
-}
-
-/// Whether a form is unsupported, by where it stands, its keyword and the tokens after that.
+/// Whether a form is unsupported, by where it is, its keyword and the tokens after that.
 fn is_unsupported(context: &Context, keyword: Keyword, tokens: &[Token<'_>]) -> bool
     ensures { result ≡ is_unsupported context.now.stack context.now.statement keyword tokens.now }
 {
     match keyword {
         Keyword::Unsupported => true,
-        Keyword::Choice => !tokens.is_empty() || is_in_choice(context),
-        Keyword::Menu => starts_unquoted(tokens) || is_in_choice(context),
+        Keyword::Choice => !tokens.is_empty() || context.choice().is_some(),
+        Keyword::Menu => starts_unquoted(tokens) || context.choice().is_some(),
         Keyword::Tristate => starts_unquoted(tokens) || is_of_choice(context),
         Keyword::Option => {
             starts_with_word(tokens, "env") || starts_with_word(tokens, "defconfig_list")
         }
-        Keyword::Depends => has_condition(tokens),
+        Keyword::Depends => starts_with_word(tokens, "on") && has_word(after_first(tokens), "if"),
         _ => keyword.wants_quotes() && starts_unquoted(tokens),
     }
 }
 
-/// Whether an attribute stands where the nearest statement doesn't take it.
+/// Whether a keyword is an attribute that the nearest statement doesn't take.
 fn is_stray(context: &Context, keyword: Keyword) -> bool
     ensures { result ≡ is_stray context.now.statement keyword }
 {
@@ -113,7 +88,7 @@ fn is_stray(context: &Context, keyword: Keyword) -> bool
             .is_some_and(|statement| statement.takes(keyword))
 }
 
-/// Whether a closer of a run stands where the innermost block is not of its kind and run.
+/// Whether a closer of a run closes no block, or one that is not of its kind and run.
 fn closes_wrongly(blocks: &OpenBlocks, keyword: Keyword, run: usize) -> bool
     ensures { result ≡ closes_wrongly blocks.now keyword run }
 {

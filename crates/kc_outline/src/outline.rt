@@ -42,7 +42,7 @@ impl Model for Outline {
     ghost view = { λ a. record { names = a.names; symbols = a.symbols.items; definitions = a.definitions.items; blocks = a.blocks.items; choices = a.choices.items; comments = a.comments.items; entries = a.entries.items } };
 }
 
-/// A symbol for each of so many names, of which no line says anything yet.
+/// A symbol for each of so many names, before any line says something of it.
 #[tactic(auto, using(crate::proofs::AddingSymbols::new_symbols_more))]
 fn new_symbols(alloc: Global, count: usize) -> Result<Vec<Symbol>, AllocError>
     ensures { IfOk result (λ symbols. symbols.items ≡ symbols_in count []) }
@@ -72,7 +72,7 @@ impl Outline {
         })
     }
 
-    /// The number that the next symbol to be defined is likely to have: names stand in the order of their first
+    /// The number that the next symbol to be defined is likely to have: names are in the order of their first
     /// definitions, and few have a second one.
     pub(crate) fn likely_symbol(&self) -> usize {
         match self.definitions.last() {
@@ -81,7 +81,7 @@ impl Outline {
         }
     }
 
-    /// Adds what a line says that stands in a block and a choice, and belongs to an owner. A `config` line names a
+    /// Adds what a line says that is in a block and a choice, and belongs to an owner. A `config` line names a
     /// symbol that the outline has.
     pub(crate) fn add_line(
         &mut self,

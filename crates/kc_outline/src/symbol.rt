@@ -1,6 +1,6 @@
-ghost use Rattle.std.specs.Prelude.{◌≡◌, None, Some, true, false, is_some, OnOk};
+ghost use Rattle.std.specs.Prelude.{◌≡◌, is_some, OnOk, slice_get};
 ghost use Rattle.kc_outline.specs.TreeValue.{kind_of};
-ghost use Rattle.kc_outline.specs.Adding.{new_symbol, symbol_after, standing_in, with_definition, with_selection, with_implication};
+ghost use Rattle.kc_outline.specs.Adding.{new_symbol, symbol_that_selects, symbol_with_modules, symbol_with_type, symbol_yes_in_allnoconfig, standing_in, with_definition, with_selection, with_implication};
 
 use crate::id::ChoiceId;
 use crate::room::push_one;
@@ -9,10 +9,10 @@ use smallvec::SmallVec;
 use std::alloc::{AllocError, Global};
 use std::marker::Model;
 
-/// A `select` or `imply` of a symbol. It stands at the symbol that it names.
+/// A `select` or `imply` of a symbol. It is kept at the symbol that it names.
 #[derive(Debug, Drop)]
 pub struct Reverse {
-    /// The symbol in whose definition the line stands.
+    /// The symbol whose definition has the line.
     pub by: SymId,
     /// The number of that definition, whose dependencies are part of the condition.
     pub definition: usize,
@@ -20,15 +20,14 @@ pub struct Reverse {
     pub condition: Option<Expr>,
 }
 
-/// A symbol without its name: its type, the choice that it is a member of, its definitions, and the `select` and
+/// A symbol without its name: its types, the choice that it is a member of, its definitions, and the `select` and
 /// `imply` lines that name it. Most have one definition, whose number takes no memory of its own. Contracts see the
 /// record of its parts.
 #[derive(Debug, Drop)]
 pub struct Symbol {
-    pub(crate) kind: Option<SymbolType>,
-    pub(crate) has_other_type: bool,
+    pub(crate) types: SmallVec<SymbolType, 2>,
     pub(crate) choice: Option<ChoiceId>,
-    pub(crate) definitions: SmallVec<usize, 1>,
+    pub(crate) definitions: SmallVec<usize, 2>,
     pub(crate) selected: Vec<Reverse>,
     pub(crate) implied: Vec<Reverse>,
     pub(crate) has_selections: bool,
@@ -45,17 +44,16 @@ impl Model for Symbol {
 
     ghost coded = { Prim.hlevel (codes, expr.the_row.coded) };
 
-    ghost view = { λ s. record { kind = s.kind; has_other_type = s.has_other_type; choice = s.choice; definitions = s.definitions.items; selected = s.selected.items; implied = s.implied.items; has_selections = s.has_selections; has_modules = s.has_modules; is_yes_in_allnoconfig = s.is_yes_in_allnoconfig } };
+    ghost view = { λ s. record { types = s.types.items; choice = s.choice; definitions = s.definitions.items; selected = s.selected.items; implied = s.implied.items; has_selections = s.has_selections; has_modules = s.has_modules; is_yes_in_allnoconfig = s.is_yes_in_allnoconfig } };
 }
 
 impl Symbol {
-    /// Of which no line says anything yet.
+    /// A symbol before any line says something of it.
     pub(crate) fn new(alloc: Global) -> Symbol
         ensures { result ≡ new_symbol }
     {
         Symbol {
-            kind: None,
-            has_other_type: false,
+            types: SmallVec::new(alloc),
             choice: None,
             definitions: SmallVec::new(alloc),
             selected: Vec::new(alloc),
@@ -66,17 +64,15 @@ impl Symbol {
         }
     }
 
-    /// Adds a type: the first one stays.
-    pub(crate) fn add_type(&mut self, kind: SymbolType)
-        ensures { self.new ≡ symbol_after (Some kind) false false false self.old }
+    /// Adds a type that a line gives it.
+    pub(crate) fn add_type(&mut self, kind: SymbolType) -> Result<(), AllocError>
+        ensures { OnOk result (self.new ≡ symbol_with_type kind self.old) }
     {
-        match self.kind {
-            None => self.kind = Some(kind),
-            Some(first) => self.has_other_type = self.has_other_type || first != kind,
-        }
+        self.types.push(kind)?;
+        Ok(())
     }
 
-    /// Adds the choice that a definition stands in: the first one stays.
+    /// Adds the choice that a definition is in: the first one stays.
     pub(crate) fn add_choice(&mut self, choice: Option<ChoiceId>)
         ensures { self.new ≡ standing_in choice self.old }
     {
@@ -107,44 +103,47 @@ impl Symbol {
 
     /// Adds a `select` or an `imply` line of its own.
     pub(crate) fn add_own_selection(&mut self)
-        ensures { self.new ≡ symbol_after None true false false self.old }
+        ensures { self.new ≡ symbol_that_selects self.old }
     {
         self.has_selections = true;
     }
 
     /// Adds a `modules` line.
     pub(crate) fn add_modules(&mut self)
-        ensures { self.new ≡ symbol_after None false true false self.old }
+        ensures { self.new ≡ symbol_with_modules self.old }
     {
         self.has_modules = true;
     }
 
     /// Adds an `option allnoconfig_y` line.
     pub(crate) fn add_yes_in_allnoconfig(&mut self)
-        ensures { self.new ≡ symbol_after None false false true self.old }
+        ensures { self.new ≡ symbol_yes_in_allnoconfig self.old }
     {
         self.is_yes_in_allnoconfig = true;
     }
 
-    /// The type.
+    /// The type: the first that a line gives it.
     pub fn kind(&self) -> SymbolType
         ensures { result ≡ kind_of self.now }
     {
-        self.kind.unwrap_or(SymbolType::Bool)
+        match self.types.as_slice().first() {
+            Some(kind) => *kind,
+            None => SymbolType::Bool,
+        }
     }
 
     /// Whether a line gives it a type.
     pub fn has_type(&self) -> bool
-        ensures { result ≡ is_some self.now.kind }
+        ensures { result ≡ is_some (slice_get self.now.types 0) }
     {
-        self.kind.is_some()
+        !self.types.is_empty()
     }
 
-    /// Whether a line gives it a type, and another line another one.
-    pub fn has_other_type(&self) -> bool
-        ensures { result ≡ self.now.has_other_type }
+    /// The types that lines give it, in the order of the lines.
+    pub fn types(&self) -> &[SymbolType]
+        ensures { result.now ≡ self.now.types }
     {
-        self.has_other_type
+        self.types.as_slice()
     }
 
     /// Whether it has `select` or `imply` lines of its own.
@@ -161,7 +160,7 @@ impl Symbol {
         self.has_modules
     }
 
-    /// The choice that it is a member of: the first in which a definition of it stands.
+    /// The choice that it is a member of: the first that a definition of it is in.
     pub fn choice(&self) -> Option<ChoiceId>
         ensures { result ≡ self.now.choice }
     {

@@ -6,9 +6,10 @@ ghost use Rattle.kc_outline.specs.declared.block.BlockKind.TheVariants.{Menu, If
 ghost use Rattle.kc_outline.specs.declared.entry.Entry.TheVariants.{EndMenu};
 ghost use Rattle.kc_outline.specs.TreeOf.{choice_default, menu_entry, choice_entry, comment_entry};
 ghost use Rattle.kc_outline.specs.Adding.{with_reading, with_some, change_at};
-ghost use Rattle.kc_outline.specs.Adding.{new_definition, definition_after, change_definition, definition_entry};
-ghost use Rattle.kc_outline.specs.Adding.{symbol_after, change_symbol, numbered, placed, selecting, selected, implied};
-ghost use Rattle.kc_outline.specs.Adding.{new_block, block_after, change_block, new_comment, comment_after, change_comment, choice_after, change_choice, with_member, with_choice};
+ghost use Rattle.kc_outline.specs.Adding.{new_definition, definition_with_depends, definition_with_prompt, definition_with_default, definition_with_range, change_definition, definition_entry};
+ghost use Rattle.kc_outline.specs.Adding.{symbol_with_type, symbol_with_modules, symbol_yes_in_allnoconfig, change_symbol, numbered, placed, selecting, selected, implied};
+ghost use Rattle.kc_outline.specs.Adding.{new_block, block_with_depends, block_with_visible, change_block, new_comment, comment_with_depends, change_comment};
+ghost use Rattle.kc_outline.specs.Adding.{choice_with_prompt, choice_with_default, optional_choice, change_choice, with_member, with_choice};
 
 use super::Outline;
 use crate::block::{Block, BlockKind, Comment};
@@ -41,14 +42,18 @@ impl Outline {
                 self.add_definition(alloc, symbol, block, choice, owner)?;
             }
             Statement::Menu(title) => self.add_menu(alloc, title, block, owner)?,
-            Statement::EndMenu => self.add_menu_end(block)?,
+            Statement::EndMenu => {
+                if let Some(menu) = block {
+                    self.entries.push(Entry::EndMenu(menu))?;
+                }
+            }
             Statement::If(condition) => self.add_if(alloc, condition, block)?,
             Statement::Choice => self.add_choice(alloc, block, owner)?,
             Statement::Comment(title) => self.add_comment(alloc, title, block, choice, owner)?,
-            Statement::Type(kind) => self.add_type(owner, kind),
-            Statement::TypeAndPrompt(kind, prompt) => self.add_typed_prompt(owner, kind, prompt),
+            Statement::Type(kind) => self.add_type(owner, kind)?,
+            Statement::TypeAndPrompt(kind, prompt) => self.add_typed_prompt(owner, kind, prompt)?,
             Statement::TypeAndDefault(kind, value) => self.add_typed_default(owner, kind, value)?,
-            Statement::Prompt(prompt) => self.add_prompt(owner, prompt),
+            Statement::Prompt(prompt) => self.add_prompt(owner, prompt)?,
             Statement::Default(value) => self.add_default(owner, value)?,
             Statement::Range(range) => self.add_range(owner, range)?,
             Statement::DependsOn(on) => self.add_depends(owner, on)?,
@@ -129,16 +134,6 @@ impl Outline {
         Ok(())
     }
 
-    /// Adds the end of the menu that is open.
-    fn add_menu_end(&mut self, block: Option<BlockId>) -> Result<(), AllocError>
-        ensures { OnOk result (self.new ≡ record self.old { entries = with_some self.old.entries (option_map EndMenu block) }) }
-    {
-        if let Some(menu) = block {
-            self.entries.push(Entry::EndMenu(menu))?;
-        }
-        Ok(())
-    }
-
     /// Adds an `if`, which has no entry.
     #[inline(never)]
     fn add_if(
@@ -205,111 +200,22 @@ impl Outline {
         Ok(())
     }
 
-    /// Adds a `depends on` line to what owns it.
-    #[inline(never)]
-    fn add_depends(&mut self, owner: Option<Owner>, on: Expr) -> Result<(), AllocError>
-        ensures { OnOk result (self.new ≡ record self.old {
-          definitions = change_definition owner (definition_after (Some on) None None None) self.old.definitions;
-          blocks = change_block owner (block_after (Some on) None) self.old.blocks;
-          comments = change_comment owner (comment_after (Some on)) self.old.comments;
-        }) }
-    {
-        match owner {
-            None => Ok(()),
-            Some(Owner::Definition(_, number)) => self.add_definition_depends(number, on),
-            Some(Owner::Menu(block) | Owner::Choice(_, block)) => self.add_block_depends(block, on),
-            Some(Owner::Comment(comment)) => self.add_comment_depends(comment, on),
-        }
-    }
-
-    /// Adds a prompt to the definition or the choice that owns it.
-    fn add_prompt(&mut self, owner: Option<Owner>, prompt: Prompt)
-        ensures { self.new ≡ record self.old {
-          definitions = change_definition owner (definition_after None (Some prompt) None None) self.old.definitions;
-          choices = change_choice owner (choice_after (Some prompt) None None false) self.old.choices;
-        } }
-    {
-        match owner {
-            Some(Owner::Definition(_, number)) => self.add_definition_prompt(number, prompt),
-            Some(Owner::Choice(choice, _)) => self.add_choice_prompt(choice, prompt),
-            Some(Owner::Menu(_) | Owner::Comment(_)) | None => {}
-        }
-    }
-
     /// Adds a type to the symbol and a prompt to the definition or the choice that owns them.
     #[inline(never)]
-    fn add_typed_prompt(&mut self, owner: Option<Owner>, kind: SymbolType, prompt: Prompt)
-        ensures { self.new ≡ record self.old {
-          symbols = change_symbol owner (symbol_after (Some kind) false false false) self.old.symbols;
-          definitions = change_definition owner (definition_after None (Some prompt) None None) self.old.definitions;
-          choices = change_choice owner (choice_after (Some prompt) None None false) self.old.choices;
-        } }
-    {
-        self.add_type(owner, kind);
-        self.add_prompt(owner, prompt);
-    }
-
-    /// Adds a type with a default to the definition that owns them.
-    #[inline(never)]
-    fn add_typed_default(
+    fn add_typed_prompt(
         &mut self,
         owner: Option<Owner>,
         kind: SymbolType,
-        value: DefaultValue,
+        prompt: Prompt,
     ) -> Result<(), AllocError>
         ensures { OnOk result (self.new ≡ record self.old {
-          symbols = change_symbol owner (symbol_after (Some kind) false false false) self.old.symbols;
-          definitions = change_definition owner (definition_after None None (Some value) None) self.old.definitions;
+          symbols = change_symbol owner (symbol_with_type kind) self.old.symbols;
+          definitions = change_definition owner (definition_with_prompt prompt) self.old.definitions;
+          choices = change_choice owner (choice_with_prompt prompt) self.old.choices;
         }) }
     {
-        self.add_type(owner, kind);
-        match owner {
-            Some(Owner::Definition(_, number)) => self.add_definition_default(number, value),
-            Some(Owner::Menu(_) | Owner::Choice(_, _) | Owner::Comment(_)) | None => Ok(()),
-        }
-    }
-
-    /// Adds a `select` line to its owner's symbol and to the one that it names.
-    #[inline(never)]
-    fn add_select(
-        &mut self,
-        owner: Option<Owner>,
-        target: Option<SymId>,
-        condition: Option<Expr>,
-    ) -> Result<(), AllocError>
-        ensures { OnOk result (self.new ≡ record self.old { symbols = option_map_or (λ s. selected s condition owner (selecting owner self.old.symbols)) target (selecting owner self.old.symbols) }) }
-    {
-        self.add_own_selection(owner);
-        self.add_selection(owner, target, condition)
-    }
-
-    /// Adds an `imply` line to its owner's symbol and to the one that it names.
-    #[inline(never)]
-    fn add_imply(
-        &mut self,
-        owner: Option<Owner>,
-        target: Option<SymId>,
-        condition: Option<Expr>,
-    ) -> Result<(), AllocError>
-        ensures { OnOk result (self.new ≡ record self.old { symbols = option_map_or (λ s. implied s condition owner (selecting owner self.old.symbols)) target (selecting owner self.old.symbols) }) }
-    {
-        self.add_own_selection(owner);
-        self.add_implication(owner, target, condition)
-    }
-
-    /// Adds a default to the definition or the choice that owns it.
-    #[inline(never)]
-    fn add_default(&mut self, owner: Option<Owner>, value: DefaultValue) -> Result<(), AllocError>
-        ensures { OnOk result (self.new ≡ record self.old {
-          definitions = change_definition owner (definition_after None None (Some value) None) self.old.definitions;
-          choices = change_choice owner (choice_after None (Some (choice_default value)) None false) self.old.choices;
-        }) }
-    {
-        match owner {
-            Some(Owner::Definition(_, number)) => self.add_definition_default(number, value),
-            Some(Owner::Choice(choice, _)) => self.add_choice_default(choice, value),
-            Some(Owner::Menu(_) | Owner::Comment(_)) | None => Ok(()),
-        }
+        self.add_type(owner, kind)?;
+        self.add_prompt(owner, prompt)
     }
 }
 
@@ -320,10 +226,9 @@ impl Outline {
     fn add_symbol_choice(&mut self, symbol: SymId, choice: Option<ChoiceId>)
         ensures { self.new ≡ record self.old { symbols = placed symbol choice self.old.symbols } }
     {
-        let Some(found) = self.symbols.get_mut(symbol.0 as usize) else {
-            return;
-        };
-        found.add_choice(choice);
+        if let Some(found) = self.symbols.get_mut(symbol.0 as usize) {
+            found.add_choice(choice);
+        }
     }
 
     /// Gives a symbol the number of the definition that a `config` line makes.
@@ -339,7 +244,7 @@ impl Outline {
         found.add_definition(number)
     }
 
-    /// Gives the choice in which a `config` line stands its symbol as a member.
+    /// Gives the choice that a `config` line is in its symbol as a member.
     fn add_member(&mut self, choice: Option<ChoiceId>, symbol: SymId) -> Result<(), AllocError>
         ensures { OnOk result (self.new ≡ record self.old { choices = with_member choice symbol self.old.choices }) }
     {
@@ -353,16 +258,16 @@ impl Outline {
     }
 
     /// Adds a type to the owner's symbol.
-    fn add_type(&mut self, owner: Option<Owner>, kind: SymbolType)
-        ensures { self.new ≡ record self.old { symbols = change_symbol owner (symbol_after (Some kind) false false false) self.old.symbols } }
+    fn add_type(&mut self, owner: Option<Owner>, kind: SymbolType) -> Result<(), AllocError>
+        ensures { OnOk result (self.new ≡ record self.old { symbols = change_symbol owner (symbol_with_type kind) self.old.symbols }) }
     {
         let Some(Owner::Definition(symbol, _)) = owner else {
-            return;
+            return Ok(());
         };
         let Some(symbol) = self.symbols.get_mut(symbol.0 as usize) else {
-            return;
+            return Ok(());
         };
-        symbol.add_type(kind);
+        symbol.add_type(kind)
     }
 
     /// Notes that the owner's symbol selects or implies.
@@ -380,7 +285,7 @@ impl Outline {
 
     /// Adds an `optional` line to the choice that owns it.
     fn add_optional(&mut self, owner: Option<Owner>)
-        ensures { self.new ≡ record self.old { choices = change_choice owner (choice_after None None None true) self.old.choices } }
+        ensures { self.new ≡ record self.old { choices = change_choice owner optional_choice self.old.choices } }
     {
         let Some(Owner::Choice(choice, _)) = owner else {
             return;
@@ -393,7 +298,7 @@ impl Outline {
 
     /// Adds a `modules` line to the owner's symbol.
     fn add_modules(&mut self, owner: Option<Owner>)
-        ensures { self.new ≡ record self.old { symbols = change_symbol owner (symbol_after None false true false) self.old.symbols } }
+        ensures { self.new ≡ record self.old { symbols = change_symbol owner symbol_with_modules self.old.symbols } }
     {
         let Some(Owner::Definition(symbol, _)) = owner else {
             return;
@@ -406,7 +311,7 @@ impl Outline {
 
     /// Adds an `option allnoconfig_y` line to the owner's symbol.
     fn add_yes_in_allnoconfig(&mut self, owner: Option<Owner>)
-        ensures { self.new ≡ record self.old { symbols = change_symbol owner (symbol_after None false false true) self.old.symbols } }
+        ensures { self.new ≡ record self.old { symbols = change_symbol owner symbol_yes_in_allnoconfig self.old.symbols } }
     {
         let Some(Owner::Definition(symbol, _)) = owner else {
             return;
@@ -417,54 +322,111 @@ impl Outline {
         symbol.add_yes_in_allnoconfig();
     }
 
-    fn add_definition_prompt(&mut self, number: usize, prompt: Prompt)
-        ensures { self.new ≡ record self.old { definitions = change_at self.old.definitions number (definition_after None (Some prompt) None None) } }
+    /// Adds a `depends on` line to what owns it.
+    #[inline(never)]
+    fn add_depends(&mut self, owner: Option<Owner>, on: Expr) -> Result<(), AllocError>
+        ensures { OnOk result (self.new ≡ record self.old {
+          definitions = change_definition owner (definition_with_depends on) self.old.definitions;
+          blocks = change_block owner (block_with_depends on) self.old.blocks;
+          comments = change_comment owner (comment_with_depends on) self.old.comments;
+        }) }
     {
-        let Some(definition) = self.definitions.get_mut(number) else {
-            return;
-        };
-        definition.add_prompt(prompt);
+        match owner {
+            Some(Owner::Definition(_, number)) => {
+                if let Some(definition) = self.definitions.get_mut(number) {
+                    return definition.add_depends(on);
+                }
+            }
+            Some(Owner::Menu(block) | Owner::Choice(_, block)) => {
+                if let Some(block) = self.blocks.get_mut(block.0) {
+                    return block.add_depends(on);
+                }
+            }
+            Some(Owner::Comment(comment)) => {
+                if let Some(comment) = self.comments.get_mut(comment.0) {
+                    return comment.add_depends(on);
+                }
+            }
+            None => {}
+        }
+        Ok(())
     }
 
-    fn add_choice_prompt(&mut self, choice: ChoiceId, prompt: Prompt)
-        ensures { self.new ≡ record self.old { choices = change_at self.old.choices choice.0 (choice_after (Some prompt) None None false) } }
+    /// Adds a prompt to the definition or the choice that owns it.
+    #[inline(never)]
+    fn add_prompt(&mut self, owner: Option<Owner>, prompt: Prompt) -> Result<(), AllocError>
+        ensures { OnOk result (self.new ≡ record self.old {
+          definitions = change_definition owner (definition_with_prompt prompt) self.old.definitions;
+          choices = change_choice owner (choice_with_prompt prompt) self.old.choices;
+        }) }
     {
-        let Some(choice) = self.choices.get_mut(choice.0 as usize) else {
-            return;
-        };
-        choice.add_prompt(prompt);
+        match owner {
+            Some(Owner::Definition(_, number)) => {
+                if let Some(definition) = self.definitions.get_mut(number) {
+                    return definition.add_prompt(prompt);
+                }
+            }
+            Some(Owner::Choice(choice, _)) => {
+                if let Some(choice) = self.choices.get_mut(choice.0 as usize) {
+                    return choice.add_prompt(prompt);
+                }
+            }
+            Some(Owner::Menu(_) | Owner::Comment(_)) | None => {}
+        }
+        Ok(())
     }
 
-    fn add_definition_default(
+    /// Adds a default to the definition or the choice that owns it.
+    #[inline(never)]
+    fn add_default(&mut self, owner: Option<Owner>, value: DefaultValue) -> Result<(), AllocError>
+        ensures { OnOk result (self.new ≡ record self.old {
+          definitions = change_definition owner (definition_with_default value) self.old.definitions;
+          choices = change_choice owner (choice_with_default (choice_default value)) self.old.choices;
+        }) }
+    {
+        match owner {
+            Some(Owner::Definition(_, number)) => {
+                if let Some(definition) = self.definitions.get_mut(number) {
+                    return definition.add_default(value);
+                }
+            }
+            Some(Owner::Choice(choice, _)) => {
+                if let Some(choice) = self.choices.get_mut(choice.0 as usize) {
+                    return choice.add_default(ChoiceDefault::of(value));
+                }
+            }
+            Some(Owner::Menu(_) | Owner::Comment(_)) | None => {}
+        }
+        Ok(())
+    }
+
+    /// Adds a type with a default to the definition that owns them.
+    #[inline(never)]
+    fn add_typed_default(
         &mut self,
-        number: usize,
+        owner: Option<Owner>,
+        kind: SymbolType,
         value: DefaultValue,
     ) -> Result<(), AllocError>
-        ensures { OnOk result (self.new ≡ record self.old { definitions = change_at self.old.definitions number (definition_after None None (Some value) None) }) }
+        ensures { OnOk result (self.new ≡ record self.old {
+          symbols = change_symbol owner (symbol_with_type kind) self.old.symbols;
+          definitions = change_definition owner (definition_with_default value) self.old.definitions;
+        }) }
     {
+        self.add_type(owner, kind)?;
+        let Some(Owner::Definition(_, number)) = owner else {
+            return Ok(());
+        };
         let Some(definition) = self.definitions.get_mut(number) else {
             return Ok(());
         };
         definition.add_default(value)
     }
 
-    fn add_choice_default(
-        &mut self,
-        choice: ChoiceId,
-        value: DefaultValue,
-    ) -> Result<(), AllocError>
-        ensures { OnOk result (self.new ≡ record self.old { choices = change_at self.old.choices choice.0 (choice_after None (Some (choice_default value)) None false) }) }
-    {
-        let Some(choice) = self.choices.get_mut(choice.0 as usize) else {
-            return Ok(());
-        };
-        choice.add_default(ChoiceDefault::of(value))
-    }
-
     /// Adds a range to the definition that owns it.
     #[inline(never)]
     fn add_range(&mut self, owner: Option<Owner>, range: Range) -> Result<(), AllocError>
-        ensures { OnOk result (self.new ≡ record self.old { definitions = change_definition owner (definition_after None None None (Some range)) self.old.definitions }) }
+        ensures { OnOk result (self.new ≡ record self.old { definitions = change_definition owner (definition_with_range range) self.old.definitions }) }
     {
         let Some(Owner::Definition(_, number)) = owner else {
             return Ok(());
@@ -475,37 +437,10 @@ impl Outline {
         definition.add_range(range)
     }
 
-    fn add_definition_depends(&mut self, number: usize, on: Expr) -> Result<(), AllocError>
-        ensures { OnOk result (self.new ≡ record self.old { definitions = change_at self.old.definitions number (definition_after (Some on) None None None) }) }
-    {
-        let Some(definition) = self.definitions.get_mut(number) else {
-            return Ok(());
-        };
-        definition.add_depends(on)
-    }
-
-    fn add_block_depends(&mut self, block: BlockId, on: Expr) -> Result<(), AllocError>
-        ensures { OnOk result (self.new ≡ record self.old { blocks = change_at self.old.blocks block.0 (block_after (Some on) None) }) }
-    {
-        let Some(block) = self.blocks.get_mut(block.0) else {
-            return Ok(());
-        };
-        block.add_depends(on)
-    }
-
-    fn add_comment_depends(&mut self, comment: CommentId, on: Expr) -> Result<(), AllocError>
-        ensures { OnOk result (self.new ≡ record self.old { comments = change_at self.old.comments comment.0 (comment_after (Some on)) }) }
-    {
-        let Some(comment) = self.comments.get_mut(comment.0) else {
-            return Ok(());
-        };
-        comment.add_depends(on)
-    }
-
     /// Adds a `visible if` line to the menu that owns it.
     #[inline(never)]
     fn add_visible(&mut self, owner: Option<Owner>, condition: Expr) -> Result<(), AllocError>
-        ensures { OnOk result (self.new ≡ record self.old { blocks = change_block owner (block_after None (Some condition)) self.old.blocks }) }
+        ensures { OnOk result (self.new ≡ record self.old { blocks = change_block owner (block_with_visible condition) self.old.blocks }) }
     {
         let Some(Owner::Menu(block) | Owner::Choice(_, block)) = owner else {
             return Ok(());
@@ -516,19 +451,18 @@ impl Outline {
         block.add_visible(condition)
     }
 
-    /// Adds a `select` line to the symbol that it names, if there is one and a definition owns the line.
-    fn add_selection(
+    /// Adds a `select` line to its owner's symbol and to the one that it names, if there is one.
+    #[inline(never)]
+    fn add_select(
         &mut self,
         owner: Option<Owner>,
         target: Option<SymId>,
         condition: Option<Expr>,
     ) -> Result<(), AllocError>
-        ensures { OnOk result (self.new ≡ record self.old { symbols = option_map_or (λ s. selected s condition owner self.old.symbols) target self.old.symbols }) }
+        ensures { OnOk result (self.new ≡ record self.old { symbols = option_map_or (λ s. selected s condition owner (selecting owner self.old.symbols)) target (selecting owner self.old.symbols) }) }
     {
-        let Some(target) = target else {
-            return Ok(());
-        };
-        let Some(Owner::Definition(by, definition)) = owner else {
+        self.add_own_selection(owner);
+        let (Some(target), Some(Owner::Definition(by, definition))) = (target, owner) else {
             return Ok(());
         };
         let Some(found) = self.symbols.get_mut(target.0 as usize) else {
@@ -541,19 +475,18 @@ impl Outline {
         })
     }
 
-    /// Adds an `imply` line to the symbol that it names, if there is one and a definition owns the line.
-    fn add_implication(
+    /// Adds an `imply` line to its owner's symbol and to the one that it names, if there is one.
+    #[inline(never)]
+    fn add_imply(
         &mut self,
         owner: Option<Owner>,
         target: Option<SymId>,
         condition: Option<Expr>,
     ) -> Result<(), AllocError>
-        ensures { OnOk result (self.new ≡ record self.old { symbols = option_map_or (λ s. implied s condition owner self.old.symbols) target self.old.symbols }) }
+        ensures { OnOk result (self.new ≡ record self.old { symbols = option_map_or (λ s. implied s condition owner (selecting owner self.old.symbols)) target (selecting owner self.old.symbols) }) }
     {
-        let Some(target) = target else {
-            return Ok(());
-        };
-        let Some(Owner::Definition(by, definition)) = owner else {
+        self.add_own_selection(owner);
+        let (Some(target), Some(Owner::Definition(by, definition))) = (target, owner) else {
             return Ok(());
         };
         let Some(found) = self.symbols.get_mut(target.0 as usize) else {

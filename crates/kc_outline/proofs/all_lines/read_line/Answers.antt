@@ -3,6 +3,7 @@ use Rattle.kc_statement.specs.Statements.{HasForm}
 use Rattle.kc_outline.specs.ContextAfter.{IsContextAfter}
 use Rattle.kc_outline.specs.Enclosing.{choice_among, innermost}
 use Rattle.kc_outline.specs.LineFaults.{early_problem, late_problem}
+use Rattle.kc_outline.specs.Reader.{IsOnlyForm}
 use Rattle.kc_outline.specs.TreeOf.{Reading, IsReading}
 use Rattle.kc_outline.proofs.OwnerLaws.{next_outline}
 use Rattle.kc_outline.proofs.all_lines.read_line.Goals as goal
@@ -28,4 +29,5 @@ returns-clause-outline c = λ earlier before at.
       choice = c.choice-choice.ensures ∙ ap choice_among at.stack;
       owner = c.owner.ensures ∙ after.owner;
     } in
-    next_outline names c.args.following earlier line c.args.outline.now c.add_line.new.self r before reading c.in_ok-add_line.ensures
+    let form : IsOnlyForm names line says = (search rules) in
+    next_outline names c.args.following earlier line c.args.outline.now c.add_line.new.self r before reading form c.in_ok-add_line.ensures

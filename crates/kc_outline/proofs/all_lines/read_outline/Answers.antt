@@ -1,6 +1,5 @@
 use Rattle.std.proofs.Common.{rules, ◌≡◌, ◌-◌, ◌<◌, ◌^◌, length, reverse, take, count_by, ◌∷◌, sym, ap, ◌∙◌, arith}
 use Rattle.std.proofs.Common.{Some}
-use Rattle.std.proofs.lemmas.Bool.{ltb-false}
 use Rattle.std.proofs.lemmas.List.{length-reverse, length-take, length-take-le}
 use Rattle.std.proofs.lemmas.Option.{slice_get-get_or}
 use Rattle.std.proofs.lemmas.List.Sums.{count_by-le-length}
@@ -10,11 +9,13 @@ use Rattle.kc_statement.specs.Names.{names_of}
 use Rattle.kc_outline.specs.Reader.{IsOutlineAfter}
 use Rattle.kc_outline.specs.ContextAfter.{IsContextAfter}
 use Rattle.kc_outline.proofs.Counts.{has_room, count_reverse, choices_of_outline}
-use Rattle.kc_outline.proofs.OutlineFacts.{first_outline_of, outline_at, context_at, first_fault, symbols_of_outline, names_of_outline, entries_of_outline}
+use Rattle.kc_outline.proofs.OutlineFacts.{first_outline_of, outline_at, context_at, first_fault, symbols_of_outline, names_of_outline, entries_of_outline, whole, outline_of}
+use Rattle.kc_outline.proofs.EnclosedLaws.{enclosing_of_outline}
 use Rattle.kc_outline.proofs.FirstLaws.{firsts_of_outline}
 use Rattle.kc_outline.proofs.MemberLaws.{members_of_outline}
 use Rattle.kc_outline.proofs.MenuLaws.{menus_of_outline}
 use Rattle.kc_outline.proofs.NameLaws.{names_of_lines}
+use Rattle.kc_outline.proofs.OnlyLaws.{one_tree, no_fault}
 use Rattle.kc_outline.proofs.all_lines.read_outline.Goals as goal
 
 pub loop-index-init : goal.loop-index-init
@@ -33,16 +34,24 @@ read_line-requires-clause-room c =
     let lines = c.args.lines.now in
     let i = c.loop-index.index in
     let read : length (reverse (take i lines)) ≡ i = length-reverse (take i lines) ∙ length-take-le i lines (omega (arith, c.loop-index-test.true)) in
-    let few : length (reverse (take i lines)) < 2 ^ 30 = omega (arith, read, c.loop-index-test.true, ltb-false (2 ^ 30) (length lines) (sym c.are_too_many.ensures ∙ c.if-are_too_many.false)) in
+    let few : length (reverse (take i lines)) < 2 ^ 30 = omega (arith, read, c.loop-index-test.true, c.requires) in
     has_room (names_of lines) (reverse (take i lines)) c.loop-index.context c.loop-index.invariant.context few
 
 pub returns-in-Err-clause-fault : goal.returns-in-Err-clause-fault
 returns-in-Err-clause-fault c =
     let lines = c.args.lines.now in
     let i = c.loop-index.index in
-    first_fault lines i c.index-lines-index.result c.loop-index.outline.names c.loop-index.outline c.in-Err.stop c.line_fault.result
+    (first_fault lines i c.index-lines-index.result c.loop-index.outline.names c.loop-index.outline c.in-Err.stop c.line_fault.result
     (slice_get-get_or lines i c.index-lines-index.result c.loop-index-test.true ∙ ap Some (sym c.index-lines-index.is))
-    c.loop-index.invariant.names (search rules) (search rules) c.loop-index-test.true c.line_fault.ensures
+    c.loop-index.invariant.names (search rules) (search rules) c.loop-index-test.true c.line_fault.ensures).fault
+
+pub returns-in-Err-clause-refused : goal.returns-in-Err-clause-refused
+returns-in-Err-clause-refused c =
+    let lines = c.args.lines.now in
+    let i = c.loop-index.index in
+    (first_fault lines i c.index-lines-index.result c.loop-index.outline.names c.loop-index.outline c.in-Err.stop c.line_fault.result
+    (slice_get-get_or lines i c.index-lines-index.result c.loop-index-test.true ∙ ap Some (sym c.index-lines-index.is))
+    c.loop-index.invariant.names (search rules) (search rules) c.loop-index-test.true c.line_fault.ensures).refused
 
 pub loop-index-preserved : goal.loop-index-preserved
 loop-index-preserved c =
@@ -81,8 +90,7 @@ returns-clause-few_choices c =
     let lines = c.args.lines.now in
     let i = c.loop-index.index in
     let count = choices_of_outline _ _ _ _ c.loop-index.invariant.outline ∙ count_reverse is_choice (take i lines) in
-    let few = ltb-false (2 ^ 30) (length lines) (sym c.are_too_many.ensures ∙ c.if-are_too_many.false) in
-    omega (arith, count, count_by-le-length is_choice (take i lines), length-take i lines, few)
+    omega (arith, count, count_by-le-length is_choice (take i lines), length-take i lines, c.requires)
 
 pub returns-clause-named : goal.returns-clause-named
 returns-clause-named c =
@@ -108,3 +116,21 @@ returns-clause-names c = names_of_lines _ (reverse c.args.lines.now) (names_of_o
 
 pub returns-clause-menus : goal.returns-clause-menus
 returns-clause-menus c = menus_of_outline _ _ _ _ c.loop-index.invariant.outline
+
+pub returns-clause-outline : goal.returns-clause-outline
+returns-clause-outline c = outline_of c.args.lines.now c.loop-index.outline (whole c.args.lines.now c.loop-index.index c.loop-index.outline (search rules) c.loop-index.invariant.outline)
+
+pub returns-clause-enclosing : goal.returns-clause-enclosing
+returns-clause-enclosing c =
+    enclosing_of_outline c.args.lines.now c.loop-index.outline
+    (outline_of c.args.lines.now c.loop-index.outline (whole c.args.lines.now c.loop-index.index c.loop-index.outline (search rules) c.loop-index.invariant.outline))
+
+pub returns-clause-only : goal.returns-clause-only
+returns-clause-only c = λ t outline.
+    let all = whole c.args.lines.now c.loop-index.index c.loop-index.outline (search rules) c.loop-index.invariant.outline in
+    one_tree c.args.lines.now all.readings all.read t outline ∙ sym all.tree
+
+pub returns-clause-exact : goal.returns-clause-exact
+returns-clause-exact c = λ f found.
+    let all = whole c.args.lines.now c.loop-index.index c.loop-index.outline (search rules) c.loop-index.invariant.outline in
+    no_fault c.args.lines.now all.readings all.read f found
