@@ -10,11 +10,12 @@ use Rattle.std.proofs.lemmas.List.Folds.{list_any-append, list_any_at}
 use Rattle.std.proofs.lemmas.Grind.{flat_map-append}
 use Rattle.kc_tree.specs.declared.node.Node.{Node}
 use Rattle.kc_statement.specs.declared.expr.Expr.{Expr}
-use Rattle.kc_tree.specs.Nodes.{number_in}
+use Rattle.kc_tree.specs.declared.node.Node.TheVariants.{Vis, Val, Mode, Sel}
+use Rattle.kc_tree.specs.Nodes.{number_in, IsNodeOf}
 use Rattle.kc_outline.specs.TreeValue.{TreeValue}
-use Rattle.kc_statement.specs.Grammar.{formula, all_joined, any_joined}
+use Rattle.kc_statement.specs.Formula.{all_joined, any_joined}
 use Rattle.kc_tree.specs.Uses.{formula_nodes, value_nodes}
-use Rattle.kc_tree.specs.Collected.{has_number, has_node, Adds, HaveSame, HasNodes}
+use Rattle.kc_tree.specs.Collected.{has_number, has_node, node_there, Adds, HaveSame, HasNodes}
 
 -- ---- tests of lists
 pub same_tests : (a b : Bool) → (a ≡ true → b ≡ true) → (b ≡ true → a ≡ true) → a ≡ b
@@ -65,6 +66,16 @@ pub or_false : (b : Bool) → b ≡ (b || false)
 or_false true = refl
 or_false false = refl
 
+or_true_last : (a b : Bool) → (a || (b || true)) ≡ true
+or_true_last true b = refl
+or_true_last false true = refl
+or_true_last false false = refl
+
+-- a test that each element passes where a last one is passed
+pub any_with_last : {X : Type 0} (p q : X → Bool) (d r : Bool) (xs : List X) → ((x : X) → p x ≡ (q x || d)) → (list_any p xs || (r || d)) ≡ (list_any q xs || (r || d))
+any_with_last p q true r xs h = or_true_last (list_any p xs) r ∙ sym (or_true_last (list_any q xs) r)
+any_with_last p q false r xs h = ap (λ b. b || (r || false)) (any_alike p q xs (λ x. h x ∙ sym (or_false (q x))))
+
 -- ---- a node where a list has an element
 pub none_past : {X : Type 0} (n : Node) (xs : List X) (k : ℕ) → length xs ≤ k → option_map_or (λ x. n ∷ []) (slice_get xs k) [] ≡ []
 none_past {X} n xs k h = ap (λ (o : Option X). option_map_or (λ x. n ∷ []) o []) (slice_get_past xs k h)
@@ -76,14 +87,33 @@ one_within {X} n xs k h = go (slice_get_cases xs k).1
     go (inl a) = ap (λ (o : Option X). option_map_or (λ x. n ∷ []) o []) a.2
     go (inr b) = absurd (omega (arith, b.0))
 
+pub there_within : (t : TreeValue) (n : Node) → IsNodeOf t n → node_there t n ≡ n ∷ []
+there_within t (Vis s) h = one_within (Vis s) t.symbols s.0 h
+there_within t (Val s) h = one_within (Val s) t.symbols s.0 h
+there_within t (Mode c) h = one_within (Mode c) t.choices c.0 h
+there_within t (Sel c) h = one_within (Sel c) t.choices c.0 h
+
+-- the tree has no symbol or choice of the node's number
+abbrev pub IsPast : TreeValue → Node → Type 0
+IsPast t (Vis s) = length t.symbols ≤ s.0
+IsPast t (Val s) = length t.symbols ≤ s.0
+IsPast t (Mode c) = length t.choices ≤ c.0
+IsPast t (Sel c) = length t.choices ≤ c.0
+
+pub there_past : (t : TreeValue) (n : Node) → IsPast t n → node_there t n ≡ []
+there_past t (Vis s) h = none_past (Vis s) t.symbols s.0 h
+there_past t (Val s) h = none_past (Val s) t.symbols s.0 h
+there_past t (Mode c) h = none_past (Mode c) t.choices c.0 h
+there_past t (Sel c) h = none_past (Sel c) t.choices c.0 h
+
 -- ---- expressions
 -- what the parts of an expression read, however they are joined
-pub joined_both : (t : TreeValue) (es : List Expr) → formula_nodes t (all_joined (map formula es)) ≡ flat_map (value_nodes t) es
+pub joined_both : (t : TreeValue) (es : List Expr) → formula_nodes t (all_joined es) ≡ flat_map (value_nodes t) es
 joined_both t [] = refl
 joined_both t (e ∷ []) = sym (append-nil (value_nodes t e))
 joined_both t (e ∷ f ∷ es) = ap (λ ns. value_nodes t e ++ ns) (joined_both t (f ∷ es))
 
-pub joined_either : (t : TreeValue) (es : List Expr) → formula_nodes t (any_joined (map formula es)) ≡ flat_map (value_nodes t) es
+pub joined_either : (t : TreeValue) (es : List Expr) → formula_nodes t (any_joined es) ≡ flat_map (value_nodes t) es
 joined_either t [] = refl
 joined_either t (e ∷ []) = sym (append-nil (value_nodes t e))
 joined_either t (e ∷ f ∷ es) = ap (λ ns. value_nodes t e ++ ns) (joined_either t (f ∷ es))

@@ -8,13 +8,15 @@ use Rattle.std.proofs.lemmas.Option.{slice_get_past, slice_get_read}
 use Rattle.std.proofs.lemmas.List.Folds.{list_any-append}
 use Rattle.kc_outline.specs.declared.id.BlockId.{BlockId}
 use Rattle.kc_statement.specs.declared.attribute.Prompt.{Prompt}
+use Rattle.kc_statement.specs.declared.attribute.DefaultValue.{DefaultValue}
+use Rattle.kc_statement.specs.declared.attribute.Range.{Range}
 use Rattle.kc_outline.specs.declared.symbol.Reverse.{Reverse}
 use Rattle.kc_tree.specs.declared.node.Node.{Node}
 use Rattle.kc_tree.specs.Nodes.{number_in}
-use Rattle.kc_outline.specs.TreeValue.{TreeValue, BlockValue, DefinitionValue, blocks_from, blocks_around}
-use Rattle.kc_tree.specs.Uses.{symbol_nodes, conditions_nodes, own_condition_nodes, depends_nodes, visible_nodes, dependency_nodes, default_nodes, range_nodes, definition_nodes, prompt_nodes, reverse_nodes}
-use Rattle.kc_tree.specs.Collected.{has_number, has_node, HaveSame, own_lists, depends_lists, visible_lists, own_at, dependency_at, depends_at, visible_at, block_numbers, block_numbers_at, innermost_at, defaults_at, ranges_at, prompt_own_at, prompted_at, source_nodes}
-use Rattle.kc_tree.proofs.CollectedLaws.{any_same, any_alike, any_or, any_flat, any_map, or_false}
+use Rattle.kc_outline.specs.TreeValue.{TreeValue, BlockValue, DefinitionValue, blocks_from, blocks_around, prompt_of}
+use Rattle.kc_tree.specs.Uses.{symbol_nodes, conditions_nodes, term_nodes, value_nodes, own_condition_nodes, depends_nodes, visible_nodes, dependency_nodes, default_nodes, range_nodes, definition_nodes, prompt_nodes, reverse_nodes}
+use Rattle.kc_tree.specs.Collected.{has_number, has_node, HaveSame, own_lists, depends_lists, visible_lists, own_at, dependency_at, depends_at, visible_at, block_numbers, block_numbers_at, innermost_at, defaults_at, ranges_at, prompt_own_at, prompted_at, source_nodes, default_alone_nodes, range_alone_nodes}
+use Rattle.kc_tree.proofs.CollectedLaws.{any_same, any_with_last, any_alike, any_or, any_flat, any_map, or_false}
 
 -- ---- lists and options
 get_or_mapped : {X : Type 0} (f : X → List Node) (xs : List X) (j : ℕ) → get_or (map f xs) j [] ≡ option_map_or f (slice_get xs j) []
@@ -181,14 +183,45 @@ module _ (symbols : ℕ) where
       test n = eqb (number_in symbols n) k
 
   -- ---- what is computed from definitions
+  -- what a default and a range read besides the dependencies, and the dependencies
+  default_parts : (t : TreeValue) (d : DefinitionValue) (k : ℕ) (v : DefaultValue) → has_node symbols (default_nodes t d v) k ≡ (has_node symbols (default_alone_nodes t v) k || has_node symbols (dependency_nodes t d) k)
+  default_parts t d k v =
+      ap (λ ns. has_node symbols ns k) (sym (append_assoc (value_nodes t v.value) (own_condition_nodes t v.condition) (dependency_nodes t d)))
+      ∙ has_both (default_alone_nodes t v) (dependency_nodes t d) k
+
+  range_parts : (t : TreeValue) (d : DefinitionValue) (k : ℕ) (r : Range) → has_node symbols (range_nodes t d r) k ≡ (has_node symbols (range_alone_nodes t r) k || has_node symbols (dependency_nodes t d) k)
+  range_parts t d k r =
+      ap (λ ns. has_node symbols (term_nodes t r.low ++ ns) k) (sym (append_assoc (term_nodes t r.high) (own_condition_nodes t r.condition) (dependency_nodes t d)))
+      ∙ ap (λ ns. has_node symbols ns k) (sym (append_assoc (term_nodes t r.low) (term_nodes t r.high ++ own_condition_nodes t r.condition) (dependency_nodes t d)))
+      ∙ has_both (range_alone_nodes t r) (dependency_nodes t d) k
+
+  definition_alone : (t : TreeValue) (d : DefinitionValue) (k : ℕ) → (has_node symbols (flat_map (default_alone_nodes t) d.defaults) k || (has_node symbols (flat_map (range_alone_nodes t) d.ranges) k || has_node symbols (dependency_nodes t d) k)) ≡ has_node symbols (definition_nodes t d) k
+  definition_alone t d k =
+      ap (λ b. b || (has_node symbols (flat_map (range_alone_nodes t) d.ranges) k || dep)) (any_flat test (default_alone_nodes t) d.defaults)
+      ∙ sym (any_with_last (λ v. has_node symbols (default_nodes t d v) k) (λ v. has_node symbols (default_alone_nodes t v) k) dep (has_node symbols (flat_map (range_alone_nodes t) d.ranges) k) d.defaults (default_parts t d k))
+      ∙ ap (λ b. list_any (λ v. has_node symbols (default_nodes t d v) k) d.defaults || b) ranges
+      ∙ ap (λ b. b || (has_node symbols (flat_map (range_nodes t d) d.ranges) k || dep)) (sym (any_flat test (default_nodes t d) d.defaults))
+      ∙ ap (λ b. has_node symbols (flat_map (default_nodes t d) d.defaults) k || b) (sym (has_both (flat_map (range_nodes t d) d.ranges) (dependency_nodes t d) k))
+      ∙ sym (has_both (flat_map (default_nodes t d) d.defaults) (flat_map (range_nodes t d) d.ranges ++ dependency_nodes t d) k)
+    where
+      test : Node → Bool
+      test n = eqb (number_in symbols n) k
+
+      dep : Bool
+      dep = has_node symbols (dependency_nodes t d) k
+
+      ranges : (has_node symbols (flat_map (range_alone_nodes t) d.ranges) k || dep) ≡ (has_node symbols (flat_map (range_nodes t d) d.ranges) k || dep)
+      ranges =
+          ap (λ b. b || dep) (any_flat test (range_alone_nodes t) d.ranges)
+          ∙ sym (any_with_last (λ r. has_node symbols (range_nodes t d r) k) (λ r. has_node symbols (range_alone_nodes t r) k) dep false d.ranges (range_parts t d k))
+          ∙ ap (λ b. b || dep) (sym (any_flat test (range_nodes t d) d.ranges))
+
   definition_parts : (t : TreeValue) (k j : ℕ) → (has_node symbols (defaults_at t j) k || (has_node symbols (ranges_at t j) k || has_node symbols (dependency_at t j) k)) ≡ option_map_or (λ d. has_node symbols (definition_nodes t d) k) (slice_get t.definitions j) false
   definition_parts t k j = at (slice_get t.definitions j)
     where
-      at : (o : Option DefinitionValue) → (has_node symbols (option_map_or (λ d. flat_map (default_nodes t) d.defaults) o []) k || (has_node symbols (option_map_or (λ d. flat_map (range_nodes t) d.ranges) o []) k || has_node symbols (option_map_or (dependency_nodes t) o []) k)) ≡ option_map_or (λ d. has_node symbols (definition_nodes t d) k) o false
+      at : (o : Option DefinitionValue) → (has_node symbols (option_map_or (λ d. flat_map (default_alone_nodes t) d.defaults) o []) k || (has_node symbols (option_map_or (λ d. flat_map (range_alone_nodes t) d.ranges) o []) k || has_node symbols (option_map_or (dependency_nodes t) o []) k)) ≡ option_map_or (λ d. has_node symbols (definition_nodes t d) k) o false
       at None = refl
-      at (Some d) =
-          ap (λ b. has_node symbols (flat_map (default_nodes t) d.defaults) k || b) (sym (has_both (flat_map (range_nodes t) d.ranges) (dependency_nodes t d) k))
-          ∙ sym (has_both (flat_map (default_nodes t) d.defaults) (flat_map (range_nodes t) d.ranges ++ dependency_nodes t d) k)
+      at (Some d) = definition_alone t d k
 
   pub definitions_alike : (t : TreeValue) (js : List ℕ) (k : ℕ) → has_node symbols (flat_map (defaults_at t) js ++ (flat_map (ranges_at t) js ++ flat_map (dependency_at t) js)) k ≡ has_node symbols (flat_map (definition_nodes t) (filter_map (slice_get t.definitions) js)) k
   definitions_alike t js k =
@@ -241,9 +274,9 @@ module _ (symbols : ℕ) where
           ∙ ap (λ b. has_node symbols (own_condition_nodes t p.condition) k || b) (sym (has_both (dependency_nodes t d) (visible_nodes t (blocks_around t d.block)) k))
           ∙ sym (has_both (own_condition_nodes t p.condition) (dependency_nodes t d ++ visible_nodes t (blocks_around t d.block)) k)
 
-      at : (o : Option DefinitionValue) → slice_get t.definitions j ≡ o → (has_node symbols (option_map_or (λ d. option_map_or (λ p. own_condition_nodes t p.condition) d.prompt []) o []) k || (list_any (λ i. has_node symbols (dependency_at t i) k) (option_map_or (λ d. option_map_or (λ p. j ∷ []) d.prompt []) o []) || list_any (λ i. has_node symbols (visible_at t i) k) (option_map_or (λ d. option_map_or (λ p. j ∷ []) d.prompt []) o []))) ≡ option_map_or (λ d. has_node symbols (prompt_nodes t d) k) o false
+      at : (o : Option DefinitionValue) → slice_get t.definitions j ≡ o → (has_node symbols (option_map_or (λ d. option_map_or (λ p. own_condition_nodes t p.condition) (prompt_of d) []) o []) k || (list_any (λ i. has_node symbols (dependency_at t i) k) (option_map_or (λ d. option_map_or (λ p. j ∷ []) (prompt_of d) []) o []) || list_any (λ i. has_node symbols (visible_at t i) k) (option_map_or (λ d. option_map_or (λ p. j ∷ []) (prompt_of d) []) o []))) ≡ option_map_or (λ d. has_node symbols (prompt_nodes t d) k) o false
       at None e = refl
-      at (Some d) e = of_prompt d d.prompt e
+      at (Some d) e = of_prompt d (prompt_of d) e
 
   -- what the `visible if` lines around prompted definitions read
   pub visible_same : (t : TreeValue) (ps bs : List ℕ) → HaveSame bs (flat_map (block_numbers_at t) ps) → (k : ℕ) → has_node symbols (flat_map (λ b. get_or (visible_lists t) b []) bs) k ≡ has_node symbols (flat_map (visible_at t) ps) k

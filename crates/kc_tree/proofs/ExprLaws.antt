@@ -1,14 +1,9 @@
--- What the parts of an expression read, and what stands behind `!`.
-use Rattle.std.proofs.Common.{◌≡◌, ◌⊎◌, inl, inr, ◌∙◌, ℕ, zero, suc, refl, ap, sym, Box, Vec}
-use Rattle.std.specs.Global.{Global}
+-- What the parts of an expression read, and what comes after `!`.
+use Rattle.std.proofs.Common.{◌≡◌, ◌∙◌, ℕ, zero, suc, List, refl, ap, sym}
 use Rattle.std.specs.List.{flat_map}
-use Rattle.kc_statement.specs.declared.expr.Negations.{Negations}
-use Rattle.kc_statement.specs.declared.expr.Expr.{Expr}
-use Rattle.kc_statement.specs.declared.expr.Expr.TheViews as view
+use Rattle.kc_statement.specs.Formula.{Formula, all_joined, any_joined, negations}
 use Rattle.kc_outline.specs.TreeValue.{TreeValue}
-use Rattle.kc_statement.specs.Grammar.{Formula, negations, formula}
-use Rattle.kc_tree.specs.Uses.{formula_nodes, value_nodes}
-use Rattle.kc_statement.proofs.FormulaLaws.{formula_not, formula_all, formula_any}
+use Rattle.kc_tree.specs.Uses.{formula_nodes}
 use Rattle.kc_tree.proofs.CollectedLaws.{joined_both, joined_either}
 
 -- ---- runs of `!`
@@ -16,11 +11,13 @@ nodes_negations : (t : TreeValue) (n : ℕ) (f : Formula) → formula_nodes t (n
 nodes_negations t zero f = refl
 nodes_negations t (suc n) f = nodes_negations t n f
 
-pub value_negated : (t : TreeValue) (e : Expr) (run : Negations) (inner : Box Expr Global) → e ≡ view.Not run inner → value_nodes t inner.value ≡ value_nodes t e
-value_negated t e run inner is = sym (ap (λ (x : Expr). value_nodes t x) is ∙ ap (formula_nodes t) (formula_not run inner) ∙ nodes_negations t run.count (formula inner.value))
+pub value_negated : (t : TreeValue) (n : ℕ) (f g : Formula) → negations n f ≡ g → formula_nodes t f ≡ formula_nodes t g
+value_negated t n f g is = sym (nodes_negations t n f) ∙ ap (formula_nodes t) is
 
 -- ---- parts
 -- the nodes of the parts, however they are joined
-pub value_parts : (t : TreeValue) (e : Expr) (ps : Vec Expr Global) → (e ≡ view.All ps) ⊎ (e ≡ view.Any ps) → flat_map (value_nodes t) ps.items ≡ value_nodes t e
-value_parts t e ps (inl h) = sym (ap (λ (x : Expr). value_nodes t x) h ∙ ap (formula_nodes t) (formula_all ps) ∙ joined_both t ps.items)
-value_parts t e ps (inr h) = sym (ap (λ (x : Expr). value_nodes t x) h ∙ ap (formula_nodes t) (formula_any ps) ∙ joined_either t ps.items)
+pub all_parts : (t : TreeValue) (fs : List Formula) (f : Formula) → all_joined fs ≡ f → flat_map (formula_nodes t) fs ≡ formula_nodes t f
+all_parts t fs f is = sym (joined_both t fs) ∙ ap (formula_nodes t) is
+
+pub any_parts : (t : TreeValue) (fs : List Formula) (f : Formula) → any_joined fs ≡ f → flat_map (formula_nodes t) fs ≡ formula_nodes t f
+any_parts t fs f is = sym (joined_either t fs) ∙ ap (formula_nodes t) is

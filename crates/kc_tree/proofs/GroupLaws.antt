@@ -1,5 +1,6 @@
 -- How choices and their members belong together where nothing that lines define has a fault.
 use Rattle.std.proofs.Common.{◌≡◌, ℕ, zero, suc, ◌+◌, ◌<◌, ◌≤◌, ◌==◌, ◌||◌, not, Bool, true, false, if◌then◌else◌, List, [], ◌∷◌, Option, Some, None, option_map, option_and_then, is_some, slice_get, length, refl, sym, ap, ◌∙◌, inl, inr, arith}
+use Rattle.std.specs.Prelude.{nat_lt}
 use Rattle.std.specs.List.{AllByRecursion, find, list_any, range_with_len}
 use Rattle.std.specs.Option.{option_map_or, option_or}
 use Rattle.std.proofs.lemmas.Bool.{true≢false, eqb-true, eq-eqb, cases_lt, or_parts, or_left, or_right}
@@ -11,10 +12,9 @@ use Rattle.kc_outline.specs.declared.id.ChoiceId.{ChoiceId}
 use Rattle.kc_outline.specs.declared.choice.ChoiceDefault.{ChoiceDefault}
 use Rattle.kc_outline.specs.Grouped.{IsGrouped}
 use Rattle.kc_outline.specs.Members.{AreMembersListed}
-use Rattle.kc_outline.specs.TreeOf.{same_type}
-use Rattle.kc_outline.specs.TreeValue.{TreeValue, SymbolValue, ChoiceValue, choice_of, kind_of}
-use Rattle.kc_tree.specs.declared.fault.SymbolProblem.{SymbolProblem}
-use Rattle.kc_tree.specs.declared.fault.ChoiceProblem.{ChoiceProblem}
+use Rattle.kc_outline.specs.TreeValue.{TreeValue, SymbolValue, ChoiceValue, choice_of, kind_of, same_type, choice_prompt_of}
+use Rattle.kc_tree.specs.declared.problem.SymbolProblem.{SymbolProblem}
+use Rattle.kc_tree.specs.declared.problem.ChoiceProblem.{ChoiceProblem}
 use Rattle.kc_tree.specs.ChoiceFaults.{same_choice, is_member, is_of_other_type, lacks_prompt, is_defined_again, symbol_has, member_problem, choice_problem, problem_at}
 use Rattle.kc_tree.specs.OutlineFaults.{of_symbol, of_choice, outline_fault}
 
@@ -135,7 +135,7 @@ grouped t faultless lists = record {
       ap (λ (v : ChoiceValue). list_any (λ m. m.0 == s.0) v.members) (sym same) ∙ own.2;
 } where
   parts : (c : ChoiceId) (y : ChoiceValue) → slice_get t.choices c.0 ≡ Some y → (list_any (λ d. not (is_member t c d.symbol)) y.defaults ≡ false) × (member_problem t y.members ≡ None)
-  parts c y is = last_none (not (is_some y.prompt)) y.has_second_prompt (list_any (λ d. not (is_member t c d.symbol)) y.defaults) _ _ _ (member_problem t y.members) (no_problem t faultless c y is)
+  parts c y is = last_none (not (is_some (choice_prompt_of y))) (nat_lt 1 (length y.prompts)) (list_any (λ d. not (is_member t c d.symbol)) y.defaults) _ _ _ (member_problem t y.members) (no_problem t faultless c y is)
 
   tests : (c : ChoiceId) (y : ChoiceValue) → slice_get t.choices c.0 ≡ Some y → (list_any (symbol_has t is_of_other_type) y.members ≡ false) × (list_any (symbol_has t is_defined_again) y.members ≡ false)
   tests c y is = first_none (list_any (symbol_has t is_of_other_type) y.members) (list_any (symbol_has t lacks_prompt) y.members) (list_any (symbol_has t is_defined_again) y.members) _ _ _ (parts c y is).1

@@ -2,11 +2,13 @@ pub mod ChoiceLines
 pub mod CollectedLaws
 pub mod DependencyLaws
 pub mod ExprLaws
+pub mod FactorLaws
 pub mod GroupLaws
 pub mod LinkLaws
 pub mod MeaningLaws
 pub mod NodeGraphLaws
 pub mod NodeNumbers
+pub mod OneTree
 pub mod OrderLaws
 pub mod PartsWithin
 pub mod ReachedLaws

@@ -9,11 +9,11 @@ use Rattle.kc_statement.specs.declared.expr.Expr.{Expr}
 use Rattle.kc_outline.specs.declared.symbol.Reverse.{Reverse}
 use Rattle.kc_tree.specs.declared.node.Node.{Node}
 use Rattle.kc_tree.specs.declared.node.Node.TheVariants.{Vis, Val}
-use Rattle.kc_outline.specs.TreeValue.{TreeValue, SymbolValue, ChoiceValue}
+use Rattle.kc_outline.specs.TreeValue.{TreeValue, SymbolValue, ChoiceValue, prompt_of}
 use Rattle.kc_tree.specs.Nodes.{IsNodeOf}
-use Rattle.kc_tree.specs.Uses.{symbol_nodes, own_condition_nodes, default_nodes, range_nodes, type_nodes, mode_nodes, selection_nodes, choice_value_nodes}
-use Rattle.kc_tree.specs.Collected.{defaults_at, ranges_at, prompt_own_at, source_nodes}
-use Rattle.kc_tree.proofs.WithinLaws.{none, joined, flat, option, symbol, own_condition, default_value, range, typed, moded, selected, choice_value}
+use Rattle.kc_tree.specs.Uses.{symbol_nodes, own_condition_nodes, type_nodes, mode_nodes, selection_nodes, choice_value_nodes}
+use Rattle.kc_tree.specs.Collected.{defaults_at, ranges_at, prompt_own_at, source_nodes, default_alone_nodes, range_alone_nodes}
+use Rattle.kc_tree.proofs.WithinLaws.{none, joined, flat, option, symbol, own_condition, default_alone, range_alone, typed, moded, selected, choice_value}
 
 module _ (t : TreeValue) where
   abbrev IsNode : Node → Type 0
@@ -27,21 +27,21 @@ module _ (t : TreeValue) where
 
   pub defaults_within : (js : List ℕ) → AreNodes (flat_map (defaults_at t) js)
   defaults_within js = flat IsNode (defaults_at t) js
-      (λ j. option IsNode (λ d. flat_map (default_nodes t) d.defaults) (slice_get t.definitions j)
-      (λ d. flat IsNode (default_nodes t) d.defaults (default_value t IsNode value_is)))
+      (λ j. option IsNode (λ d. flat_map (default_alone_nodes t) d.defaults) (slice_get t.definitions j)
+      (λ d. flat IsNode (default_alone_nodes t) d.defaults (default_alone t IsNode value_is)))
 
   pub ranges_within : (js : List ℕ) → AreNodes (flat_map (ranges_at t) js)
   ranges_within js = flat IsNode (ranges_at t) js
-      (λ j. option IsNode (λ d. flat_map (range_nodes t) d.ranges) (slice_get t.definitions j)
-      (λ d. flat IsNode (range_nodes t) d.ranges (range t IsNode value_is)))
+      (λ j. option IsNode (λ d. flat_map (range_alone_nodes t) d.ranges) (slice_get t.definitions j)
+      (λ d. flat IsNode (range_alone_nodes t) d.ranges (range_alone t IsNode value_is)))
 
   pub own_condition_within : (o : Option Expr) → AreNodes (own_condition_nodes t o)
   own_condition_within o = own_condition t IsNode value_is o
 
   pub prompts_within : (js : List ℕ) → AreNodes (flat_map (prompt_own_at t) js)
   prompts_within js = flat IsNode (prompt_own_at t) js
-      (λ j. option IsNode (λ d. option_map_or (λ p. own_condition_nodes t p.condition) d.prompt []) (slice_get t.definitions j)
-      (λ d. option IsNode (λ p. own_condition_nodes t p.condition) d.prompt (λ p. own_condition_within p.condition)))
+      (λ j. option IsNode (λ d. option_map_or (λ p. own_condition_nodes t p.condition) (prompt_of d) []) (slice_get t.definitions j)
+      (λ d. option IsNode (λ p. own_condition_nodes t p.condition) (prompt_of d) (λ p. own_condition_within p.condition)))
 
   pub sources_within : (rs : List Reverse) → AreNodes (flat_map (source_nodes t) rs)
   sources_within rs = flat IsNode (source_nodes t) rs

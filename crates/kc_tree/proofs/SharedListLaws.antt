@@ -1,8 +1,8 @@
 -- Shared lists that are added one after another: rows mean what they meant.
-use Rattle.std.proofs.Common.{◌≡◌, ℕ, zero, suc, ◌+◌, ◌-◌, ◌<◌, ◌≤◌, Bool, List, [], ◌∷◌, ◌++◌, length, get_or, refl, sym, ap, subst, ◌∙◌, inl, inr, ◌⊎◌, arith}
+use Rattle.std.proofs.Common.{◌≡◌, ℕ, zero, suc, ◌+◌, ◌-◌, ◌<◌, ◌≤◌, Bool, List, [], ◌∷◌, ◌++◌, length, map, take, get_or, refl, sym, ap, subst, ◌∙◌, inl, inr, ◌⊎◌, arith}
 use Rattle.std.specs.List.{All, Contains, list_any}
 use Rattle.std.proofs.lemmas.Bool.{cases_lt}
-use Rattle.std.proofs.lemmas.List.{get_or_append_left, get_or_push, get_or_past, length_push}
+use Rattle.std.proofs.lemmas.List.{map-append, take_more, get_or_append_left, get_or_push, get_or_past, length_push}
 use Rattle.kc_tree.specs.declared.node.Node.{Node}
 use Rattle.kc_outline.specs.TreeValue.{TreeValue}
 use Rattle.kc_tree.specs.Nodes.{IsNodeOf, node_count}
@@ -81,6 +81,15 @@ grows_none t old = record { meant = λ lists rows m. m; nodes = λ n. n }
 
 pub grows_then : (t : TreeValue) (a b c : List (List ℕ)) → Grows t a b → Grows t b c → Grows t a c
 grows_then t a b c f g = record { meant = λ lists rows m. g.meant lists rows (f.meant lists rows m); nodes = λ n. g.nodes (f.nodes n) }
+
+-- one list more, of what an element of a list reads
+pub meant_more : (t : TreeValue) {X : Type 0} (f : X → List Node) (xs : List X) (i : ℕ) (x : X) (ns : List Node) (shared rows : List (List ℕ))
+    → i < length xs → x ≡ get_or xs i x → ns ≡ f x → AreMeant t shared (map f (take i xs) ++ ns ∷ []) rows → AreMeant t shared (map f (take (i + 1) xs)) rows
+meant_more t f xs i x ns shared rows h e same m =
+    let one : take (i + 1) xs ≡ take i xs ++ x ∷ [] = take_more xs i x h ∙ ap (λ y. take i xs ++ y ∷ []) (sym e) in
+    let mapped : map f (take (i + 1) xs) ≡ map f (take i xs) ++ ns ∷ [] =
+    ap (map f) one ∙ map-append f (take i xs) (x ∷ []) ∙ ap (λ ms. map f (take i xs) ++ ms ∷ []) (sym same) in
+    subst (λ ls. AreMeant t shared ls rows) (sym mapped) m
 
 -- no shared list
 pub none_of_nodes : (t : TreeValue) (shared : List (List ℕ)) → shared ≡ [] → AreOfNodes t shared

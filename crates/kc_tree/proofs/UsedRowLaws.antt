@@ -1,5 +1,5 @@
 -- The rows of all nodes are the graph of the nodes.
-use Rattle.std.proofs.Common.{◌≡◌, ℕ, zero, suc, ◌+◌, ◌-◌, ◌*◌, ◌<◌, ◌≤◌, true, eqb, cond, List, [], ◌∷◌, ◌++◌, length, get_or, take, Option, refl, sym, ap, subst, ◌∙◌, inl, inr, arith, get_or-take, length-take-le}
+use Rattle.std.proofs.Common.{◌≡◌, ℕ, zero, suc, ◌+◌, ◌-◌, ◌*◌, ◌<◌, ◌≤◌, ◌^◌, true, eqb, cond, List, [], ◌∷◌, ◌++◌, length, get_or, take, Option, refl, sym, ap, subst, ◌∙◌, inl, inr, arith, get_or-take, length-take-le}
 use Rattle.std.specs.List.{All, Contains}
 use Rattle.std.specs.Option.{option_map_or}
 use Rattle.std.proofs.lemmas.List.Elements.{All-contains}
@@ -229,6 +229,12 @@ module _ (t : TreeValue) where
 -- the table as it is made
 abbrev pub IsTable : TreeValue → ℕ → List (List ℕ) → Type 0
 IsTable t nodes rows = IsShared nodes rows × IsGraphOf t (whole_rows nodes rows)
+
+pub table_few : (u : TreeValue) (own shared rows : List (List ℕ)) → AreMeant u shared (used_lists_with u (length u.choices)) own
+    → node_count u + length shared < 2 ^ 32 → rows ≡ own ++ shared → length rows < 2 ^ 32
+table_few u own shared rows are few parts =
+    let count : length rows ≡ length own + length shared = ap length parts ∙ length-append own shared in
+    omega (arith, count, are.whole, all_count u (length u.choices), few)
 
 pub table_made : (t u : TreeValue) (nodes : ℕ) (own shared rows : List (List ℕ)) → u ≡ t → nodes ≡ node_count u → AreMeant u shared (used_lists_with u (length u.choices)) own → AreOfNodes u shared → rows ≡ own ++ shared
     → IsTable t nodes rows

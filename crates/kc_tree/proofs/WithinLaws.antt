@@ -17,11 +17,12 @@ use Rattle.kc_outline.specs.declared.symbol.Reverse.{Reverse}
 use Rattle.kc_statement.specs.declared.symbol_type.SymbolType.TheVariants.{Tristate}
 use Rattle.kc_tree.specs.declared.node.Node.{Node}
 use Rattle.kc_tree.specs.declared.node.Node.TheVariants.{Vis, Val, Mode, Sel}
-use Rattle.kc_outline.specs.TreeOf.{same_type}
-use Rattle.kc_outline.specs.TreeValue.{TreeValue, SymbolValue, DefinitionValue, BlockValue, ChoiceValue, modules_symbol, kind_of, definitions_of, blocks_around}
+use Rattle.kc_outline.specs.TreeValue.{TreeValue, SymbolValue, DefinitionValue, BlockValue, ChoiceValue, modules_symbol, kind_of, definitions_of, blocks_around, same_type, prompt_of, choice_prompt_of}
 use Rattle.kc_tree.specs.Nodes.{IsNodeOf}
-use Rattle.kc_statement.specs.Grammar.{Formula, atom, bare, compare, negation, group, both, either, formula}
-use Rattle.kc_tree.specs.Uses.{symbol_nodes, term_nodes, formula_nodes, value_nodes, modules_nodes, nodes_if, conditions_nodes, own_condition_nodes, depends_nodes, visible_nodes, dependency_nodes, prompt_nodes, default_nodes, range_nodes, definition_nodes, reverse_nodes, mode_nodes, selection_nodes, visibility_node, choice_prompt_nodes, choice_default_nodes, choice_value_nodes, type_nodes, visibility_nodes, free_value_nodes, symbol_value_nodes, used_nodes, Uses}
+use Rattle.kc_statement.specs.Formula.{Formula, atom, bare, compare, negation, group, both, either}
+use Rattle.kc_tree.specs.Uses.{symbol_nodes, term_nodes, formula_nodes, value_nodes, modules_nodes, nodes_if, conditions_nodes, own_condition_nodes, depends_nodes, visible_nodes, dependency_nodes, prompt_nodes, default_nodes, range_nodes, definition_nodes, reverse_nodes, mode_nodes, selection_nodes, condition_nodes, visibility_node, choice_prompt_nodes, choice_default_nodes, choice_value_nodes, type_nodes, visibility_nodes, free_value_nodes, symbol_value_nodes, used_nodes, Uses}
+use Rattle.kc_tree.specs.ConditionTable.{of_property}
+use Rattle.kc_tree.specs.Collected.{default_alone_nodes, range_alone_nodes}
 use Rattle.kc_tree.proofs.CollectedLaws.{one_within, none_past}
 
 -- lists of nodes of which something holds
@@ -77,7 +78,7 @@ module _ (t : TreeValue) (P : Node → Type 0) (val : (s : SymId) → s.0 < leng
   value (either f g) = joined P (formula_nodes t f) (formula_nodes t g) (value f) (value g)
 
   condition : (e : Expr) → Are P (value_nodes t e)
-  condition e = value (formula e)
+  condition e = value e
 
   pub conditions : (es : List Expr) → Are P (conditions_nodes t es)
   conditions es = flat P (value_nodes t) es condition
@@ -96,18 +97,27 @@ module _ (t : TreeValue) (P : Node → Type 0) (val : (s : SymId) → s.0 < leng
   dependency d = joined P (conditions_nodes t d.depends) _ (conditions d.depends) (depends (blocks_around t d.block))
 
   pub prompt : (d : DefinitionValue) → Are P (prompt_nodes t d)
-  prompt d = option P (λ p. own_condition_nodes t p.condition ++ (dependency_nodes t d ++ visible_nodes t (blocks_around t d.block))) d.prompt
+  prompt d = option P (λ p. own_condition_nodes t p.condition ++ (dependency_nodes t d ++ visible_nodes t (blocks_around t d.block))) (prompt_of d)
       (λ p. joined P (own_condition_nodes t p.condition) _ (own_condition p.condition) (joined P (dependency_nodes t d) _ (dependency d) (visible (blocks_around t d.block))))
 
-  pub default_value : (d : DefaultValue) → Are P (default_nodes t d)
-  default_value d = joined P (value_nodes t d.value) _ (value (formula d.value)) (own_condition d.condition)
+  pub default_alone : (v : DefaultValue) → Are P (default_alone_nodes t v)
+  default_alone v = joined P (value_nodes t v.value) _ (value v.value) (own_condition v.condition)
 
-  pub range : (r : Range) → Are P (range_nodes t r)
-  range r = joined P (term_nodes t r.low) _ (term r.low) (joined P (term_nodes t r.high) _ (term r.high) (own_condition r.condition))
+  pub range_alone : (r : Range) → Are P (range_alone_nodes t r)
+  range_alone r = joined P (term_nodes t r.low) _ (term r.low) (joined P (term_nodes t r.high) _ (term r.high) (own_condition r.condition))
+
+  property : (d : DefinitionValue) (c : Option Expr) → Are P (condition_nodes t (of_property t d c))
+  property d c = joined P (own_condition_nodes t c) _ (own_condition c) (dependency d)
+
+  default_value : (d : DefinitionValue) (v : DefaultValue) → Are P (default_nodes t d v)
+  default_value d v = joined P (value_nodes t v.value) _ (value v.value) (property d v.condition)
+
+  range : (d : DefinitionValue) (r : Range) → Are P (range_nodes t d r)
+  range d r = joined P (term_nodes t r.low) _ (term r.low) (joined P (term_nodes t r.high) _ (term r.high) (property d r.condition))
 
   pub definition : (d : DefinitionValue) → Are P (definition_nodes t d)
-  definition d = joined P (flat_map (default_nodes t) d.defaults) _ (flat P (default_nodes t) d.defaults default_value)
-      (joined P (flat_map (range_nodes t) d.ranges) _ (flat P (range_nodes t) d.ranges range) (dependency d))
+  definition d = joined P (flat_map (default_nodes t d) d.defaults) _ (flat P (default_nodes t d) d.defaults (default_value d))
+      (joined P (flat_map (range_nodes t d) d.ranges) _ (flat P (range_nodes t d) d.ranges (range d)) (dependency d))
 
   pub reversed : (r : Reverse) → Are P (reverse_nodes t r)
   reversed r = joined P (symbol_nodes t r.by) _ (symbol r.by) (joined P (own_condition_nodes t r.condition) _ (own_condition r.condition) (option P (dependency_nodes t) (slice_get t.definitions r.definition) dependency))
@@ -144,7 +154,7 @@ module _ (t : TreeValue) (P : Node → Type 0) (vis : (s : SymId) → s.0 < leng
       of_choice (Some c) = All-cons (λ n. P n) (Vis s) _ (vis s h) (selected c)
 
   pub choice_prompt : (x : ChoiceValue) → Are P (choice_prompt_nodes t x)
-  choice_prompt x = option P (λ p. own_condition_nodes t p.condition ++ (depends_nodes t (blocks_around t (Some x.block)) ++ visible_nodes t (blocks_around t (Some x.block)))) x.prompt
+  choice_prompt x = option P (λ p. own_condition_nodes t p.condition ++ (depends_nodes t (blocks_around t (Some x.block)) ++ visible_nodes t (blocks_around t (Some x.block)))) (choice_prompt_of x)
       (λ p. joined P (own_condition_nodes t p.condition) _ (own_condition t P val p.condition) (joined P (depends_nodes t (blocks_around t (Some x.block))) _ (depends t P val (blocks_around t (Some x.block))) (visible t P val (blocks_around t (Some x.block)))))
 
   pub chosen : (d : ChoiceDefault) → Are P (choice_default_nodes t d)

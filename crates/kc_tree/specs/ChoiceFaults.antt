@@ -1,14 +1,13 @@
 -- What is wrong with a choice: this project's own list, after kconfig-language.rst, "choices".
-use Rattle.std.specs.Prelude.{ℕ, ◌==◌, Bool, false, not, List, Option, Some, None, if◌then◌else◌, is_some, option_map, option_and_then, length, find, slice_get}
+use Rattle.std.specs.Prelude.{ℕ, ◌==◌, nat_lt, Bool, false, not, List, Option, Some, None, if◌then◌else◌, is_some, option_map, option_and_then, length, find, slice_get}
 use Rattle.std.specs.Option.{option_map_or}
 use Rattle.std.specs.List.{list_any, range_with_len}
 use Rattle.kc_statement.specs.declared.id.SymId.{SymId}
 use Rattle.kc_outline.specs.declared.id.ChoiceId.{ChoiceId}
 use Rattle.kc_statement.specs.declared.symbol_type.SymbolType.TheVariants.{Bool as BoolType}
-use Rattle.kc_outline.specs.TreeOf.{same_type}
-use Rattle.kc_outline.specs.TreeValue.{TreeValue, SymbolValue, ChoiceValue, kind_of, choice_of, definitions_of}
-use Rattle.kc_tree.specs.declared.fault.ChoiceProblem.{ChoiceProblem}
-use Rattle.kc_tree.specs.declared.fault.ChoiceProblem.TheVariants.{NoPrompt, SecondPrompt, ForeignDefault, MemberType, MemberWithoutPrompt, MemberDefinedAgain}
+use Rattle.kc_outline.specs.TreeValue.{TreeValue, SymbolValue, ChoiceValue, kind_of, choice_of, definitions_of, same_type, prompt_of, choice_prompt_of}
+use Rattle.kc_tree.specs.declared.problem.ChoiceProblem.{ChoiceProblem}
+use Rattle.kc_tree.specs.declared.problem.ChoiceProblem.TheVariants.{NoPrompt, SecondPrompt, ForeignDefault, MemberType, MemberWithoutPrompt, MemberDefinedAgain}
 
 abbrev pub same_choice : ChoiceId → Option ChoiceId → Bool
 same_choice c None = false
@@ -20,7 +19,7 @@ is_member t c None = false
 is_member t c (Some s) = same_choice c (choice_of t s)
 
 abbrev pub has_prompt : TreeValue → SymbolValue → Bool
-has_prompt t x = list_any (λ d. is_some d.prompt) (definitions_of t x)
+has_prompt t x = list_any (λ d. is_some (prompt_of d)) (definitions_of t x)
 
 -- ---- what a member may not be
 abbrev pub is_of_other_type : TreeValue → SymbolValue → Bool
@@ -47,8 +46,8 @@ member_problem t members =
 -- without prompt, with two, with a default that is no member, or with a bad member
 abbrev pub choice_problem : TreeValue → ChoiceId → ChoiceValue → Option ChoiceProblem
 choice_problem t c x =
-    if not (is_some x.prompt) then Some NoPrompt
-    else (if x.has_second_prompt then Some SecondPrompt
+    if not (is_some (choice_prompt_of x)) then Some NoPrompt
+    else (if nat_lt 1 (length x.prompts) then Some SecondPrompt
     else (if list_any (λ d. not (is_member t c d.symbol)) x.defaults then Some ForeignDefault
     else member_problem t x.members))
 

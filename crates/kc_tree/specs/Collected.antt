@@ -1,14 +1,16 @@
--- What rows of numbers hold of nodes while they are being collected: this project's own.
+-- Steps: what rows of numbers hold of nodes while they are being collected: this project's own.
 use Rattle.std.specs.Prelude.{◌≡◌, ℕ, zero, suc, ◌==◌, Bool, ◌||◌, List, [], ◌∷◌, ◌++◌, Option, Some, None, map, length, flat_map, slice_get}
 use Rattle.std.specs.Option.{option_map_or}
 use Rattle.std.specs.List.{list_any}
 use Rattle.kc_outline.specs.declared.id.BlockId.{BlockId}
 use Rattle.kc_outline.specs.declared.symbol.Reverse.{Reverse}
+use Rattle.kc_statement.specs.declared.attribute.DefaultValue.{DefaultValue}
+use Rattle.kc_statement.specs.declared.attribute.Range.{Range}
 use Rattle.kc_tree.specs.declared.node.Node.{Node}
 use Rattle.kc_tree.specs.declared.node.Node.TheVariants.{Vis, Val, Mode, Sel}
-use Rattle.kc_outline.specs.TreeValue.{TreeValue, BlockValue, blocks_around}
+use Rattle.kc_outline.specs.TreeValue.{TreeValue, BlockValue, blocks_around, prompt_of}
 use Rattle.kc_tree.specs.Nodes.{number_in}
-use Rattle.kc_tree.specs.Uses.{symbol_nodes, conditions_nodes, own_condition_nodes, dependency_nodes, depends_nodes, visible_nodes, default_nodes, range_nodes, used_nodes}
+use Rattle.kc_tree.specs.Uses.{symbol_nodes, visibility_node, mode_nodes, selection_nodes, conditions_nodes, own_condition_nodes, dependency_nodes, depends_nodes, visible_nodes, term_nodes, value_nodes, used_nodes}
 use Rattle.kc_outline.specs.declared.limits.TheConstants.{MOST_OPEN_BLOCKS}
 
 -- a number is in the row
@@ -67,24 +69,38 @@ block_numbers_at t j = option_map_or (λ d. block_numbers t.blocks MOST_OPEN_BLO
 abbrev pub innermost_at : TreeValue → ℕ → List ℕ
 innermost_at t j = option_map_or (λ d. option_map_or (λ b. b.0 ∷ []) d.block []) (slice_get t.definitions j) []
 
+-- the node, where the tree has its symbol or choice
+abbrev pub node_there : TreeValue → Node → List Node
+node_there t (Vis s) = visibility_node t s
+node_there t (Val s) = symbol_nodes t s
+node_there t (Mode c) = mode_nodes t c
+node_there t (Sel c) = selection_nodes t c
+
 -- what a `select` or `imply` reads besides the dependencies of its definition
 abbrev pub source_nodes : TreeValue → Reverse → List Node
 source_nodes t r = symbol_nodes t r.by ++ own_condition_nodes t r.condition
 
+-- what a default and a range read besides these
+abbrev pub default_alone_nodes : TreeValue → DefaultValue → List Node
+default_alone_nodes t v = value_nodes t v.value ++ own_condition_nodes t v.condition
+
+abbrev pub range_alone_nodes : TreeValue → Range → List Node
+range_alone_nodes t r = term_nodes t r.low ++ (term_nodes t r.high ++ own_condition_nodes t r.condition)
+
 -- ---- parts of definitions, by number
 abbrev pub defaults_at : TreeValue → ℕ → List Node
-defaults_at t j = option_map_or (λ d. flat_map (default_nodes t) d.defaults) (slice_get t.definitions j) []
+defaults_at t j = option_map_or (λ d. flat_map (default_alone_nodes t) d.defaults) (slice_get t.definitions j) []
 
 abbrev pub ranges_at : TreeValue → ℕ → List Node
-ranges_at t j = option_map_or (λ d. flat_map (range_nodes t) d.ranges) (slice_get t.definitions j) []
+ranges_at t j = option_map_or (λ d. flat_map (range_alone_nodes t) d.ranges) (slice_get t.definitions j) []
 
 -- the condition of the prompt itself
 abbrev pub prompt_own_at : TreeValue → ℕ → List Node
-prompt_own_at t j = option_map_or (λ d. option_map_or (λ p. own_condition_nodes t p.condition) d.prompt []) (slice_get t.definitions j) []
+prompt_own_at t j = option_map_or (λ d. option_map_or (λ p. own_condition_nodes t p.condition) (prompt_of d) []) (slice_get t.definitions j) []
 
 -- the number alone, where the definition has a prompt
 abbrev pub prompted_at : TreeValue → ℕ → List ℕ
-prompted_at t j = option_map_or (λ d. option_map_or (λ p. j ∷ []) d.prompt []) (slice_get t.definitions j) []
+prompted_at t j = option_map_or (λ d. option_map_or (λ p. j ∷ []) (prompt_of d) []) (slice_get t.definitions j) []
 
 -- what the lines of the blocks around a definition read
 abbrev pub depends_at : TreeValue → ℕ → List Node

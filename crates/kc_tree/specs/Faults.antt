@@ -7,9 +7,8 @@ use Rattle.kc_outline.specs.declared.fault.LineFault.TheVariants as line_problem
 use Rattle.kc_outline.specs.TreeValue.{TreeValue, name_of}
 use Rattle.kc_tree.specs.declared.node.Node.{Node}
 use Rattle.kc_tree.specs.declared.fault.NamedNode.{NamedNode}
-use Rattle.kc_tree.specs.declared.fault.SymbolProblem.{SymbolProblem}
-use Rattle.kc_tree.specs.declared.fault.SymbolProblem.TheVariants.{NoType, TypeConflict, SecondPrompt, UnfitDefault, UnfitSelect, BadModules}
-use Rattle.kc_tree.specs.declared.fault.ChoiceProblem.{ChoiceProblem}
+use Rattle.kc_tree.specs.declared.problem.SymbolProblem.{SymbolProblem}
+use Rattle.kc_tree.specs.declared.problem.ChoiceProblem.{ChoiceProblem}
 use Rattle.kc_tree.specs.declared.fault.TreeFault.{TreeFault}
 use Rattle.kc_tree.specs.declared.fault.TreeFault.TheVariants.{Line, Symbol, Choice, Loop, NoMemory}
 use Rattle.kc_tree.specs.declared.outline_faults.OutlineFault.TheVariants as outline_problem
@@ -57,12 +56,3 @@ IsTreeProblem lines t (Symbol problem name) = IsSymbolFault t problem name
 IsTreeProblem lines t (Choice problem path number) = IsChoiceFault lines t problem path number
 IsTreeProblem lines t (Loop nodes) = (outline_fault t ≡ None) × IsNamedLoop t nodes.items
 IsTreeProblem lines t NoMemory = Unit {0}
-
--- the number that is printed for a problem of a symbol
-abbrev pub symbol_problem_number : SymbolProblem → ℕ
-symbol_problem_number NoType = 12
-symbol_problem_number TypeConflict = 13
-symbol_problem_number SecondPrompt = 14
-symbol_problem_number UnfitDefault = 15
-symbol_problem_number UnfitSelect = 16
-symbol_problem_number BadModules = 18

@@ -1,6 +1,7 @@
 pub mod Accepted
 pub mod ChoiceFaults
 pub mod Collected
+pub mod ConditionTable
 pub mod Faults
 pub mod Fits
 pub mod Inside
@@ -10,6 +11,7 @@ pub mod Nodes
 pub mod Order
 pub mod OutlineFaults
 pub mod Parsed
+pub mod Problems
 pub mod Reached
 pub mod SharedLists
 pub mod SymbolFaults

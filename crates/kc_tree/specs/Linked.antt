@@ -1,9 +1,9 @@
--- What stops the making of a tree whose symbols have no fault: this project's own.
+-- Steps: what stops the making of a tree whose symbols have no fault: this project's own.
 use Rattle.std.specs.Prelude.{◌≡◌, ℕ, List, Some, filter, slice_get}
 use Rattle.kc_text.specs.LineValue.{LineValue}
 use Rattle.kc_outline.specs.declared.id.ChoiceId.{ChoiceId}
 use Rattle.kc_statement.specs.Keywords.{is_choice}
-use Rattle.kc_tree.specs.declared.fault.ChoiceProblem.{ChoiceProblem}
+use Rattle.kc_tree.specs.declared.problem.ChoiceProblem.{ChoiceProblem}
 use Rattle.kc_tree.specs.declared.fault.NamedNode.{NamedNode}
 use Rattle.kc_tree.specs.declared.fault.TreeFault.{TreeFault}
 use Rattle.kc_tree.specs.declared.fault.TreeFault.TheVariants.{Line, Symbol, Choice, Loop, NoMemory}

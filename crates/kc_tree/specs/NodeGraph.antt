@@ -1,4 +1,4 @@
--- The graph of the nodes of a tree, by number: this project's own.
+-- Steps: the graph of the nodes of a tree, by number: this project's own.
 use Rattle.std.specs.Prelude.{◌≡◌, ℕ, List, length, ◌↔◌}
 use Rattle.kc_outline.specs.TreeValue.{TreeValue}
 use Rattle.kc_tree.specs.Nodes.{node_at, node_count}

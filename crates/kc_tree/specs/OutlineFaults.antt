@@ -3,8 +3,8 @@ use Rattle.std.specs.Prelude.{◌<◌, Option, option_map, length}
 use Rattle.std.specs.Option.{option_or}
 use Rattle.kc_statement.specs.declared.id.SymId.{SymId}
 use Rattle.kc_outline.specs.declared.id.ChoiceId.{ChoiceId}
-use Rattle.kc_tree.specs.declared.fault.SymbolProblem.{SymbolProblem}
-use Rattle.kc_tree.specs.declared.fault.ChoiceProblem.{ChoiceProblem}
+use Rattle.kc_tree.specs.declared.problem.SymbolProblem.{SymbolProblem}
+use Rattle.kc_tree.specs.declared.problem.ChoiceProblem.{ChoiceProblem}
 use Rattle.kc_tree.specs.declared.outline_faults.OutlineFault.{OutlineFault}
 use Rattle.kc_tree.specs.declared.outline_faults.OutlineFault.TheVariants.{Symbol, Choice}
 use Rattle.kc_outline.specs.TreeValue.{TreeValue}

@@ -30,3 +30,32 @@ IsFaultOf lines (Symbol problem name) = IsFaultOfOutline lines (Symbol problem n
 IsFaultOf lines (Choice problem path number) = IsFaultOfOutline lines (Choice problem path number)
 IsFaultOf lines (Loop nodes) = IsFaultOfOutline lines (Loop nodes)
 IsFaultOf lines NoMemory = Unit {0}
+
+-- ---- there is one answer for lines
+-- the fault says something of the lines: it is not out of memory
+abbrev pub IsOfLines : TreeFault → Type 0
+IsOfLines (Line problem path number) = Unit {0}
+IsOfLines (Symbol problem name) = Unit {0}
+IsOfLines (Choice problem path number) = Unit {0}
+IsOfLines (Loop nodes) = Unit {0}
+IsOfLines NoMemory = ⊥
+
+-- two faults of lines are the same; of several loops any may be the one that is reported
+abbrev pub AreOneFault : TreeFault → TreeFault → Type 0
+AreOneFault (Loop nodes) (Loop others) = Unit {0}
+AreOneFault f g = f ≡ g
+
+-- the lines have this tree, no other, and no fault
+pub record IsOnlyTree (lines : List LineValue) (t : TreeValue) : Type 0 where
+  pub one : (s : TreeValue) → IsTreeOf lines s → s ≡ t
+  pub faultless : (f : TreeFault) → IsOfLines f → IsFaultOf lines f → ⊥
+
+-- the lines have this first fault, no other, and no tree
+pub record IsOnlyFault (lines : List LineValue) (f : TreeFault) : Type 0 where
+  pub one : (g : TreeFault) → IsOfLines g → IsFaultOf lines g → AreOneFault g f
+  pub treeless : (t : TreeValue) → IsTreeOf lines t → ⊥
+
+-- what is said where lines have no tree: out of memory says nothing
+abbrev pub IsFirstFault : List LineValue → TreeFault → Type 0
+IsFirstFault lines NoMemory = Unit {0}
+IsFirstFault lines fault = IsOnlyFault lines fault

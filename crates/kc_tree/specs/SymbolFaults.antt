@@ -1,6 +1,6 @@
 -- What is wrong with a symbol: this project's own list, in its order, after kconfig-language.rst. Each is sought
 -- among all symbols by number before the next.
-use Rattle.std.specs.Prelude.{ℕ, ◌==◌, Bool, true, false, not, ◌&&◌, ◌||◌, List, [], ◌∷◌, Option, is_some, option_map, if◌then◌else◌, length, find, slice_get, codes}
+use Rattle.std.specs.Prelude.{ℕ, ◌==◌, Bool, true, false, not, ◌&&◌, ◌||◌, List, [], ◌∷◌, Option, is_some, option_map, if◌then◌else◌, length, nat_lt, find, slice_get, codes}
 use Rattle.std.specs.Option.{option_map_or, option_or}
 use Rattle.std.specs.List.{list_any, range_with_len}
 use Rattle.std.specs.Str.{bytes_eq}
@@ -13,33 +13,25 @@ use Rattle.kc_statement.specs.declared.attribute.DefaultValue.{DefaultValue}
 use Rattle.kc_statement.specs.declared.attribute.Range.{Range}
 use Rattle.kc_statement.specs.declared.expr.Term.{Term}
 use Rattle.kc_statement.specs.declared.expr.Term.TheVariants.{Tri, Text, Symbol, Undefined}
-use Rattle.kc_tree.specs.declared.fault.SymbolProblem.{SymbolProblem}
-use Rattle.kc_tree.specs.declared.fault.SymbolProblem.TheVariants.{NoType, TypeConflict, SecondPrompt, UnfitDefault, UnfitSelect, BadModules}
+use Rattle.kc_tree.specs.declared.problem.SymbolProblem.{SymbolProblem}
+use Rattle.kc_tree.specs.declared.problem.SymbolProblem.TheVariants.{NoType, TypeConflict, SecondPrompt, UnfitDefault, UnfitSelect, BadModules}
 use Rattle.std.specs.Char.{is_ascii_digit}
 use Rattle.kc_statement.specs.Grammar.{lone_term}
 use Rattle.kc_statement.specs.Numerals.{numeral_in}
-use Rattle.kc_outline.specs.TreeOf.{same_type}
-use Rattle.kc_outline.specs.TreeValue.{TreeValue, SymbolValue, DefinitionValue, kind_of, name_of, definitions_of}
+use Rattle.kc_statement.specs.SymbolTypes.{is_tri_type}
+use Rattle.kc_outline.specs.TreeValue.{TreeValue, SymbolValue, DefinitionValue, kind_of, name_of, definitions_of, same_type}
 
--- no definition gives it a type; a member of a choice is a bool then
+-- no line gives it a type; a member of a choice is a bool then
 abbrev pub lacks_type : TreeValue → SymId → SymbolValue → Bool
-lacks_type t s x = not (is_some x.kind) && not (is_some x.choice)
+lacks_type t s x = not (is_some (slice_get x.types 0)) && not (is_some x.choice)
 
--- its definitions give it different types
+-- a line gives it another type than the first
 abbrev pub has_types : TreeValue → SymId → SymbolValue → Bool
-has_types t s x = x.has_other_type
+has_types t s x = list_any (λ k. not (same_type (kind_of x) k)) x.types
 
--- one of its definitions has two prompts
+-- one of its definitions has two prompts or more
 abbrev pub has_two_prompts : TreeValue → SymId → SymbolValue → Bool
-has_two_prompts t s x = list_any (λ d. d.has_second_prompt) (definitions_of t x)
-
--- whether n, m and y are values of the type
-abbrev pub is_tri_type : SymbolType → Bool
-is_tri_type kind.Bool = true
-is_tri_type kind.Tristate = true
-is_tri_type kind.String = false
-is_tri_type kind.Int = false
-is_tri_type kind.Hex = false
+has_two_prompts t s x = list_any (λ d. nat_lt 1 (length d.prompts)) (definitions_of t x)
 
 -- the text is empty or begins as a number does
 abbrev pub begins_as_number : List ℕ → Bool

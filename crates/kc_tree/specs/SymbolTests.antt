@@ -1,9 +1,9 @@
--- Which test finds a problem of a symbol: this project's own.
+-- Steps: which test finds a problem of a symbol: this project's own.
 use Rattle.std.specs.Prelude.{◌≡◌, ℕ, ◌<◌, Bool, false, ◌||◌, length, slice_get}
 use Rattle.std.specs.Option.{option_map_or}
 use Rattle.kc_statement.specs.declared.id.SymId.{SymId}
-use Rattle.kc_tree.specs.declared.fault.SymbolProblem.{SymbolProblem}
-use Rattle.kc_tree.specs.declared.fault.SymbolProblem.TheVariants.{NoType, TypeConflict, SecondPrompt, UnfitDefault, UnfitSelect, BadModules}
+use Rattle.kc_tree.specs.declared.problem.SymbolProblem.{SymbolProblem}
+use Rattle.kc_tree.specs.declared.problem.SymbolProblem.TheVariants.{NoType, TypeConflict, SecondPrompt, UnfitDefault, UnfitSelect, BadModules}
 use Rattle.kc_outline.specs.TreeValue.{TreeValue, SymbolValue}
 use Rattle.kc_tree.specs.SymbolFaults.{lacks_type, has_types, has_two_prompts, has_unfit_default, has_unfit_select, is_bad_modules}
 

@@ -3,10 +3,10 @@
 ghost use Rattle.std.specs.Prelude.{◌≡◌, ◌<◌, ◌≤◌, ◌^◌, IfSome, false, is_some, length, not, slice_get};
 ghost use Rattle.std.specs.List.{list_any};
 ghost use Rattle.std.specs.Option.{option_map_or};
-ghost use Rattle.kc_outline.specs.TreeValue.{choice_of};
+ghost use Rattle.kc_outline.specs.TreeValue.{choice_of, prompt_of};
 ghost use Rattle.kc_tree.specs.ChoiceFaults.{choice_fault, choice_problem, has_prompt, is_member, is_of_other_type, lacks_prompt, is_defined_again, member_problem, problem_at, symbol_has};
 
-use crate::fault::ChoiceProblem;
+use crate::problem::ChoiceProblem;
 use kc_outline::{Choice, ChoiceDefault, ChoiceId, Outline, Symbol};
 use kc_statement::{SymId, SymbolType};
 
@@ -30,7 +30,7 @@ fn is_member(outline: &Outline, choice: ChoiceId, symbol: Option<SymId>) -> bool
 
 /// Whether a definition by number has a prompt.
 fn is_prompted(outline: &Outline, definition: usize) -> bool
-    ensures { result ≡ option_map_or (λ d. is_some d.prompt) (slice_get outline.now.definitions definition) false }
+    ensures { result ≡ option_map_or (λ d. is_some (prompt_of d)) (slice_get outline.now.definitions definition) false }
 {
     match outline.definitions().get(definition) {
         Some(definition) => definition.prompt().is_some(),
@@ -135,7 +135,7 @@ fn problem_of(outline: &Outline, id: ChoiceId, choice: &Choice) -> Option<Choice
 {
     if choice.prompt().is_none() {
         Some(ChoiceProblem::NoPrompt)
-    } else if choice.has_second_prompt() {
+    } else if choice.prompts().len() > 1 {
         Some(ChoiceProblem::SecondPrompt)
     } else if has_foreign_default(outline, id, choice.defaults()) {
         Some(ChoiceProblem::ForeignDefault)

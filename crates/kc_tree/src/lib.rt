@@ -9,22 +9,24 @@ mod node;
 mod node_rows;
 mod nodes;
 mod outline_faults;
+mod problem;
 mod symbol_faults;
 mod tree;
 mod user_value;
 mod uses;
 
-pub use fault::{ChoiceProblem, NamedNode, SymbolProblem, TreeFault};
+pub use fault::{NamedNode, TreeFault};
 pub use kc_outline::{
     Block, BlockId, BlockKind, Choice, ChoiceDefault, ChoiceId, Comment, CommentId, Definition,
     Entry, LineProblem, Reverse, Symbol,
 };
 pub use kc_statement::{
-    BoxedText, Comparison, DefaultValue, Expr, Negations, Operands, Prompt, Range, Seed, SymId,
+    BoxedText, Comparison, DefaultValue, Expr, ExprNode, Operands, Prompt, Range, Seed, SymId,
     SymbolType, Term, Tri, lone_term, numeral,
 };
 pub use node::Node;
 pub use node_rows::NodeRow;
 pub use nodes::Nodes;
+pub use problem::{ChoiceProblem, Problem, SymbolProblem};
 pub use tree::Tree;
 pub use user_value::UserVal;

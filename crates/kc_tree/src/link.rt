@@ -17,9 +17,10 @@ ghost use Rattle.kc_tree.specs.Faults.{IsLoopless, IsTreeProblem};
 ghost use Rattle.kc_tree.specs.Linked.{named_node, IsLinkFault, IsReported};
 ghost use Rattle.kc_statement.specs.declared.limits.TheConstants.{MOST_SYMBOLS};
 
-use crate::fault::{ChoiceProblem, NamedNode, TreeFault};
+use crate::fault::{NamedNode, TreeFault};
 use crate::node::Node;
 use crate::outline_faults::{OutlineFault, outline_fault};
+use crate::problem::ChoiceProblem;
 use crate::tree::Tree;
 use crate::uses::used_rows;
 use kc_graph::{OrderFault, SharedRows};

@@ -5,8 +5,8 @@ ghost use Rattle.kc_tree.specs.OutlineFaults.{outline_fault, IsInside};
 ghost use Rattle.kc_statement.specs.declared.limits.TheConstants.{MOST_SYMBOLS};
 
 use crate::choice_faults::choice_fault;
-use crate::fault::{ChoiceProblem, SymbolProblem};
-use crate::symbol_faults::{are_symbols_faultless, modules_fault, symbol_fault};
+use crate::problem::{ChoiceProblem, SymbolProblem};
+use crate::symbol_faults::{are_symbols_faultless, first_with, symbol_fault};
 use kc_outline::{ChoiceId, Outline};
 use kc_statement::SymId;
 
@@ -32,7 +32,7 @@ fn fault_in_turn(outline: &Outline) -> Option<OutlineFault>
     if let Some((problem, choice)) = choice_fault(outline) {
         return Some(OutlineFault::Choice(problem, choice));
     }
-    let (problem, symbol) = modules_fault(outline)?;
+    let (problem, symbol) = first_with(outline, SymbolProblem::BadModules)?;
     Some(OutlineFault::Symbol(problem, symbol))
 }
 

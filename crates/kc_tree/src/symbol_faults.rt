@@ -1,44 +1,52 @@
 //! What is wrong with a symbol.
 
-ghost use Rattle.std.specs.Prelude.{◌≡◌, ◌≤◌, false, length, slice_get, IsTrue};
+ghost use Rattle.std.specs.Prelude.{◌≡◌, ◌≤◌, false, length, nat_lt, not, slice_get, IsTrue};
 ghost use Rattle.std.specs.List.{list_any};
 ghost use Rattle.std.specs.Option.{option_map_or};
-ghost use Rattle.kc_outline.specs.TreeValue.{definitions_of, kind_of};
-ghost use Rattle.kc_tree.specs.SymbolFaults.{symbol_fault, modules_fault, fault_by, is_bad_modules, is_tri_type, begins_as_number, is_unfit_term, is_unfit_default, is_unfit_range, has_unfit, has_unfit_select};
+ghost use Rattle.kc_outline.specs.TreeValue.{definitions_of, kind_of, same_type};
+ghost use Rattle.kc_tree.specs.SymbolFaults.{symbol_fault, fault_by, is_bad_modules, begins_as_number, is_unfit_term, is_unfit_default, is_unfit_range, has_unfit, has_unfit_select};
 ghost use Rattle.kc_tree.specs.SymbolTests.{test_of, has_any_problem, IsFaultless};
 ghost use Rattle.kc_statement.specs.declared.limits.TheConstants.{MOST_SYMBOLS};
 
-use crate::fault::SymbolProblem;
+use crate::problem::SymbolProblem;
 use kc_outline::{Outline, Symbol};
 use kc_statement::{DefaultValue, Range, SymId, SymbolType, Term, lone_term, numeral};
 
-/// Whether a definition has two prompts.
-fn has_second_prompt(outline: &Outline, definition: usize) -> bool
-    ensures { result ≡ option_map_or (λ d. d.has_second_prompt) (slice_get outline.now.definitions definition) false }
+/// Whether a definition by number has two prompts or more.
+fn is_prompted_again(outline: &Outline, definition: usize) -> bool
+    ensures { result ≡ option_map_or (λ d. nat_lt 1 (length d.prompts)) (slice_get outline.now.definitions definition) false }
 {
     match outline.definitions().get(definition) {
-        Some(definition) => definition.has_second_prompt(),
+        Some(definition) => definition.prompts().len() > 1,
         None => false,
     }
 }
 
-/// Whether one of a symbol's definitions has two prompts.
+/// Whether one of a symbol's definitions has two prompts or more.
 fn has_two_prompts(outline: &Outline, symbol: &Symbol) -> bool
-    ensures { result ≡ list_any (λ d. d.has_second_prompt) (definitions_of outline.now symbol.now) }
+    ensures { result ≡ list_any (λ d. nat_lt 1 (length d.prompts)) (definitions_of outline.now symbol.now) }
 {
     for definition in symbol.definitions() {
-        if has_second_prompt(outline, *definition) {
+        if is_prompted_again(outline, *definition) {
             return true;
         }
     }
     false
 }
 
-/// Whether n, m and y are values of a type.
-fn is_tri_type(kind: SymbolType) -> bool
-    ensures { result ≡ is_tri_type kind }
+/// Whether two types differ.
+fn differ(kind: SymbolType, other: SymbolType) -> bool
+    ensures { result ≡ not (same_type kind other) }
 {
-    matches!(kind, SymbolType::Bool | SymbolType::Tristate)
+    kind != other
+}
+
+/// Whether a line gives a symbol another type than the first.
+fn has_types(symbol: &Symbol) -> bool
+    ensures { result ≡ list_any (λ k. not (same_type (kind_of symbol.now) k)) symbol.now.types }
+{
+    let kind = symbol.kind();
+    symbol.types().iter().any(|given| differ(kind, *given))
 }
 
 /// Whether a text is empty or begins as a number does.
@@ -68,7 +76,7 @@ fn is_unfit_term(kind: SymbolType, term: &Term) -> bool
 fn is_unfit_default(kind: SymbolType, default: &DefaultValue) -> bool
     ensures { result ≡ is_unfit_default kind default.now }
 {
-    if is_tri_type(kind) {
+    if kind.is_tri() {
         return false;
     }
     match lone_term(&default.value) {
@@ -135,7 +143,7 @@ fn has_unfit_default(outline: &Outline, symbol: &Symbol) -> bool
 fn has_unfit_select(symbol: &Symbol) -> bool
     ensures { result ≡ has_unfit_select symbol.now }
 {
-    !is_tri_type(symbol.kind())
+    !symbol.kind().is_tri()
         && (symbol.has_selections()
             || !symbol.selected().is_empty()
             || !symbol.implied().is_empty())
@@ -162,7 +170,7 @@ fn has_problem(outline: &Outline, problem: SymbolProblem, number: usize) -> bool
     };
     match problem {
         SymbolProblem::NoType => !symbol.has_type() && symbol.choice().is_none(),
-        SymbolProblem::TypeConflict => symbol.has_other_type(),
+        SymbolProblem::TypeConflict => has_types(symbol),
         SymbolProblem::SecondPrompt => has_two_prompts(outline, symbol),
         SymbolProblem::UnfitDefault => has_unfit_default(outline, symbol),
         SymbolProblem::UnfitSelect => has_unfit_select(symbol),
@@ -197,7 +205,10 @@ pub(crate) fn are_symbols_faultless(outline: &Outline) -> bool
 
 /// The first symbol with a problem, if there is one.
 #[inline(never)]
-fn first_with(outline: &Outline, problem: SymbolProblem) -> Option<(SymbolProblem, SymId)>
+pub(crate) fn first_with(
+    outline: &Outline,
+    problem: SymbolProblem,
+) -> Option<(SymbolProblem, SymId)>
     requires { length outline.now.symbols ≤ MOST_SYMBOLS }
     ensures { result ≡ fault_by outline.now problem (test_of problem) }
 {
@@ -228,12 +239,4 @@ pub(crate) fn symbol_fault(outline: &Outline) -> Option<(SymbolProblem, SymId)>
         return Some(fault);
     }
     first_with(outline, SymbolProblem::UnfitSelect)
-}
-
-/// The fault of `modules`, if there is one.
-pub(crate) fn modules_fault(outline: &Outline) -> Option<(SymbolProblem, SymId)>
-    requires { length outline.now.symbols ≤ MOST_SYMBOLS }
-    ensures { result ≡ modules_fault outline.now }
-{
-    first_with(outline, SymbolProblem::BadModules)
 }

@@ -1,4 +1,5 @@
-ghost use Rattle.std.specs.Prelude.{◌≡◌, ◌<◌, IfSome, IfOk, IfErr, length, Contains, ◌↔◌};
+ghost use Rattle.std.specs.Prelude.{◌≡◌, ◌<◌, ◌≤◌, ◌^◌, IfSome, IfOk, IfErr, length, Contains, ◌↔◌};
+ghost use Rattle.kc_text.specs.declared.reading.TheConstants.{MOST_LINES};
 ghost use Rattle.kc_outline.specs.TreeValue.{symbol_named, name_of, modules_symbol};
 ghost use Rattle.kc_tree.specs.Nodes.{all_nodes, node_at, node_count, number_of, AreNumbered, IsNodeOf};
 ghost use Rattle.kc_tree.specs.Uses.{Uses};
@@ -63,7 +64,7 @@ fn fits_type(kind: SymbolType, value: &UserVal) -> bool
 }
 
 impl Tree {
-    ghost use Rattle.kc_tree.specs.Parsed.{IsTreeOf, IsFaultOf};
+    ghost use Rattle.kc_tree.specs.Parsed.{IsTreeOf, IsFaultOf, IsOnlyTree, IsFirstFault};
 
     /// Reads the tree of logical lines (kconfig-language.rst, "Menu entries").
     ///
@@ -83,26 +84,34 @@ impl Tree {
     ///   `modules` (K18).
     /// - `TreeFault::Choice` where none of these up to K16 is there, with the line of the first choice with a fault (K17).
     /// - `TreeFault::Loop` where there is no other fault, with nodes that form a loop.
-    /// - `TreeFault::NoMemory` where memory was refused, for more than 2^30 lines, and where the rows of what nodes use are
-    ///   more than 2^32 - 1, or hold more than as many numbers together.
+    /// - `TreeFault::NoMemory` where memory was refused.
+    ///
+    /// There are no more lines than `logical_lines` gives.
     pub fn parse(alloc: Global, lines: &[Line<'_>]) -> Result<Tree, TreeFault>
+        requires { length lines.now ≤ MOST_LINES }
         ensures tree { IfOk result (IsTreeOf lines.now) }
+        ensures only { IfOk result (IsOnlyTree lines.now) }
         ensures accepted { IfOk result IsAccepted }
         ensures fault { IfErr result (IsFaultOf lines.now) }
+        ensures first { IfErr result (IsFirstFault lines.now) }
     {
         Tree::parse_seeded(alloc, Seed::fixed(), lines)
     }
 
-    /// The same for lines of strangers: the names of symbols are kept under the hash of a seed, so that they can't be
-    /// chosen to be slow to find. The tree or the fault is that of `parse`.
+    /// The same for untrusted lines: the names of symbols are kept under the hash of a seed, so that they can't be chosen
+    /// to be slow to find. The tree or the fault is that of `parse`, but for which of several loops is reported.
     ///
     /// # Errors
     ///
     /// Those of `parse`.
+    #[tactic(auto, using(crate::proofs::OneTree::first_fault, crate::proofs::OneTree::first_line_fault))]
     pub fn parse_seeded(alloc: Global, seed: Seed, lines: &[Line<'_>]) -> Result<Tree, TreeFault>
+        requires { length lines.now ≤ MOST_LINES }
         ensures tree { IfOk result (IsTreeOf lines.now) }
+        ensures only { IfOk result (IsOnlyTree lines.now) }
         ensures accepted { IfOk result IsAccepted }
         ensures fault { IfErr result (IsFaultOf lines.now) }
+        ensures first { IfErr result (IsFirstFault lines.now) }
     {
         let outline = read_outline(alloc, seed, lines)?;
         link(alloc, lines, outline)
@@ -245,6 +254,7 @@ impl Tree {
     /// rows share. In a row a number below the count of nodes is that of a node, and one from there on stands for the
     /// nodes of the shared list of that number. Who goes over many rows goes over each shared list once.
     pub fn use_table(&self) -> &Rows
+        ensures few { length result.now < 2 ^ 32 }
         ensures table { IsSharedTable self.now (Uses self.now) result.now }
         ensures accepted { IsAccepted self.now }
     {
@@ -253,6 +263,7 @@ impl Tree {
 
     /// What is computed from all nodes, as it is kept, in the form of `use_table`.
     pub fn user_table(&self) -> &Rows
+        ensures few { length result.now < 2 ^ 32 }
         ensures table { IsSharedTable self.now (λ n m. Uses self.now m n) result.now }
         ensures accepted { IsAccepted self.now }
     {

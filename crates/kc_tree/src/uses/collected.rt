@@ -4,16 +4,16 @@ ghost use Rattle.std.specs.Prelude.{ℕ, ◌≡◌, ◌≤◌, ◌<◌, ◌+◌,
 ghost use Rattle.std.specs.Option.{option_map_or};
 ghost use Rattle.kc_outline.specs.TreeValue.{definitions_of};
 ghost use Rattle.kc_tree.specs.declared.node.Node.{Node};
-ghost use Rattle.kc_tree.specs.declared.node.Node.TheVariants.{Vis};
 ghost use Rattle.kc_outline.specs.TreeValue.{TreeValue};
 ghost use Rattle.kc_tree.specs.Nodes.{node_count};
 ghost use Rattle.kc_tree.specs.SharedLists.{Takes, Means, AreMeant, AreOfNodes, Grows, IsShortened};
-ghost use Rattle.kc_tree.specs.Uses.{conditions_nodes, definition_nodes, prompt_nodes, reverse_nodes, type_nodes, visibility_nodes, free_value_nodes, symbol_value_nodes, mode_nodes, selection_nodes, choice_prompt_nodes, choice_value_nodes};
+ghost use Rattle.kc_tree.specs.Uses.{conditions_nodes, definition_nodes, prompt_nodes, reverse_nodes, type_nodes, visibility_nodes, symbol_value_nodes, mode_nodes, choice_prompt_nodes, choice_value_nodes};
 ghost use Rattle.kc_tree.specs.Collected.{Adds, HaveSame, own_lists, depends_lists, visible_lists, dependency_at, depends_at, visible_at, block_numbers_at, defaults_at, ranges_at, prompt_own_at, prompted_at};
 ghost use Rattle.kc_statement.specs.declared.limits.TheConstants.{MOST_SYMBOLS};
 
 use super::reader::Reader;
 use super::scratch::{Scratch, each_once, without_repeats};
+use crate::node::Node;
 use kc_graph::Rows;
 use kc_outline::{Choice, ChoiceId, Outline, Reverse, Symbol};
 use kc_statement::{Expr, SymId, SymbolType};
@@ -32,26 +32,29 @@ pub struct Collected<'a> {
     ghost depends_is: { AreMeant reader.outline.now shared (depends_lists reader.outline.now) depends },
     ghost visible_is: { AreMeant reader.outline.now shared (visible_lists reader.outline.now) visible },
     ghost shared_is: { AreOfNodes reader.outline.now shared },
+    ghost few: { node_count reader.outline.now + length shared < 2 ^ 32 },
 }
 
 /// A row with more numbers than this is shared by the rows of nodes; others are copied.
 const LONGEST_COPIED: usize = 8;
 
-/// Puts a long row behind the shared ones, and the number that stands for it in its place, in a tree of so many nodes. A
-/// row that is not long stays.
+/// The number from which on no shared row is added, since 32 bits count the nodes and these rows.
+const LAST_NUMBER: usize = u32::MAX as usize;
+
+/// Puts a long row after the shared ones, and its number in its place, in a tree of so many nodes. A row that is not long
+/// is left as it is.
 fn shorten(nodes: usize, shared: &mut Rows, row: &mut Vec<u32>) -> Result<(), AllocError>
-    requires { nodes ≤ 2 ^ 33 }
-    ensures { OnOk result (IsShortened nodes shared.old shared.new row.old.items row.new.items) }
+    requires { nodes + length shared.old < 2 ^ 32 }
+    ensures shortened { OnOk result (IsShortened nodes shared.old shared.new row.old.items row.new.items) }
+    ensures few { OnOk result (nodes + length shared.new < 2 ^ 32) }
 {
-    if row.len() <= LONGEST_COPIED {
+    let number = nodes + shared.len();
+    if row.len() <= LONGEST_COPIED || number >= LAST_NUMBER {
         return Ok(());
     }
-    let Ok(standing) = u32::try_from(nodes + shared.len()) else {
-        return Ok(());
-    };
     shared.add_row(row.as_slice())?;
     row.clear();
-    row.push(standing)?;
+    row.push(number as u32)?;
     Ok(())
 }
 
@@ -65,10 +68,11 @@ fn collect_row(
     conditions: &[Expr],
 ) -> Result<(), AllocError>
     requires nodes { nodes ≡ node_count reader.now.outline.now }
-    requires few { nodes ≤ 2 ^ 33 }
+    requires few { nodes + length shared.old < 2 ^ 32 }
     ensures collected { OnOk result ((lists : List (List Node)) → AreMeant reader.now.outline.now shared.old lists rows.old
         → AreMeant reader.now.outline.now shared.new (lists ++ conditions_nodes reader.now.outline.now conditions.now ∷ []) rows.new) }
     ensures grows { OnOk result (Grows reader.now.outline.now shared.old shared.new) }
+    ensures few { OnOk result (nodes + length shared.new < 2 ^ 32) }
 {
     row.clear();
     reader.add_conditions(row, conditions)?;
@@ -85,9 +89,10 @@ fn own_rows(
     shared: &mut Rows,
 ) -> Result<Rows, AllocError>
     requires nodes { nodes ≡ node_count reader.now.outline.now }
-    requires few { nodes ≤ 2 ^ 33 }
+    requires few { nodes + length shared.old < 2 ^ 32 }
     ensures rows { IfOk result (λ rows. AreMeant reader.now.outline.now shared.new (own_lists reader.now.outline.now) rows) }
     ensures grows { IfOk result (λ _. Grows reader.now.outline.now shared.old shared.new) }
+    ensures few { IfOk result (λ _. nodes + length shared.new < 2 ^ 32) }
 {
     let outline = reader.outline;
     let mut rows = Rows::with_capacity(alloc, outline.definitions().len())?;
@@ -113,9 +118,10 @@ fn depends_rows(
     shared: &mut Rows,
 ) -> Result<Rows, AllocError>
     requires nodes { nodes ≡ node_count reader.now.outline.now }
-    requires few { nodes ≤ 2 ^ 33 }
+    requires few { nodes + length shared.old < 2 ^ 32 }
     ensures rows { IfOk result (λ rows. AreMeant reader.now.outline.now shared.new (depends_lists reader.now.outline.now) rows) }
     ensures grows { IfOk result (λ _. Grows reader.now.outline.now shared.old shared.new) }
+    ensures few { IfOk result (λ _. nodes + length shared.new < 2 ^ 32) }
 {
     let outline = reader.outline;
     let mut rows = Rows::with_capacity(alloc, outline.blocks().len())?;
@@ -134,9 +140,10 @@ fn visible_rows(
     shared: &mut Rows,
 ) -> Result<Rows, AllocError>
     requires nodes { nodes ≡ node_count reader.now.outline.now }
-    requires few { nodes ≤ 2 ^ 33 }
+    requires few { nodes + length shared.old < 2 ^ 32 }
     ensures rows { IfOk result (λ rows. AreMeant reader.now.outline.now shared.new (visible_lists reader.now.outline.now) rows) }
     ensures grows { IfOk result (λ _. Grows reader.now.outline.now shared.old shared.new) }
+    ensures few { IfOk result (λ _. nodes + length shared.new < 2 ^ 32) }
 {
     let outline = reader.outline;
     let mut rows = Rows::with_capacity(alloc, outline.blocks().len())?;
@@ -393,7 +400,7 @@ impl<'a> Collected<'a> {
         ensures { OnOk result (Adds (length self.now.reader.outline.now.symbols) row.old.items row.new.items (option_map_or (mode_nodes self.now.reader.outline.now) symbol.now.choice [])) }
     {
         match symbol.choice() {
-            Some(choice) => self.reader.add_mode(row, choice),
+            Some(choice) => self.reader.add_node(row, Node::Mode(choice)),
             None => Ok(()),
         }
     }
@@ -426,43 +433,12 @@ impl<'a> Collected<'a> {
         requires { id.0 < length self.now.reader.outline.now.symbols }
         ensures { OnOk result (Means self.now.reader.outline.now self.now.shared (symbol_value_nodes self.now.reader.outline.now id symbol.now) row.new.items) }
     {
+        row.clear();
+        self.reader.add_node(row, Node::Vis(id))?;
         match symbol.choice() {
-            Some(choice) => self.member_value_row(row, id, choice),
-            None => self.free_value_row(row, scratch, id, symbol),
+            Some(choice) => self.reader.add_node(row, Node::Sel(choice))?,
+            None => self.add_free_value(row, scratch, symbol)?,
         }
-    }
-
-    /// Makes the row of the value of a member of a choice.
-    fn member_value_row(
-        &self,
-        row: &mut Vec<u32>,
-        id: SymId,
-        choice: ChoiceId,
-    ) -> Result<(), AllocError>
-        requires { id.0 < length self.now.reader.outline.now.symbols }
-        ensures { OnOk result (Means self.now.reader.outline.now self.now.shared (Vis id ∷ selection_nodes self.now.reader.outline.now choice) row.new.items) }
-    {
-        row.clear();
-        self.reader.add_visibility(row, id)?;
-        self.reader.add_choice_selection(row, choice)?;
-        each_once(row);
-        Ok(())
-    }
-
-    /// Makes the row of the value of a symbol that is no member.
-    fn free_value_row(
-        &self,
-        row: &mut Vec<u32>,
-        scratch: &mut Scratch,
-        id: SymId,
-        symbol: &Symbol,
-    ) -> Result<(), AllocError>
-        requires { id.0 < length self.now.reader.outline.now.symbols }
-        ensures { OnOk result (Means self.now.reader.outline.now self.now.shared (free_value_nodes self.now.reader.outline.now id symbol.now) row.new.items) }
-    {
-        row.clear();
-        self.reader.add_visibility(row, id)?;
-        self.add_free_value(row, scratch, symbol)?;
         each_once(row);
         Ok(())
     }
@@ -518,7 +494,7 @@ impl<'a> Collected<'a> {
         ensures { OnOk result (Means self.now.reader.outline.now self.now.shared (choice_value_nodes self.now.reader.outline.now id choice.now) row.new.items) }
     {
         row.clear();
-        self.reader.add_mode(row, id)?;
+        self.reader.add_node(row, Node::Mode(id))?;
         self.reader.add_visibilities(row, choice.members())?;
         self.reader.add_choice_defaults(row, choice.defaults())?;
         each_once(row);

@@ -2,14 +2,14 @@
 
 ghost use Rattle.std.specs.Prelude.{◌≡◌, ◌≤◌, ◌^◌, flat_map, length, OnOk};
 ghost use Rattle.kc_outline.specs.TreeValue.{modules_symbol};
-ghost use Rattle.kc_tree.specs.Uses.{symbol_nodes, term_nodes, value_nodes, modules_nodes, conditions_nodes, own_condition_nodes, default_nodes, range_nodes, mode_nodes, selection_nodes, visibility_node, choice_default_nodes};
-ghost use Rattle.kc_tree.specs.Collected.{Adds, source_nodes};
+ghost use Rattle.kc_tree.specs.Uses.{term_nodes, value_nodes, modules_nodes, conditions_nodes, own_condition_nodes, visibility_node, choice_default_nodes};
+ghost use Rattle.kc_tree.specs.Collected.{Adds, node_there, source_nodes, default_alone_nodes, range_alone_nodes};
 ghost use Rattle.kc_statement.specs.declared.limits.TheConstants.{MOST_SYMBOLS};
 
 use crate::link::modules_symbol;
 use crate::node::Node;
-use kc_outline::{ChoiceDefault, ChoiceId, Outline, Reverse};
-use kc_statement::{DefaultValue, Expr, Range, SymId, Term};
+use kc_outline::{ChoiceDefault, Outline, Reverse};
+use kc_statement::{DefaultValue, Expr, ExprNode, Range, SymId, Term};
 use std::alloc::AllocError;
 
 /// Reads expressions of what lines define.
@@ -37,33 +37,20 @@ impl<'a> Reader<'a> {
         }
     }
 
-    /// How many symbols there are.
-    pub fn symbol_count(&self) -> usize
-        ensures count { result ≡ length self.now.outline.now.symbols }
-        ensures few { result ≤ MOST_SYMBOLS }
+    /// Adds a node, if the tree has the symbol or the choice of its number. Each call knows which kind of node it adds.
+    #[inline]
+    pub fn add_node(&self, row: &mut Vec<u32>, node: Node) -> Result<(), AllocError>
+        ensures { OnOk result (Adds (length self.now.outline.now.symbols) row.old.items row.new.items (node_there self.now.outline.now node)) }
     {
         let outline = self.outline;
-        outline.symbols().len()
-    }
-
-    /// How many choices there are.
-    fn choice_count(&self) -> usize
-        ensures count { result ≡ length self.now.outline.now.choices }
-        ensures few { result ≤ 2 ^ 30 }
-    {
-        let outline = self.outline;
-        outline.choices().len()
-    }
-
-    /// Adds the value of a symbol, if there is one of its number.
-    fn add_symbol(&self, row: &mut Vec<u32>, symbol: SymId) -> Result<(), AllocError>
-        ensures { OnOk result (Adds (length self.now.outline.now.symbols) row.old.items row.new.items (symbol_nodes self.now.outline.now symbol)) }
-    {
-        let symbols = self.symbol_count();
-        if symbol.0 as usize >= symbols {
-            return Ok(());
+        let symbols = outline.symbols().len();
+        let is_there = match node {
+            Node::Vis(symbol) | Node::Val(symbol) => (symbol.0 as usize) < symbols,
+            Node::Mode(choice) | Node::Sel(choice) => (choice.0 as usize) < outline.choices().len(),
+        };
+        if is_there {
+            row.push(node.index_in(symbols))?;
         }
-        row.push(Node::Val(symbol).index_in(symbols))?;
         Ok(())
     }
 
@@ -72,7 +59,7 @@ impl<'a> Reader<'a> {
         ensures { OnOk result (Adds (length self.now.outline.now.symbols) row.old.items row.new.items (term_nodes self.now.outline.now term.now)) }
     {
         match term {
-            Term::Symbol(symbol) => self.add_symbol(row, *symbol),
+            Term::Symbol(symbol) => self.add_node(row, Node::Val(*symbol)),
             Term::Tri(_) | Term::Text(_) | Term::Undefined(_) => Ok(()),
         }
     }
@@ -82,28 +69,18 @@ impl<'a> Reader<'a> {
     fn add_expr(&self, row: &mut Vec<u32>, expr: &Expr) -> Result<(), AllocError>
         ensures { OnOk result (Adds (length self.now.outline.now.symbols) row.old.items row.new.items (value_nodes self.now.outline.now expr.now)) }
     {
-        match expr {
-            Expr::Term(term) => self.add_term(row, term),
-            Expr::BareModule(_) => self.add_modules(row),
-            Expr::Compare(_, operands) => {
+        match expr.node() {
+            ExprNode::Term(term) => self.add_term(row, term),
+            ExprNode::BareModule(_) => self.add_modules(row),
+            ExprNode::Compare(_, operands) => {
                 self.add_term(row, &operands.left)?;
                 self.add_term(row, &operands.right)
             }
-            Expr::Not(_, inner) => self.add_expr(row, inner),
-            Expr::Group(inner) => self.add_expr(row, inner),
-            Expr::All(parts) | Expr::Any(parts) => self.add_parts(row, parts.as_slice()),
+            ExprNode::Not(_, inner) => self.add_expr(row, inner),
+            ExprNode::Group(inner) => self.add_expr(row, inner),
+            ExprNode::All(parts) => self.add_conditions(row, parts.as_slice()),
+            ExprNode::Any(parts) => self.add_conditions(row, parts.as_slice()),
         }
-    }
-
-    /// Adds what each part of an expression reads.
-    #[cycle(add_expr)]
-    fn add_parts(&self, row: &mut Vec<u32>, parts: &[Expr]) -> Result<(), AllocError>
-        ensures { OnOk result (Adds (length self.now.outline.now.symbols) row.old.items row.new.items (flat_map (value_nodes self.now.outline.now) parts.now)) }
-    {
-        for part in parts {
-            self.add_expr(row, part)?;
-        }
-        Ok(())
     }
 
     /// Adds the value of `MODULES`.
@@ -111,12 +88,13 @@ impl<'a> Reader<'a> {
         ensures { OnOk result (Adds (length self.now.outline.now.symbols) row.old.items row.new.items (modules_nodes self.now.outline.now)) }
     {
         match self.modules {
-            Some(modules) => self.add_symbol(row, modules),
+            Some(modules) => self.add_node(row, Node::Val(modules)),
             None => Ok(()),
         }
     }
 
-    /// Adds what each of some conditions reads.
+    /// Adds what each of some expressions reads.
+    #[cycle(add_expr)]
     pub fn add_conditions(&self, row: &mut Vec<u32>, conditions: &[Expr]) -> Result<(), AllocError>
         ensures { OnOk result (Adds (length self.now.outline.now.symbols) row.old.items row.new.items (conditions_nodes self.now.outline.now conditions.now)) }
     {
@@ -140,84 +118,30 @@ impl<'a> Reader<'a> {
         }
     }
 
-    /// Adds what a default reads.
-    fn add_default(&self, row: &mut Vec<u32>, default: &DefaultValue) -> Result<(), AllocError>
-        ensures { OnOk result (Adds (length self.now.outline.now.symbols) row.old.items row.new.items (default_nodes self.now.outline.now default.now)) }
-    {
-        self.add_expr(row, &default.value)?;
-        self.add_own_condition(row, &default.condition)
-    }
-
-    /// Adds what defaults read.
+    /// Adds what each of some defaults reads besides the dependencies of its definition.
     pub fn add_defaults(
         &self,
         row: &mut Vec<u32>,
         defaults: &[DefaultValue],
     ) -> Result<(), AllocError>
-        ensures { OnOk result (Adds (length self.now.outline.now.symbols) row.old.items row.new.items (flat_map (default_nodes self.now.outline.now) defaults.now)) }
+        ensures { OnOk result (Adds (length self.now.outline.now.symbols) row.old.items row.new.items (flat_map (default_alone_nodes self.now.outline.now) defaults.now)) }
     {
         for default in defaults {
-            self.add_default(row, default)?;
+            self.add_expr(row, &default.value)?;
+            self.add_own_condition(row, &default.condition)?;
         }
         Ok(())
     }
 
-    /// Adds what a range reads.
-    fn add_range(&self, row: &mut Vec<u32>, range: &Range) -> Result<(), AllocError>
-        ensures { OnOk result (Adds (length self.now.outline.now.symbols) row.old.items row.new.items (range_nodes self.now.outline.now range.now)) }
-    {
-        self.add_term(row, &range.low)?;
-        self.add_term(row, &range.high)?;
-        self.add_own_condition(row, &range.condition)
-    }
-
-    /// Adds what ranges read.
+    /// Adds what each of some ranges reads besides the dependencies of its definition.
     pub fn add_ranges(&self, row: &mut Vec<u32>, ranges: &[Range]) -> Result<(), AllocError>
-        ensures { OnOk result (Adds (length self.now.outline.now.symbols) row.old.items row.new.items (flat_map (range_nodes self.now.outline.now) ranges.now)) }
+        ensures { OnOk result (Adds (length self.now.outline.now.symbols) row.old.items row.new.items (flat_map (range_alone_nodes self.now.outline.now) ranges.now)) }
     {
         for range in ranges {
-            self.add_range(row, range)?;
+            self.add_term(row, &range.low)?;
+            self.add_term(row, &range.high)?;
+            self.add_own_condition(row, &range.condition)?;
         }
-        Ok(())
-    }
-
-    /// Adds the mode of a choice, if there is one of its number.
-    pub fn add_mode(&self, row: &mut Vec<u32>, choice: ChoiceId) -> Result<(), AllocError>
-        ensures { OnOk result (Adds (length self.now.outline.now.symbols) row.old.items row.new.items (mode_nodes self.now.outline.now choice)) }
-    {
-        let symbols = self.symbol_count();
-        if choice.0 as usize >= self.choice_count() {
-            return Ok(());
-        }
-        row.push(Node::Mode(choice).index_in(symbols))?;
-        Ok(())
-    }
-
-    /// Adds the selection of a choice, if there is one of its number.
-    pub fn add_choice_selection(
-        &self,
-        row: &mut Vec<u32>,
-        choice: ChoiceId,
-    ) -> Result<(), AllocError>
-        ensures { OnOk result (Adds (length self.now.outline.now.symbols) row.old.items row.new.items (selection_nodes self.now.outline.now choice)) }
-    {
-        let symbols = self.symbol_count();
-        if choice.0 as usize >= self.choice_count() {
-            return Ok(());
-        }
-        row.push(Node::Sel(choice).index_in(symbols))?;
-        Ok(())
-    }
-
-    /// Adds the visibility of a symbol, if there is one of its number.
-    pub fn add_visibility(&self, row: &mut Vec<u32>, symbol: SymId) -> Result<(), AllocError>
-        ensures { OnOk result (Adds (length self.now.outline.now.symbols) row.old.items row.new.items (visibility_node self.now.outline.now symbol)) }
-    {
-        let symbols = self.symbol_count();
-        if symbol.0 as usize >= symbols {
-            return Ok(());
-        }
-        row.push(Node::Vis(symbol).index_in(symbols))?;
         Ok(())
     }
 
@@ -226,23 +150,9 @@ impl<'a> Reader<'a> {
         ensures { OnOk result (Adds (length self.now.outline.now.symbols) row.old.items row.new.items (flat_map (visibility_node self.now.outline.now) symbols.now)) }
     {
         for symbol in symbols {
-            self.add_visibility(row, *symbol)?;
+            self.add_node(row, Node::Vis(*symbol))?;
         }
         Ok(())
-    }
-
-    /// Adds what a default of a choice reads.
-    fn add_choice_default(
-        &self,
-        row: &mut Vec<u32>,
-        default: &ChoiceDefault,
-    ) -> Result<(), AllocError>
-        ensures { OnOk result (Adds (length self.now.outline.now.symbols) row.old.items row.new.items (choice_default_nodes self.now.outline.now default.now)) }
-    {
-        if let Some(symbol) = default.symbol {
-            self.add_visibility(row, symbol)?;
-        }
-        self.add_own_condition(row, &default.condition)
     }
 
     /// Adds what the defaults of a choice read.
@@ -254,25 +164,21 @@ impl<'a> Reader<'a> {
         ensures { OnOk result (Adds (length self.now.outline.now.symbols) row.old.items row.new.items (flat_map (choice_default_nodes self.now.outline.now) defaults.now)) }
     {
         for default in defaults {
-            self.add_choice_default(row, default)?;
+            if let Some(symbol) = default.symbol {
+                self.add_node(row, Node::Vis(symbol))?;
+            }
+            self.add_own_condition(row, &default.condition)?;
         }
         Ok(())
     }
 
-    /// Adds what a `select` or `imply` reads besides the dependencies of its definition.
-    fn add_source(&self, row: &mut Vec<u32>, reverse: &Reverse) -> Result<(), AllocError>
-        ensures { OnOk result (Adds (length self.now.outline.now.symbols) row.old.items row.new.items (source_nodes self.now.outline.now reverse.now)) }
-    {
-        self.add_symbol(row, reverse.by)?;
-        self.add_own_condition(row, &reverse.condition)
-    }
-
-    /// Adds what some of them read besides.
+    /// Adds what each `select` or `imply` reads besides the dependencies of its definition.
     pub fn add_sources(&self, row: &mut Vec<u32>, reverses: &[Reverse]) -> Result<(), AllocError>
         ensures { OnOk result (Adds (length self.now.outline.now.symbols) row.old.items row.new.items (flat_map (source_nodes self.now.outline.now) reverses.now)) }
     {
         for reverse in reverses {
-            self.add_source(row, reverse)?;
+            self.add_node(row, Node::Val(reverse.by))?;
+            self.add_own_condition(row, &reverse.condition)?;
         }
         Ok(())
     }

@@ -1,7 +1,7 @@
 use Rattle.std.proofs.Common.{◌≡◌, ℕ, ◌<◌, ◌≤◌, Some, is_some, length, sym, ap, ◌∙◌, arith}
 use Rattle.std.specs.Prelude.{option_map, option_and_then, Option}
 use Rattle.kc_outline.specs.declared.id.ChoiceId.{ChoiceId}
-use Rattle.kc_tree.specs.declared.fault.ChoiceProblem.{ChoiceProblem}
+use Rattle.kc_tree.specs.declared.problem.ChoiceProblem.{ChoiceProblem}
 use Rattle.kc_tree.specs.ChoiceFaults.{problem_at}
 use Rattle.kc_tree.proofs.SymbolFaultLaws.{find_none, find_first}
 use Rattle.kc_tree.proofs.choice_faults.choice_fault.Goals as goal

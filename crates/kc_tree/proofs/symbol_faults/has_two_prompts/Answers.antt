@@ -1,4 +1,5 @@
 use Rattle.std.proofs.Common.{◌≡◌, ℕ, List, false, true, length, slice_get, take, sym, ap, subst, ◌∙◌, arith}
+use Rattle.std.specs.Prelude.{nat_lt}
 use Rattle.std.specs.List.{list_any}
 use Rattle.std.specs.Option.{option_map_or}
 use Rattle.std.proofs.Math.Seq.{take-length}
@@ -7,18 +8,18 @@ use Rattle.kc_outline.specs.TreeValue.{DefinitionValue}
 use Rattle.kc_tree.proofs.DependencyLaws.{any_filtered}
 use Rattle.kc_tree.proofs.symbol_faults.has_two_prompts.Goals as goal
 
-pub returns-then-has_second_prompt : goal.returns-then-has_second_prompt
-returns-then-has_second_prompt c =
+pub returns-then-is_prompted_again : goal.returns-then-is_prompted_again
+returns-then-is_prompted_again c =
     let ds = c.args.outline.now.definitions in
     let js = c.definitions-definition-items.result.now in
-    let here = list_any_at (λ (j : ℕ). option_map_or (λ (d : DefinitionValue). d.has_second_prompt) (slice_get ds j) false) js c.loop-definition.definition-index 0 c.loop-definition-test.true (sym c.has_second_prompt.ensures ∙ c.if-has_second_prompt.true) in
-    sym (any_filtered (λ (d : DefinitionValue). d.has_second_prompt) (slice_get ds) c.args.symbol.now.definitions ∙ subst (λ (xs : List ℕ). list_any (λ j. option_map_or (λ (d : DefinitionValue). d.has_second_prompt) (slice_get ds j) false) xs ≡ true) c.definitions-definition-items.ensures here)
+    let here = list_any_at (λ (j : ℕ). option_map_or (λ (d : DefinitionValue). nat_lt 1 (length d.prompts)) (slice_get ds j) false) js c.loop-definition.definition-index 0 c.loop-definition-test.true (sym c.is_prompted_again.ensures ∙ c.if-is_prompted_again.true) in
+    sym (any_filtered (λ (d : DefinitionValue). nat_lt 1 (length d.prompts)) (slice_get ds) c.args.symbol.now.definitions ∙ subst (λ (xs : List ℕ). list_any (λ j. option_map_or (λ (d : DefinitionValue). nat_lt 1 (length d.prompts)) (slice_get ds j) false) xs ≡ true) c.definitions-definition-items.ensures here)
 
 pub returns : goal.returns
 returns c =
     let ds = c.args.outline.now.definitions in
     let js = c.definitions-definition-items.result.now in
     let all : c.loop-definition.definition-index ≡ length js = omega arith in
-    let test = λ (j : ℕ). option_map_or (λ (d : DefinitionValue). d.has_second_prompt) (slice_get ds j) false in
+    let test = λ (j : ℕ). option_map_or (λ (d : DefinitionValue). nat_lt 1 (length d.prompts)) (slice_get ds j) false in
     let none : list_any test js ≡ false = ap (list_any test) (sym (ap (λ (i : ℕ). take i js) all ∙ take-length js)) ∙ c.loop-definition.invariant in
-    sym (any_filtered (λ (d : DefinitionValue). d.has_second_prompt) (slice_get ds) c.args.symbol.now.definitions ∙ subst (λ (xs : List ℕ). list_any test xs ≡ false) c.definitions-definition-items.ensures none)
+    sym (any_filtered (λ (d : DefinitionValue). nat_lt 1 (length d.prompts)) (slice_get ds) c.args.symbol.now.definitions ∙ subst (λ (xs : List ℕ). list_any test xs ≡ false) c.definitions-definition-items.ensures none)

@@ -16,7 +16,7 @@ returns-clause-collected c =
     let ns = conditions_nodes t c.args.conditions.now in
     let are = conditions t (λ n. IsNodeOf t n) (λ s h. h) c.args.conditions.now in
     let has = has_nodes (length t.symbols) _ _ c.each_once.new.row.items ns c.clear.ensures.items c.in_ok-add_conditions.ensures c.each_once.ensures in
-    let short = subst (λ (n : ℕ). IsShortened n c.args.shared.now c.shorten.new.shared c.each_once.new.row.items c.shorten.new.row.items) c.requires.nodes c.in_ok-shorten.ensures in
+    let short = subst (λ (n : ℕ). IsShortened n c.args.shared.now c.shorten.new.shared c.each_once.new.row.items c.shorten.new.row.items) c.requires.nodes c.in_ok-shorten.ensures.shortened in
     let grows = shortened_grows t _ _ _ _ ns are has short in
     let means = shortened_means t _ _ _ _ ns are has short in
     on_ok_weaker c.add_row.result
@@ -30,7 +30,7 @@ returns-clause-grows c =
     let ns = conditions_nodes t c.args.conditions.now in
     let are = conditions t (λ n. IsNodeOf t n) (λ s h. h) c.args.conditions.now in
     let has = has_nodes (length t.symbols) _ _ c.each_once.new.row.items ns c.clear.ensures.items c.in_ok-add_conditions.ensures c.each_once.ensures in
-    let short = subst (λ (n : ℕ). IsShortened n c.args.shared.now c.shorten.new.shared c.each_once.new.row.items c.shorten.new.row.items) c.requires.nodes c.in_ok-shorten.ensures in
+    let short = subst (λ (n : ℕ). IsShortened n c.args.shared.now c.shorten.new.shared c.each_once.new.row.items c.shorten.new.row.items) c.requires.nodes c.in_ok-shorten.ensures.shortened in
     on_ok_weaker c.add_row.result
     (λ (e : c.add_row.new.self ≡ c.args.rows.now ++ c.as_slice.result.now ∷ []). shortened_grows t _ _ _ _ ns are has short)
     c.add_row.ensures.added

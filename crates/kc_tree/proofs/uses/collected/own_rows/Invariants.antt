@@ -1,10 +1,10 @@
-use Rattle.std.proofs.Common.{map, take}
+use Rattle.std.proofs.Common.{◌+◌, ◌<◌, ◌^◌, length, map, take}
 use Rattle.kc_tree.specs.Uses.{conditions_nodes}
 use Rattle.kc_tree.specs.SharedLists.{AreMeant, Grows}
 use Rattle.kc_tree.proofs.uses.collected.own_rows.Given as goal
 
--- the rows of those so far, over the shared lists so far
+-- the rows of those so far, over the shared lists so far, which 32 bits count
 abbrev pub invariant-loop-definition : goal.invariant-loop-definition
 invariant-loop-definition l =
     let t = l.reader.outline.now in
-    AreMeant t l.shared (map (λ x. conditions_nodes t x.depends) (take l.definition-index l.definition-items)) l.rows × Grows t l.initial.shared l.shared
+    AreMeant t l.shared (map (λ x. conditions_nodes t x.depends) (take l.definition-index l.definition-items)) l.rows × Grows t l.initial.shared l.shared × (l.nodes + length l.shared < 2 ^ 32)

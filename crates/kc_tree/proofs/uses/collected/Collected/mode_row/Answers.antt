@@ -3,7 +3,7 @@ use Rattle.std.specs.List.{flat_map}
 use Rattle.std.specs.Option.{option_copied, option_map_or}
 use Rattle.kc_statement.specs.declared.attribute.Prompt.{Prompt}
 use Rattle.kc_outline.specs.declared.id.BlockId.{BlockId}
-use Rattle.kc_outline.specs.TreeValue.{blocks_around}
+use Rattle.kc_outline.specs.TreeValue.{blocks_around, choice_prompt_of}
 use Rattle.kc_tree.specs.Uses.{conditions_nodes, own_condition_nodes, depends_nodes, visible_nodes}
 use Rattle.kc_tree.specs.Collected.{block_numbers, depends_lists, visible_lists}
 use Rattle.kc_tree.specs.SharedLists.{Means}
@@ -21,7 +21,7 @@ returns c =
     let p = c.in-Some.own_prompt.now in
     let bs = c.as_slice-blocks.result.now in
     let own = own_condition_nodes t p.condition in
-    let is : x.prompt ≡ Some p = sym c.prompt.ensures ∙ ap option_copied c.in-Some.is in
+    let is : choice_prompt_of x ≡ Some p = sym c.prompt.ensures ∙ ap option_copied c.in-Some.is in
     let found : bs ≡ block_numbers t.blocks 64 (Some x.block) = c.as_slice-blocks.ensures.value ∙ c.in_ok-find_blocks_from.ensures ∙ ap (λ (b : BlockId). block_numbers t.blocks 64 (Some b)) c.block.ensures in
     let depended = depends_nodes t (blocks_around t (Some x.block)) in
     let seen = visible_nodes t (blocks_around t (Some x.block)) in

@@ -1,3 +1,4 @@
+use Rattle.std.proofs.Common.{rules}
 use Rattle.kc_tree.specs.Collected.{own_lists, depends_lists}
 use Rattle.kc_tree.proofs.SharedListLaws.{none_of_nodes}
 use Rattle.kc_tree.proofs.uses.collected.Collected.new.Goals as goal
@@ -13,5 +14,6 @@ invariant_of-result c =
       own_is = visible.grows.meant (own_lists t) c.in_ok-own.own own_then;
       depends_is = visible.grows.meant (depends_lists t) c.in_ok-depends.depends depends.rows;
       visible_is = visible.rows;
+      few = (search rules);
       shared_is = visible.grows.nodes (depends.grows.nodes (own.grows.nodes (none_of_nodes t c.in_ok-shared.shared c.in_ok-shared.ensures)));
     }

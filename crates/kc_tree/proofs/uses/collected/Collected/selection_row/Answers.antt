@@ -21,7 +21,7 @@ returns c =
     ap (λ ms. mode_nodes t id ++ (flat_map (visibility_node t) ms ++ flat_map (choice_default_nodes t) defaults)) c.members.ensures
     ∙ ap (λ ds. mode_nodes t id ++ (flat_map (visibility_node t) x.members ++ flat_map (choice_default_nodes t) ds)) c.defaults.ensures in
     let added =
-    adds_then s _ _ _ (mode_nodes t id) (flat_map (visibility_node t) members ++ flat_map (choice_default_nodes t) defaults) c.in_ok-add_mode.ensures
+    adds_then s _ _ _ (mode_nodes t id) (flat_map (visibility_node t) members ++ flat_map (choice_default_nodes t) defaults) c.in_ok-add_node.ensures
     (adds_then s _ _ _ (flat_map (visibility_node t) members) (flat_map (choice_default_nodes t) defaults) c.in_ok-add_visibilities.ensures c.in_ok-add_choice_defaults.ensures) in
     means_made t sh _ _ c.each_once.new.row.items (choice_value_nodes t id x) c.clear.ensures.items
     (takes_nodes t sh _ _ (choice_value_nodes t id x) (choice_value_within t id x) (adds_equal s _ _ read (choice_value_nodes t id x) same added)) c.each_once.ensures

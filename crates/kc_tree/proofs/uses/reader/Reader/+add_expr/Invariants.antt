@@ -3,6 +3,6 @@ use Rattle.kc_tree.specs.Uses.{value_nodes}
 use Rattle.kc_tree.specs.Collected.{Adds}
 use Rattle.kc_tree.proofs.uses.reader.Reader.+add_expr.Given as goal
 
--- the row has what the parts so far read
-abbrev pub invariant-add_parts-loop-part : goal.invariant-add_parts-loop-part
-invariant-add_parts-loop-part l = Adds (length l.self.outline.now.symbols) l.initial.row.items l.row.items (flat_map (value_nodes l.self.outline.now) (take l.part-index l.parts))
+-- the row has what those so far read
+abbrev pub invariant-add_conditions-loop-condition : goal.invariant-add_conditions-loop-condition
+invariant-add_conditions-loop-condition l = Adds (length l.self.outline.now.symbols) l.initial.row.items l.row.items (flat_map (value_nodes l.self.outline.now) (take l.condition-index l.conditions))

@@ -1,8 +1,7 @@
 use Rattle.std.proofs.Common.{length, take, flat_map}
-use Rattle.kc_tree.specs.Uses.{default_nodes}
-use Rattle.kc_tree.specs.Collected.{Adds}
+use Rattle.kc_tree.specs.Collected.{Adds, default_alone_nodes}
 use Rattle.kc_tree.proofs.uses.reader.Reader.add_defaults.Given as goal
 
 -- the row has what those so far read
 abbrev pub invariant-loop-default : goal.invariant-loop-default
-invariant-loop-default l = Adds (length l.self.outline.now.symbols) l.initial.row.items l.row.items (flat_map (default_nodes l.self.outline.now) (take l.default-index l.defaults))
+invariant-loop-default l = Adds (length l.self.outline.now.symbols) l.initial.row.items l.row.items (flat_map (default_alone_nodes l.self.outline.now) (take l.default-index l.defaults))

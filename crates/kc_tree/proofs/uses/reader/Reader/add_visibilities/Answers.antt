@@ -12,4 +12,4 @@ loop-symbol-preserved c =
     let i = c.loop-symbol.symbol-index in
     let xs = c.args.symbols.now in
     let x = get_or xs i (record { 0 = 0 }) in
-    adds_more (length c.args.self.now.outline.now.symbols) (visibility_node c.args.self.now.outline.now) xs i x _ _ _ c.loop-symbol-test.true (get_or_default xs i (record { 0 = 0 }) x c.loop-symbol-test.true) c.loop-symbol.invariant c.in_ok-add_visibility.ensures
+    adds_more (length c.args.self.now.outline.now.symbols) (visibility_node c.args.self.now.outline.now) xs i x _ _ _ c.loop-symbol-test.true (get_or_default xs i (record { 0 = 0 }) x c.loop-symbol-test.true) c.loop-symbol.invariant c.in_ok-add_node.ensures

@@ -1,8 +1,0 @@
-use Rattle.std.proofs.Common.{length, take, flat_map}
-use Rattle.kc_tree.specs.Uses.{value_nodes}
-use Rattle.kc_tree.specs.Collected.{Adds}
-use Rattle.kc_tree.proofs.uses.reader.Reader.add_conditions.Given as goal
-
--- the row has what those so far read
-abbrev pub invariant-loop-condition : goal.invariant-loop-condition
-invariant-loop-condition l = Adds (length l.self.outline.now.symbols) l.initial.row.items l.row.items (flat_map (value_nodes l.self.outline.now) (take l.condition-index l.conditions))
