@@ -9,8 +9,7 @@ use Rattle.std.specs.Ordering.{nat_cmp}
 use Rattle.std.proofs.lemmas.List.Elements.{Contains-append_right}
 use Rattle.kc_statement.specs.declared.expr.Term.{Term}
 use Rattle.kc_statement.specs.declared.expr.Term.TheVariants.{Tri as Constant, Text as TextTerm, Symbol, Undefined}
-use Rattle.kc_statement.specs.declared.expr.Expr.{Expr, Group'}
-use Rattle.kc_statement.specs.declared.expr.Expr.TheVariants as expr
+use Rattle.kc_statement.specs.declared.expr.Expr.{Expr}
 use Rattle.kc_statement.specs.declared.attribute.Prompt.{Prompt}
 use Rattle.kc_statement.specs.declared.attribute.DefaultValue.{DefaultValue}
 use Rattle.kc_statement.specs.declared.attribute.Range.{Range}
@@ -26,20 +25,20 @@ use Rattle.kc_statement.specs.declared.tri.Tri.{Tri}
 use Rattle.kc_statement.specs.declared.tri.Tri.TheVariants.{No, Module, Yes}
 use Rattle.kc_tree.specs.declared.user_value.UserVal.{UserVal}
 use Rattle.kc_tree.specs.declared.user_value.UserVal.TheVariants.{Tri as TriVal, Text as TextVal}
-use Rattle.kc_statement.specs.Grammar.{Formula, atom, bare, compare, negation, group, both, either, formula}
-use Rattle.kc_tree.specs.SymbolFaults.{is_tri_type}
-use Rattle.kc_outline.specs.TreeOf.{same_type}
-use Rattle.kc_outline.specs.TreeValue.{TreeValue, SymbolValue, DefinitionValue, BlockValue, ChoiceValue, modules_symbol, kind_of, definitions_of, blocks_around}
+use Rattle.kc_statement.specs.Formula.{Formula, atom, bare, compare, negation, group, both, either}
+use Rattle.kc_statement.specs.SymbolTypes.{is_tri_type}
+use Rattle.kc_outline.specs.TreeValue.{same_type}
+use Rattle.kc_outline.specs.TreeValue.{TreeValue, SymbolValue, DefinitionValue, BlockValue, ChoiceValue, modules_symbol, kind_of, definitions_of, blocks_around, prompt_of, choice_prompt_of}
 use Rattle.kc_statement.specs.Tristate.{least, greatest, least_of, greatest_of, complement, is_no}
-use Rattle.kc_tree.specs.Uses.{Uses, used_nodes, symbol_nodes, term_nodes, formula_nodes, value_nodes, modules_nodes, nodes_if, conditions_nodes, own_condition_nodes, depends_nodes, visible_nodes, dependency_nodes, prompt_nodes, default_nodes, range_nodes, definition_nodes, reverse_nodes, mode_nodes, selection_nodes, visibility_node, choice_prompt_nodes, choice_default_nodes, choice_value_nodes, type_nodes, visibility_nodes, free_value_nodes, symbol_value_nodes}
+use Rattle.kc_tree.specs.Uses.{Uses, used_nodes, symbol_nodes, term_nodes, formula_nodes, value_nodes, modules_nodes, nodes_if, conditions_nodes, own_condition_nodes, depends_nodes, visible_nodes, dependency_nodes, prompt_nodes, default_nodes, range_nodes, definition_nodes, reverse_nodes, mode_nodes, condition_nodes, selection_nodes, visibility_node, choice_prompt_nodes, choice_default_nodes, choice_value_nodes, type_nodes, visibility_nodes, free_value_nodes, symbol_value_nodes}
 use Rattle.kc_value.specs.declared.value.Value.{Value}
 use Rattle.kc_value.specs.declared.value.Value.TheVariants.{Tri as Level, Shown, Member}
 use Rattle.kc_value.specs.declared.bounds.Bounds.{Bounds}
-use Rattle.kc_statement.proofs.FormulaLaws.{formula_term, formula_group}
 use Rattle.kc_value.specs.Assignment.{Assignment, as_tri, as_text, as_member, tri_letter}
 use Rattle.kc_value.specs.UserValues.{UserValues, user_value, chosen_in}
 use Rattle.kc_value.specs.ExprValue.{symbol_tri, modules_value, term_tri, term_text, tri_number, number_in_type, term_number, is_string_term, number_or_text_order, text_order, term_order, is_related, yes_if, formula_value, expr_value, conditions_value, own_condition}
-use Rattle.kc_value.specs.Conditions.{blocks_depend, blocks_visible, dependency, prompt_value, mode_around, choice_prompt_value}
+use Rattle.kc_tree.specs.ConditionTable.{Condition, own_if, own_lines, depends_around, visible_around, mode_of, dependencies_in, also, of_prompt, of_property, of_reverse, of_choice_prompt, of_choice_default}
+use Rattle.kc_value.specs.Conditions.{blocks_depend, blocks_visible, condition_value, dependency, prompt_value, mode_around, choice_prompt_value}
 use Rattle.kc_value.specs.ChangedValue.{same_mark, same_member}
 use Rattle.kc_value.specs.Dirty.{same_given, is_changed}
 use Rattle.kc_value.specs.Defaults.{default_condition, is_active}
@@ -177,7 +176,7 @@ module _ (a b : Assignment) where
         ∙ ap (λ v. greatest (formula_value t b f) v) (formula_value_agrees g (Agree-right (formula_nodes t f) (formula_nodes t g) h))
 
     expr_agrees : (e : Expr) → Agree (value_nodes t e) → expr_value t a e ≡ expr_value t b e
-    expr_agrees e h = formula_value_agrees (formula e) h
+    expr_agrees e h = formula_value_agrees e h
 
     pub conditions_agree : (es : List Expr) → Agree (conditions_nodes t es) → conditions_value t a es ≡ conditions_value t b es
     conditions_agree es h = ap least_of (map_agrees (expr_value t a) (expr_value t b) (value_nodes t) expr_agrees es h)
@@ -203,49 +202,65 @@ module _ (a b : Assignment) where
         ap (λ v. least v (blocks_depend t a around)) (conditions_agree d.depends own)
         ∙ ap (λ v. least (conditions_value t b d.depends) v) (blocks_depend_agrees around above)
 
-    found_prompt_agrees : (d : DefinitionValue) (o : Option Prompt) → Agree (option_map_or (λ p. own_condition_nodes t p.condition ++ (dependency_nodes t d ++ visible_nodes t (blocks_around t d.block))) o [])
-        → option_map_or (λ p. least (own_condition t a p.condition) (least (dependency t a d) (blocks_visible t a (blocks_around t d.block)))) o No
-        ≡ option_map_or (λ p. least (own_condition t b p.condition) (least (dependency t b d) (blocks_visible t b (blocks_around t d.block)))) o No
-    found_prompt_agrees d None h = refl
-    found_prompt_agrees d (Some p) h =
-        let around = blocks_around t d.block in
-        let rest = Agree-right (own_condition_nodes t p.condition) (dependency_nodes t d ++ visible_nodes t around) h in
-        let own = own_condition_agrees p.condition (Agree-left (own_condition_nodes t p.condition) (dependency_nodes t d ++ visible_nodes t around) h) in
-        let depends = dependency_agrees d (Agree-left (dependency_nodes t d) (visible_nodes t around) rest) in
-        let visible = blocks_visible_agrees around (Agree-right (dependency_nodes t d) (visible_nodes t around) rest) in
-        ap (λ v. least v (least (dependency t a d) (blocks_visible t a around))) own
-        ∙ ap (λ v. least (own_condition t b p.condition) (least v (blocks_visible t a around))) depends
-        ∙ ap (λ v. least (own_condition t b p.condition) (least (dependency t b d) v)) visible
+    found_choice_agrees : {Y : Type 0} (f : Value → Y) (y : Y) (n : Node) (o : Option ChoiceValue) → Agree (option_map_or (λ x. n ∷ []) o [])
+        → option_map_or (λ x. f (a n)) o y ≡ option_map_or (λ x. f (b n)) o y
+    found_choice_agrees f y n None h = refl
+    found_choice_agrees f y n (Some x) h = ap f h.0
+
+    mode_around_agrees : (o : Option ChoiceId) → Agree (option_map_or (mode_nodes t) o []) → mode_around t a o ≡ mode_around t b o
+    mode_around_agrees None h = refl
+    mode_around_agrees (Some c) h = found_choice_agrees as_tri Yes (Mode c) (slice_get t.choices c.0) h
+
+    found_dependency_agrees : (o : Option DefinitionValue) → Agree (condition_nodes t (dependencies_in o)) → condition_value t a (dependencies_in o) ≡ condition_value t b (dependencies_in o)
+    found_dependency_agrees None h = refl
+    found_dependency_agrees (Some d) h = dependency_agrees d h
+
+    -- what holds of the table of conditions, whatever a part depends on
+    condition_agrees : (c : Condition) → Agree (condition_nodes t c) → condition_value t a c ≡ condition_value t b c
+    condition_agrees (own_if o) h = own_condition_agrees o h
+    condition_agrees (own_lines es) h = conditions_agree es h
+    condition_agrees (depends_around bs) h = blocks_depend_agrees bs h
+    condition_agrees (visible_around bs) h = blocks_visible_agrees bs h
+    condition_agrees (mode_of o) h = mode_around_agrees o h
+    condition_agrees (dependencies_in o) h = found_dependency_agrees o h
+    condition_agrees (also c d) h =
+        ap (λ v. least v (condition_value t a d)) (condition_agrees c (Agree-left (condition_nodes t c) (condition_nodes t d) h))
+        ∙ ap (λ v. least (condition_value t b c) v) (condition_agrees d (Agree-right (condition_nodes t c) (condition_nodes t d) h))
+
+    found_prompt_agrees : (c : Prompt → Condition) (o : Option Prompt) → Agree (option_map_or (λ p. condition_nodes t (c p)) o [])
+        → option_map_or (λ p. condition_value t a (c p)) o No ≡ option_map_or (λ p. condition_value t b (c p)) o No
+    found_prompt_agrees c None h = refl
+    found_prompt_agrees c (Some p) h = condition_agrees (c p) h
 
     pub prompt_agrees : (d : DefinitionValue) → Agree (prompt_nodes t d) → prompt_value t a d ≡ prompt_value t b d
-    prompt_agrees d h = found_prompt_agrees d d.prompt h
+    prompt_agrees d h = found_prompt_agrees (of_prompt t d) (prompt_of d) h
 
     -- ---- defaults
-    default_condition_agrees : (d : DefinitionValue) → dependency t a d ≡ dependency t b d → (v : DefaultValue) → Agree (default_nodes t v) → default_condition t a d v ≡ default_condition t b d v
-    default_condition_agrees d same v h =
-        ap (λ c. least c (dependency t a d)) (own_condition_agrees v.condition (Agree-right (value_nodes t v.value) (own_condition_nodes t v.condition) h))
-        ∙ ap (λ c. least (own_condition t b v.condition) c) same
+    default_condition_agrees : (d : DefinitionValue) (v : DefaultValue) → Agree (default_nodes t d v) → default_condition t a d v ≡ default_condition t b d v
+    default_condition_agrees d v h = condition_agrees (of_property t d v.condition) (Agree-right (value_nodes t v.value) (condition_nodes t (of_property t d v.condition)) h)
 
     definition_dependency_agrees : (d : DefinitionValue) → Agree (definition_nodes t d) → dependency t a d ≡ dependency t b d
     definition_dependency_agrees d h =
-        let defaults = flat_map (default_nodes t) d.defaults in
-        let ranges = flat_map (range_nodes t) d.ranges in
+        let defaults = flat_map (default_nodes t d) d.defaults in
+        let ranges = flat_map (range_nodes t d) d.ranges in
         dependency_agrees d (Agree-right ranges (dependency_nodes t d) (Agree-right defaults (ranges ++ dependency_nodes t d) h))
 
-    active_agrees : (d : DefinitionValue) → dependency t a d ≡ dependency t b d → (v : DefaultValue) → Agree (default_nodes t v) → is_active t a d v ≡ is_active t b d v
-    active_agrees d same v h = ap (λ c. not (is_no c)) (default_condition_agrees d same v h)
+    active_agrees : (d : DefinitionValue) (v : DefaultValue) → Agree (default_nodes t d v) → is_active t a d v ≡ is_active t b d v
+    active_agrees d v h = ap (λ c. not (is_no c)) (default_condition_agrees d v h)
+
+    default_value_at : (d : DefinitionValue) (v : DefaultValue) → Agree (default_nodes t d v) → Agree (value_nodes t v.value)
+    default_value_at d v h = Agree-left (value_nodes t v.value) (condition_nodes t (of_property t d v.condition)) h
 
     definition_default_agrees : (d : DefinitionValue) → Agree (definition_nodes t d) → definition_default t a d ≡ definition_default t b d
     definition_default_agrees d h =
-        let same = definition_dependency_agrees d h in
         found_agrees (is_active t a d) (is_active t b d)
         (λ v. least (expr_value t a v.value) (default_condition t a d v)) (λ v. least (expr_value t b v.value) (default_condition t b d v))
-        (default_nodes t)
-        (active_agrees d same)
+        (default_nodes t d)
+        (active_agrees d)
         (λ v k.
-        ap (λ c. least c (default_condition t a d v)) (expr_agrees v.value (Agree-left (value_nodes t v.value) (own_condition_nodes t v.condition) k))
-        ∙ ap (λ c. least (expr_value t b v.value) c) (default_condition_agrees d same v k))
-        d.defaults (Agree-left (flat_map (default_nodes t) d.defaults) (flat_map (range_nodes t) d.ranges ++ dependency_nodes t d) h)
+        ap (λ c. least c (default_condition t a d v)) (expr_agrees v.value (default_value_at d v k))
+        ∙ ap (λ c. least (expr_value t b v.value) c) (default_condition_agrees d v k))
+        d.defaults (Agree-left (flat_map (default_nodes t d) d.defaults) (flat_map (range_nodes t d) d.ranges ++ dependency_nodes t d) h)
 
     default_value_agrees : (x : SymbolValue) → Agree (flat_map (definition_nodes t) (definitions_of t x)) → default_value t a x ≡ default_value t b x
     default_value_agrees x h =
@@ -256,21 +271,11 @@ module _ (a b : Assignment) where
         ap greatest_of (map_agrees (dependency t a) (dependency t b) (definition_nodes t) definition_dependency_agrees (definitions_of t x) h)
 
     -- ---- select and imply
-    found_dependency_agrees : (o : Option DefinitionValue) → Agree (option_map_or (dependency_nodes t) o []) → option_map_or (dependency t a) o No ≡ option_map_or (dependency t b) o No
-    found_dependency_agrees None h = refl
-    found_dependency_agrees (Some d) h = dependency_agrees d h
-
     reverse_agrees : (r : Reverse) → Agree (reverse_nodes t r) → reverse_value t a r ≡ reverse_value t b r
     reverse_agrees r h =
-        let o = slice_get t.definitions r.definition in
-        let last = option_map_or (dependency_nodes t) o [] in
-        let rest = Agree-right (symbol_nodes t r.by) (own_condition_nodes t r.condition ++ last) h in
-        let by = symbol_tri_agrees r.by (Agree-left (symbol_nodes t r.by) (own_condition_nodes t r.condition ++ last) h) in
-        let own = own_condition_agrees r.condition (Agree-left (own_condition_nodes t r.condition) last rest) in
-        let depends = found_dependency_agrees o (Agree-right (own_condition_nodes t r.condition) last rest) in
-        ap (λ v. least v (least (own_condition t a r.condition) (option_map_or (dependency t a) o No))) by
-        ∙ ap (λ v. least (symbol_tri t b r.by) (least v (option_map_or (dependency t a) o No))) own
-        ∙ ap (λ v. least (symbol_tri t b r.by) (least (own_condition t b r.condition) v)) depends
+        let by = symbol_tri_agrees r.by (Agree-left (symbol_nodes t r.by) (condition_nodes t (of_reverse t r)) h) in
+        let condition = condition_agrees (of_reverse t r) (Agree-right (symbol_nodes t r.by) (condition_nodes t (of_reverse t r)) h) in
+        ap (λ v. least v (condition_value t a (of_reverse t r))) by ∙ ap (λ v. least (symbol_tri t b r.by) v) condition
 
     reverse_values_agree : (rs : List Reverse) → Agree (flat_map (reverse_nodes t) rs) → reverse_values t a rs ≡ reverse_values t b rs
     reverse_values_agree rs h = ap greatest_of (map_agrees (reverse_value t a) (reverse_value t b) (reverse_nodes t) reverse_agrees rs h)
@@ -285,44 +290,47 @@ module _ (a b : Assignment) where
     has_modules_agrees x h = has_modules_if (same_type (kind_of x) Tristate) h
 
     -- ---- texts
-    lone_text_agrees : (e : Expr) → Agree (value_nodes t e) → value_text t a e ≡ value_text t b e
-    lone_text_agrees (expr.Term x) h = text_agrees x (subst (λ (f : Formula). Agree (formula_nodes t f)) (formula_term x) h)
-    lone_text_agrees (Group' p e) h = lone_text_agrees e (subst (λ (f : Formula). Agree (formula_nodes t f)) (formula_group (record { ptr = p.ptr; value = e; alloc = p.alloc })) h)
-    lone_text_agrees _ h = refl
+    lone_text_agrees : (e : Formula) → Agree (formula_nodes t e) → value_text t a e ≡ value_text t b e
+    lone_text_agrees (atom x) h = text_agrees x h
+    lone_text_agrees (bare x) h = refl
+    lone_text_agrees (compare c x y) h = refl
+    lone_text_agrees (negation f) h = refl
+    lone_text_agrees (group f) h = lone_text_agrees f h
+    lone_text_agrees (both f g) h = refl
+    lone_text_agrees (either f g) h = refl
 
     definition_text_agrees : (d : DefinitionValue) → Agree (definition_nodes t d) → definition_text t a d ≡ definition_text t b d
     definition_text_agrees d h =
-        found_agrees (is_active t a d) (is_active t b d) (λ v. value_text t a v.value) (λ v. value_text t b v.value) (default_nodes t)
-        (active_agrees d (definition_dependency_agrees d h))
-        (λ v k. lone_text_agrees v.value (Agree-left (value_nodes t v.value) (own_condition_nodes t v.condition) k))
-        d.defaults (Agree-left (flat_map (default_nodes t) d.defaults) (flat_map (range_nodes t) d.ranges ++ dependency_nodes t d) h)
+        found_agrees (is_active t a d) (is_active t b d) (λ v. value_text t a v.value) (λ v. value_text t b v.value) (default_nodes t d)
+        (active_agrees d)
+        (λ v k. lone_text_agrees v.value (default_value_at d v k))
+        d.defaults (Agree-left (flat_map (default_nodes t d) d.defaults) (flat_map (range_nodes t d) d.ranges ++ dependency_nodes t d) h)
 
     default_text_agrees : (x : SymbolValue) → Agree (flat_map (definition_nodes t) (definitions_of t x)) → default_text t a x ≡ default_text t b x
     default_text_agrees x h =
         ap (λ ws. slice_get ws 0) (filter_map_agrees (definition_text t a) (definition_text t b) (definition_nodes t) definition_text_agrees (definitions_of t x) h)
 
     -- ---- ranges
-    range_active_agrees : (d : DefinitionValue) → dependency t a d ≡ dependency t b d → (r : Range) → Agree (range_nodes t r) → is_range_active t a d r ≡ is_range_active t b d r
-    range_active_agrees d same r h =
-        let own = Agree-right (term_nodes t r.high) (own_condition_nodes t r.condition) (Agree-right (term_nodes t r.low) (term_nodes t r.high ++ own_condition_nodes t r.condition) h) in
-        ap (λ c. not (is_no (least c (dependency t a d)))) (own_condition_agrees r.condition own)
-        ∙ ap (λ c. not (is_no (least (own_condition t b r.condition) c))) same
+    range_active_agrees : (d : DefinitionValue) (r : Range) → Agree (range_nodes t d r) → is_range_active t a d r ≡ is_range_active t b d r
+    range_active_agrees d r h =
+        let own = condition_nodes t (of_property t d r.condition) in
+        ap (λ c. not (is_no c)) (condition_agrees (of_property t d r.condition) (Agree-right (term_nodes t r.high) own (Agree-right (term_nodes t r.low) (term_nodes t r.high ++ own) h)))
 
-    bounds_agree : (k : SymbolType) (r : Range) → Agree (range_nodes t r) → bounds_in t a k r ≡ bounds_in t b k r
-    bounds_agree k r h =
-        let last = term_nodes t r.high ++ own_condition_nodes t r.condition in
-        let low = text_agrees r.low (Agree-left (term_nodes t r.low) last h) in
-        let high = text_agrees r.high (Agree-left (term_nodes t r.high) (own_condition_nodes t r.condition) (Agree-right (term_nodes t r.low) last h)) in
+    bounds_agree : (k : SymbolType) (d : DefinitionValue) (r : Range) → Agree (range_nodes t d r) → bounds_in t a k r ≡ bounds_in t b k r
+    bounds_agree k d r h =
+        let own = condition_nodes t (of_property t d r.condition) in
+        let low = text_agrees r.low (Agree-left (term_nodes t r.low) (term_nodes t r.high ++ own) h) in
+        let high = text_agrees r.high (Agree-left (term_nodes t r.high) own (Agree-right (term_nodes t r.low) (term_nodes t r.high ++ own) h)) in
         let of : List ℕ → List ℕ → Bounds = λ v w. record { low = number_or_zero k v; high = number_or_zero k w } in
         ap (λ w. of w (term_text t a r.high)) low
         ∙ ap (λ w. of (term_text t b r.low) w) high
 
     definition_bounds_agree : (k : SymbolType) (d : DefinitionValue) → Agree (definition_nodes t d) → definition_bounds t a k d ≡ definition_bounds t b k d
     definition_bounds_agree k d h =
-        let defaults = flat_map (default_nodes t) d.defaults in
-        let ranges = flat_map (range_nodes t) d.ranges in
-        found_agrees (is_range_active t a d) (is_range_active t b d) (bounds_in t a k) (bounds_in t b k) (range_nodes t)
-        (range_active_agrees d (definition_dependency_agrees d h)) (bounds_agree k)
+        let defaults = flat_map (default_nodes t d) d.defaults in
+        let ranges = flat_map (range_nodes t d) d.ranges in
+        found_agrees (is_range_active t a d) (is_range_active t b d) (bounds_in t a k) (bounds_in t b k) (range_nodes t d)
+        (range_active_agrees d) (bounds_agree k d)
         d.ranges (Agree-left ranges (dependency_nodes t d) (Agree-right defaults (ranges ++ dependency_nodes t d) h))
 
     bounds_of_agree : (x : SymbolValue) → Agree (flat_map (definition_nodes t) (definitions_of t x)) → bounds_of t a x ≡ bounds_of t b x
@@ -339,15 +347,6 @@ module _ (a b : Assignment) where
         ∙ ap (λ w. of (bounds_of t b x) w) (default_text_agrees x h)
 
     -- ---- choices
-    found_choice_agrees : {Y : Type 0} (f : Value → Y) (y : Y) (n : Node) (o : Option ChoiceValue) → Agree (option_map_or (λ x. n ∷ []) o [])
-        → option_map_or (λ x. f (a n)) o y ≡ option_map_or (λ x. f (b n)) o y
-    found_choice_agrees f y n None h = refl
-    found_choice_agrees f y n (Some x) h = ap f h.0
-
-    mode_around_agrees : (o : Option ChoiceId) → Agree (option_map_or (mode_nodes t) o []) → mode_around t a o ≡ mode_around t b o
-    mode_around_agrees None h = refl
-    mode_around_agrees (Some c) h = found_choice_agrees as_tri Yes (Mode c) (slice_get t.choices c.0) h
-
     found_selection_agrees : (c : ChoiceId) (o : Option ChoiceValue) → Agree (option_map_or (λ x. Sel c ∷ []) o [])
         → option_and_then (λ x. as_member (a (Sel c))) o ≡ option_and_then (λ x. as_member (b (Sel c))) o
     found_selection_agrees c None h = refl
@@ -364,25 +363,9 @@ module _ (a b : Assignment) where
     visible_agrees : (s : SymId) → Agree (visibility_node t s) → is_visible t a s ≡ is_visible t b s
     visible_agrees s h = found_visible_agrees s (slice_get t.symbols s.0) h
 
-    found_choice_prompt_agrees : (x : ChoiceValue) (o : Option Prompt)
-        → Agree (option_map_or (λ p. own_condition_nodes t p.condition ++ (depends_nodes t (blocks_around t (Some x.block)) ++ visible_nodes t (blocks_around t (Some x.block)))) o [])
-        → option_map_or (λ p. least (own_condition t a p.condition) (least (blocks_depend t a (blocks_around t (Some x.block))) (blocks_visible t a (blocks_around t (Some x.block))))) o No
-        ≡ option_map_or (λ p. least (own_condition t b p.condition) (least (blocks_depend t b (blocks_around t (Some x.block))) (blocks_visible t b (blocks_around t (Some x.block))))) o No
-    found_choice_prompt_agrees x None h = refl
-    found_choice_prompt_agrees x (Some p) h =
-        let around = blocks_around t (Some x.block) in
-        let last = depends_nodes t around ++ visible_nodes t around in
-        let rest = Agree-right (own_condition_nodes t p.condition) last h in
-        let own = own_condition_agrees p.condition (Agree-left (own_condition_nodes t p.condition) last h) in
-        let depends = blocks_depend_agrees around (Agree-left (depends_nodes t around) (visible_nodes t around) rest) in
-        let visible = blocks_visible_agrees around (Agree-right (depends_nodes t around) (visible_nodes t around) rest) in
-        ap (λ v. least v (least (blocks_depend t a around) (blocks_visible t a around))) own
-        ∙ ap (λ v. least (own_condition t b p.condition) (least v (blocks_visible t a around))) depends
-        ∙ ap (λ v. least (own_condition t b p.condition) (least (blocks_depend t b around) v)) visible
-
     mode_agrees : (x : ChoiceValue) (chosen : Option SymId) → Agree (choice_prompt_nodes t x) → mode t a x chosen ≡ mode t b x chosen
     mode_agrees x chosen h =
-        ap (λ v. yes_if (not (is_no v) && (not x.is_optional || is_some chosen))) (found_choice_prompt_agrees x x.prompt h)
+        ap (λ v. yes_if (not (is_no v) && (not x.is_optional || is_some chosen))) (found_prompt_agrees (of_choice_prompt t x) (choice_prompt_of x) h)
 
     visible_if_agrees : (active : Bool) (o : Option SymId) → Agree (option_map_or (visibility_node t) o []) → visible_if t active a o ≡ visible_if t active b o
     visible_if_agrees active None h = refl
@@ -391,7 +374,7 @@ module _ (a b : Assignment) where
     pub default_member_agrees : (d : ChoiceDefault) → Agree (choice_default_nodes t d) → default_member t a d ≡ default_member t b d
     default_member_agrees d h =
         let member = option_map_or (visibility_node t) d.symbol [] in
-        ap (λ v. visible_if t (not (is_no v)) a d.symbol) (own_condition_agrees d.condition (Agree-right member (own_condition_nodes t d.condition) h))
+        ap (λ v. visible_if t (not (is_no v)) a d.symbol) (condition_agrees (of_choice_default d) (Agree-right member (own_condition_nodes t d.condition) h))
         ∙ visible_if_agrees (not (is_no (own_condition t b d.condition))) d.symbol (Agree-left member (own_condition_nodes t d.condition) h)
 
     -- the mode is that of a choice of the tree

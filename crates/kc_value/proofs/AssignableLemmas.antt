@@ -12,8 +12,8 @@ use Rattle.kc_statement.specs.declared.symbol_type.SymbolType.TheVariants.{Bool 
 use Rattle.kc_statement.specs.declared.tri.Tri.{Tri}
 use Rattle.kc_statement.specs.declared.tri.Tri.TheVariants.{No, Module, Yes}
 use Rattle.kc_tree.specs.declared.user_value.UserVal.TheVariants.{Tri as TriVal}
-use Rattle.kc_tree.specs.SymbolFaults.{is_tri_type}
-use Rattle.kc_outline.specs.TreeOf.{same_type}
+use Rattle.kc_statement.specs.SymbolTypes.{is_tri_type}
+use Rattle.kc_outline.specs.TreeValue.{same_type}
 use Rattle.kc_outline.specs.TreeValue.{TreeValue, SymbolValue, kind_of, choice_of}
 use Rattle.kc_tree.specs.Accepted.{IsAccepted}
 use Rattle.kc_tree.specs.Nodes.{IsNodeOf}

@@ -13,7 +13,7 @@ use Rattle.kc_outline.specs.declared.id.ChoiceId.{ChoiceId}
 use Rattle.kc_tree.specs.declared.node.Node.{Node}
 use Rattle.kc_tree.specs.declared.node.Node.TheVariants.{Val, Mode}
 use Rattle.kc_statement.specs.declared.tri.Tri.TheVariants.{No, Yes}
-use Rattle.kc_statement.specs.Grammar.{Formula, atom, bare, compare, negation, group, both, either, formula}
+use Rattle.kc_statement.specs.Formula.{Formula, atom, bare, compare, negation, group, both, either}
 use Rattle.kc_tree.specs.Nodes.{IsNodeOf}
 use Rattle.kc_outline.specs.TreeValue.{TreeValue, SymbolValue, BlockValue, ChoiceValue, CommentValue, modules_symbol, blocks_around}
 use Rattle.kc_statement.specs.Tristate.{least}
@@ -59,7 +59,7 @@ module _ (t : TreeValue) (a b : Assignment) (same : (n : Node) → IsNodeOf t n 
   at_formula (either f g) = in_both_parts (formula_nodes t f) (formula_nodes t g) (at_formula f) (at_formula g)
 
   at_condition : (e : Expr) → Agree a b (value_nodes t e)
-  at_condition e = at_formula (formula e)
+  at_condition e = at_formula e
 
   same_conditions : (es : List Expr) → conditions_value t a es ≡ conditions_value t b es
   same_conditions es = conditions_agree a b t es (in_each (value_nodes t) at_condition es)

@@ -6,7 +6,6 @@ use Rattle.kc_outline.specs.declared.block.BlockKind.TheVariants.{Choice}
 use Rattle.kc_outline.specs.declared.choice.ChoiceDefault.{ChoiceDefault}
 use Rattle.kc_tree.specs.declared.node.Node.{Node}
 use Rattle.kc_tree.specs.declared.node.Node.TheVariants.{Vis, Val, Mode, Sel}
-use Rattle.kc_statement.specs.declared.expr.Expr.TheVariants.{Term as TermExpr}
 use Rattle.kc_statement.specs.declared.expr.Term.TheVariants.{Tri as Constant, Text, Undefined}
 use Rattle.kc_statement.specs.declared.expr.Comparison.TheVariants as comparison
 use Rattle.kc_statement.specs.declared.symbol_type.SymbolType.{SymbolType}
@@ -15,7 +14,7 @@ use Rattle.kc_outline.specs.declared.symbol.Reverse.{Reverse}
 use Rattle.kc_statement.specs.declared.tri.Tri.TheVariants.{No, Yes}
 use Rattle.kc_tree.specs.declared.user_value.UserVal.{UserVal}
 use Rattle.kc_tree.specs.declared.user_value.UserVal.TheVariants.{Tri as TriVal, Text as TextVal}
-use Rattle.kc_statement.specs.Grammar.{compare}
+use Rattle.kc_statement.specs.Formula.{atom, compare}
 use Rattle.kc_outline.specs.TreeValue.{TreeValue, SymbolValue, DefinitionValue, ChoiceValue}
 use Rattle.kc_value.specs.declared.value.Value.TheVariants.{Tri as Level, Shown, Member}
 use Rattle.kc_value.specs.Assignment.{Assignment}
@@ -71,16 +70,14 @@ definition s = record {
   symbol = record { 0 = s };
   block = None;
   depends = [];
-  prompt = Some (record { text = codes "p"; condition = None });
-  has_second_prompt = false;
+  prompts = record { text = codes "p"; condition = None } ∷ [];
   defaults = [];
   ranges = [];
 }
 
 abbrev symbol : SymbolType → ℕ → List Reverse → SymbolValue
 symbol kind number selected = record {
-  kind = Some kind;
-  has_other_type = false;
+  types = kind ∷ [];
   choice = None;
   definitions = number ∷ [];
   selected = selected;
@@ -130,9 +127,8 @@ with_range value low high = record {
   symbol = record { 0 = 0 };
   block = None;
   depends = [];
-  prompt = Some (record { text = codes "p"; condition = None });
-  has_second_prompt = false;
-  defaults = record { value = TermExpr (Text value); condition = None } ∷ [];
+  prompts = record { text = codes "p"; condition = None } ∷ [];
+  defaults = record { value = atom (Text value); condition = None } ∷ [];
   ranges = record { low = Text low; high = Text high; condition = None } ∷ [];
 }
 
@@ -187,8 +183,7 @@ wrong_way_round = refl
 -- ---- a choice of A, B and C
 abbrev letter : ℕ → SymbolValue
 letter number = record {
-  kind = Some BoolType;
-  has_other_type = false;
+  types = BoolType ∷ [];
   choice = Some (record { 0 = 0 });
   definitions = number ∷ [];
   selected = [];
@@ -201,8 +196,7 @@ letter number = record {
 abbrev choosing : List ChoiceDefault → Bool → ChoiceValue
 choosing defaults optional = record {
   block = record { 0 = 0 };
-  prompt = Some (record { text = codes "p"; condition = None });
-  has_second_prompt = false;
+  prompts = record { text = codes "p"; condition = None } ∷ [];
   defaults = defaults;
   members = record { 0 = 0 } ∷ record { 0 = 1 } ∷ record { 0 = 2 } ∷ [];
   is_optional = optional;

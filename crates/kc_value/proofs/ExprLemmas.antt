@@ -1,15 +1,10 @@
 -- The value of expressions that one operator joins, and of those behind a run of `!`.
-use Rattle.std.proofs.Common.{◌≡◌, ◌≢◌, Box, ◌%◌, ◌∙◌, ℕ, zero, suc, List, [], ◌∷◌, map, arith, refl, sym, ap, true, true≢false}
-use Rattle.std.specs.Global.{Global}
-use Rattle.kc_statement.specs.declared.expr.Expr.{Expr}
-use Rattle.kc_statement.specs.declared.expr.Expr.TheViews as view
-use Rattle.kc_statement.specs.declared.expr.Negations.{Negations}
+use Rattle.std.proofs.Common.{◌≡◌, ◌≢◌, ◌%◌, ◌∙◌, ℕ, zero, suc, List, [], ◌∷◌, map, arith, refl, sym, ap, true, true≢false}
 use Rattle.kc_statement.specs.declared.tri.Tri.{Tri}
 use Rattle.kc_statement.specs.declared.tri.Tri.TheVariants.{No, Module, Yes}
-use Rattle.kc_statement.specs.Grammar.{Formula, all_joined, any_joined, negations, formula}
+use Rattle.kc_statement.specs.Formula.{Formula, all_joined, any_joined, negations}
 use Rattle.kc_statement.specs.Tristate.{complement, is_no, least, least_of, greatest, greatest_of}
 use Rattle.kc_outline.specs.TreeValue.{TreeValue}
-use Rattle.kc_statement.proofs.FormulaLaws.{formula_not}
 use Rattle.kc_value.specs.Assignment.{Assignment}
 use Rattle.kc_value.specs.ExprValue.{complements, formula_value}
 
@@ -38,10 +33,8 @@ pub value_negations : (t : TreeValue) (a : Assignment) (n : ℕ) (f : Formula)
 value_negations t a zero f = refl
 value_negations t a (suc n) f = ap complement (value_negations t a n f)
 
-pub value_negated : (t : TreeValue) (a : Assignment) (e : Expr) (run : Negations) (inner : Box Expr Global) → e ≡ view.Not run inner
-    → complements run.count (formula_value t a (formula inner.value)) ≡ formula_value t a (formula e)
-value_negated t a e run inner is =
-    sym (ap (λ (x : Expr). formula_value t a (formula x)) is ∙ ap (formula_value t a) (formula_not run inner) ∙ value_negations t a run.count (formula inner.value))
+pub value_negated : (t : TreeValue) (a : Assignment) (n : ℕ) (f g : Formula) → negations n f ≡ g → complements n (formula_value t a f) ≡ formula_value t a g
+value_negated t a n f g is = sym (value_negations t a n f) ∙ ap (formula_value t a) is
 
 -- two of them cancel
 complement_twice : (v : Tri) → complement (complement v) ≡ v

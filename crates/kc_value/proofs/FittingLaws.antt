@@ -12,9 +12,9 @@ use Rattle.kc_tree.specs.declared.user_value.UserVal.{UserVal}
 use Rattle.kc_tree.specs.declared.user_value.UserVal.TheVariants.{Tri as TriVal, Text}
 use Rattle.kc_tree.specs.declared.node.Node.TheVariants.{Vis}
 use Rattle.kc_tree.specs.Fits.{fits, fits_type}
-use Rattle.kc_tree.specs.SymbolFaults.{is_tri_type}
+use Rattle.kc_statement.specs.SymbolTypes.{is_tri_type}
 use Rattle.kc_statement.specs.Tristate.{greatest, is_no}
-use Rattle.kc_outline.specs.TreeOf.{same_type}
+use Rattle.kc_outline.specs.TreeValue.{same_type}
 use Rattle.kc_outline.specs.TreeValue.{TreeValue, SymbolValue, kind_of}
 use Rattle.kc_value.specs.declared.value.Value.{Value}
 use Rattle.kc_value.specs.declared.value.Value.TheVariants.{Tri as Level, Shown}

@@ -6,7 +6,7 @@ use Rattle.std.proofs.lemmas.Bool.{cases_eq}
 use Rattle.std.proofs.lemmas.List.Elements.{Contains-append_left, Contains-append_right}
 use Rattle.kc_outline.specs.declared.id.BlockId.{BlockId}
 use Rattle.kc_outline.specs.declared.symbol.Reverse.{Reverse}
-use Rattle.kc_outline.specs.TreeValue.{TreeValue, SymbolValue, DefinitionValue, BlockValue, ChoiceValue, blocks_from, blocks_around}
+use Rattle.kc_outline.specs.TreeValue.{TreeValue, SymbolValue, DefinitionValue, BlockValue, ChoiceValue, blocks_from, blocks_around, prompt_of, choice_prompt_of}
 use Rattle.kc_statement.specs.declared.attribute.Prompt.{Prompt}
 use Rattle.kc_statement.specs.declared.expr.Expr.{Expr}
 use Rattle.kc_statement.specs.declared.id.SymId.{SymId}
@@ -247,7 +247,7 @@ module _ (t : TreeValue) where
       rest None n c = rw n c
       rest (Some x) n c = rw n (suc c.0, omega (arith, c.1), c.2)
 
-  pub prompt_depends : (d : DefinitionValue) (p : Prompt) (b : BlockId) (m : Node) → d.prompt ≡ Some p → d.block ≡ Some b → Contains (depends_nodes t (blocks_around t (Some b))) m → Contains (prompt_nodes t d) m
+  pub prompt_depends : (d : DefinitionValue) (p : Prompt) (b : BlockId) (m : Node) → prompt_of d ≡ Some p → d.block ≡ Some b → Contains (depends_nodes t (blocks_around t (Some b))) m → Contains (prompt_nodes t d) m
   prompt_depends d p b m is at c =
       let P : Option BlockId → Type 0 = λ o. Contains (depends_nodes t (blocks_around t o)) m in
       let dependency = Contains-append_right (conditions_nodes t d.depends) (depends_nodes t (blocks_around t d.block)) m (subst P (sym at) c) in
@@ -256,7 +256,7 @@ module _ (t : TreeValue) where
       (Contains-append_right (own_condition_nodes t p.condition) (dependency_nodes t d ++ visible_nodes t (blocks_around t d.block)) m
       (Contains-append_left (dependency_nodes t d) (visible_nodes t (blocks_around t d.block)) m dependency))
 
-  pub prompt_visible : (d : DefinitionValue) (p : Prompt) (b : BlockId) (m : Node) → d.prompt ≡ Some p → d.block ≡ Some b → Contains (visible_nodes t (blocks_around t (Some b))) m → Contains (prompt_nodes t d) m
+  pub prompt_visible : (d : DefinitionValue) (p : Prompt) (b : BlockId) (m : Node) → prompt_of d ≡ Some p → d.block ≡ Some b → Contains (visible_nodes t (blocks_around t (Some b))) m → Contains (prompt_nodes t d) m
   prompt_visible d p b m is at c =
       let P : Option BlockId → Type 0 = λ o. Contains (visible_nodes t (blocks_around t o)) m in
       let Q : Option Prompt → Type 0 = λ o. Contains (option_map_or (λ q. own_condition_nodes t q.condition ++ (dependency_nodes t d ++ visible_nodes t (blocks_around t d.block))) o []) m in
@@ -275,8 +275,8 @@ module _ (t : TreeValue) where
       let P : Option BlockId → Type 0 = λ o. Contains (depends_nodes t (blocks_around t o)) m in
       let dependency = Contains-append_right (conditions_nodes t d.depends) (depends_nodes t (blocks_around t d.block)) m (subst P (sym at) c) in
       let defined =
-      Contains-append_right (flat_map (default_nodes t) d.defaults) (flat_map (range_nodes t) d.ranges ++ dependency_nodes t d) m
-      (Contains-append_right (flat_map (range_nodes t) d.ranges) (dependency_nodes t d) m dependency) in
+      Contains-append_right (flat_map (default_nodes t d) d.defaults) (flat_map (range_nodes t d) d.ranges ++ dependency_nodes t d) m
+      (Contains-append_right (flat_map (range_nodes t d) d.ranges) (dependency_nodes t d) m dependency) in
       let definitions = filter_map (slice_get t.definitions) x.definitions in
       let rest = flat_map (reverse_nodes t) x.selected ++ (flat_map (reverse_nodes t) x.implied ++ type_nodes t x) in
       let Q : Option ChoiceId → Type 0 = λ o. Contains (option_map_or (λ k. Vis s ∷ selection_nodes t k) o (free_value_nodes t s x)) m in
@@ -334,7 +334,7 @@ module _ (t : TreeValue) where
       (Contains-append_right (flat_map (reverse_nodes t) x.selected) (flat_map (reverse_nodes t) x.implied ++ type_nodes t x) m
       (Contains-append_left (flat_map (reverse_nodes t) x.implied) (type_nodes t x) m c))
 
-  module _ (x : ChoiceValue) (p : Prompt) (is : x.prompt ≡ Some p) (m : Node) where
+  module _ (x : ChoiceValue) (p : Prompt) (is : choice_prompt_of x ≡ Some p) (m : Node) where
     abbrev around_depends : List Node
     around_depends = depends_nodes t (blocks_around t (Some x.block))
 

@@ -11,6 +11,7 @@ pub mod EditLemmas
 pub mod EnoughLaws
 pub mod Examples
 pub mod ExprLemmas
+pub mod FactorLaws
 pub mod FillSteps
 pub mod FirstLemmas
 pub mod FittingLaws

@@ -11,11 +11,12 @@ use Rattle.kc_statement.specs.declared.attribute.DefaultValue.{DefaultValue}
 use Rattle.kc_statement.specs.declared.attribute.Range.{Range}
 use Rattle.kc_tree.specs.declared.node.Node.{Node}
 use Rattle.kc_tree.specs.declared.node.Node.TheVariants.{Val}
-use Rattle.kc_statement.specs.Grammar.{Formula, atom, bare, compare, negation, group, both, either, formula}
-use Rattle.kc_outline.specs.TreeOf.{same_type}
+use Rattle.kc_statement.specs.Formula.{Formula, atom, bare, compare, negation, group, both, either}
+use Rattle.kc_outline.specs.TreeValue.{same_type}
 use Rattle.kc_statement.specs.declared.symbol_type.SymbolType.TheVariants.{Tristate}
-use Rattle.kc_outline.specs.TreeValue.{TreeValue, SymbolValue, DefinitionValue, BlockValue, ChoiceValue, modules_symbol, kind_of, definitions_of, blocks_around}
-use Rattle.kc_tree.specs.Uses.{symbol_nodes, term_nodes, formula_nodes, modules_nodes, nodes_if, value_nodes, conditions_nodes, own_condition_nodes, depends_nodes, visible_nodes, dependency_nodes, default_nodes, range_nodes, definition_nodes, reverse_nodes, choice_prompt_nodes, prompt_nodes, type_nodes}
+use Rattle.kc_outline.specs.TreeValue.{TreeValue, SymbolValue, DefinitionValue, BlockValue, ChoiceValue, modules_symbol, kind_of, definitions_of, blocks_around, prompt_of, choice_prompt_of}
+use Rattle.kc_tree.specs.Uses.{symbol_nodes, term_nodes, formula_nodes, modules_nodes, nodes_if, value_nodes, conditions_nodes, own_condition_nodes, depends_nodes, visible_nodes, condition_nodes, dependency_nodes, default_nodes, range_nodes, definition_nodes, reverse_nodes, choice_prompt_nodes, prompt_nodes, type_nodes}
+use Rattle.kc_tree.specs.ConditionTable.{of_property}
 use Rattle.kc_value.specs.Assignment.{Assignment}
 use Rattle.kc_value.proofs.Agreement.{Agree}
 
@@ -63,7 +64,7 @@ module _ (P : Node → Type 0) where
     formula_holds (either f g) = append_holds (formula_nodes t f) (formula_nodes t g) (formula_holds f) (formula_holds g)
 
     value_nodes_holds : (e : Expr) → AllHold (value_nodes t e)
-    value_nodes_holds e = formula_holds (formula e)
+    value_nodes_holds e = formula_holds e
 
     conditions_holds : (es : List Expr) → AllHold (conditions_nodes t es)
     conditions_holds es = flat_holds (value_nodes t) value_nodes_holds es
@@ -82,18 +83,22 @@ module _ (P : Node → Type 0) where
     dependency_holds d =
         append_holds (conditions_nodes t d.depends) (depends_nodes t (blocks_around t d.block)) (conditions_holds d.depends) (depends_holds (blocks_around t d.block))
 
-    default_holds : (d : DefaultValue) → AllHold (default_nodes t d)
-    default_holds d = append_holds (value_nodes t d.value) (own_condition_nodes t d.condition) (formula_holds (formula d.value)) (own_condition_holds d.condition)
+    property_holds : (d : DefinitionValue) (c : Option Expr) → AllHold (condition_nodes t (of_property t d c))
+    property_holds d c = append_holds (own_condition_nodes t c) (dependency_nodes t d) (own_condition_holds c) (dependency_holds d)
 
-    range_holds : (r : Range) → AllHold (range_nodes t r)
-    range_holds r =
-        append_holds (term_nodes t r.low) (term_nodes t r.high ++ own_condition_nodes t r.condition) (term_holds r.low)
-        (append_holds (term_nodes t r.high) (own_condition_nodes t r.condition) (term_holds r.high) (own_condition_holds r.condition))
+    default_holds : (d : DefinitionValue) (v : DefaultValue) → AllHold (default_nodes t d v)
+    default_holds d v = append_holds (value_nodes t v.value) (condition_nodes t (of_property t d v.condition)) (formula_holds v.value) (property_holds d v.condition)
+
+    range_holds : (d : DefinitionValue) (r : Range) → AllHold (range_nodes t d r)
+    range_holds d r =
+        let own = condition_nodes t (of_property t d r.condition) in
+        append_holds (term_nodes t r.low) (term_nodes t r.high ++ own) (term_holds r.low)
+        (append_holds (term_nodes t r.high) own (term_holds r.high) (property_holds d r.condition))
 
     pub definition_holds : (d : DefinitionValue) → AllHold (definition_nodes t d)
     definition_holds d =
-        append_holds (flat_map (default_nodes t) d.defaults) (flat_map (range_nodes t) d.ranges ++ dependency_nodes t d) (flat_holds (default_nodes t) default_holds d.defaults)
-        (append_holds (flat_map (range_nodes t) d.ranges) (dependency_nodes t d) (flat_holds (range_nodes t) range_holds d.ranges) (dependency_holds d))
+        append_holds (flat_map (default_nodes t d) d.defaults) (flat_map (range_nodes t d) d.ranges ++ dependency_nodes t d) (flat_holds (default_nodes t d) (default_holds d) d.defaults)
+        (append_holds (flat_map (range_nodes t d) d.ranges) (dependency_nodes t d) (flat_holds (range_nodes t d) (range_holds d) d.ranges) (dependency_holds d))
 
     pub reverse_holds : (r : Reverse) → AllHold (reverse_nodes t r)
     reverse_holds r =
@@ -108,7 +113,7 @@ module _ (P : Node → Type 0) where
         option_holds (λ p. own_condition_nodes t p.condition ++ rest)
         (λ p. append_holds (own_condition_nodes t p.condition) rest (own_condition_holds p.condition)
         (append_holds (depends_nodes t around) (visible_nodes t around) (depends_holds around) (visible_holds around)))
-        x.prompt
+        (choice_prompt_of x)
 
     pub type_holds : (x : SymbolValue) → AllHold (type_nodes t x)
     type_holds x = if_holds (same_type (kind_of x) Tristate) (modules_nodes t) modules_holds
@@ -119,7 +124,7 @@ module _ (P : Node → Type 0) where
         option_holds (λ p. own_condition_nodes t p.condition ++ rest)
         (λ p. append_holds (own_condition_nodes t p.condition) rest (own_condition_holds p.condition)
         (append_holds (dependency_nodes t d) (visible_nodes t (blocks_around t d.block)) (dependency_holds d) (visible_holds (blocks_around t d.block))))
-        d.prompt
+        (prompt_of d)
 
     pub prompts_holds : (x : SymbolValue) → AllHold (flat_map (prompt_nodes t) (definitions_of t x))
     prompts_holds x = flat_holds (prompt_nodes t) prompt_holds (definitions_of t x)

@@ -24,7 +24,7 @@ use Rattle.kc_value.specs.Rule.{rule, in_type, in_bool, has_modules, visibility,
 use Rattle.kc_value.specs.Solution.{IsSolution}
 use Rattle.kc_value.proofs.Agreement.{has_modules_agrees, prompt_agrees, map_agrees}
 use Rattle.kc_value.proofs.ReadNodes.{agree_where, type_holds, prompts_holds}
-use Rattle.kc_outline.specs.TreeOf.{same_type}
+use Rattle.kc_outline.specs.TreeValue.{same_type}
 use Rattle.kc_statement.specs.declared.symbol_type.SymbolType.TheVariants as kind
 
 -- a value, and no other node

@@ -1,8 +1,9 @@
 -- What gives every node a value: this project's own.
-use Rattle.std.specs.Prelude.{ℕ, Bool, false, List, [], Option, None, slice_index_or, unwrap_or, codes}
+use Rattle.std.specs.Prelude.{ℕ, Bool, false, List, [], Option, None, slice_index_or, unwrap_or}
 use Rattle.kc_statement.specs.declared.id.SymId.{SymId}
 use Rattle.kc_statement.specs.declared.tri.Tri.{Tri}
-use Rattle.kc_statement.specs.declared.tri.Tri.TheVariants.{No, Module, Yes}
+use Rattle.kc_statement.specs.declared.tri.Tri.TheVariants.{No}
+use Rattle.kc_statement.specs.Tristate.{letter}
 use Rattle.kc_tree.specs.declared.user_value.UserVal.TheVariants.{Tri as TriVal, Text}
 use Rattle.kc_tree.specs.declared.node.Node.{Node}
 use Rattle.kc_outline.specs.TreeValue.{TreeValue}
@@ -21,9 +22,7 @@ as_tri (Shown (Text x) w) = No
 as_tri (Member m) = No
 
 abbrev pub tri_letter : Tri → List ℕ
-tri_letter No = codes "n"
-tri_letter Module = codes "m"
-tri_letter Yes = codes "y"
+tri_letter v = letter v
 
 -- the text of a value: the letter of a tristate value, nothing for the member that is selected
 abbrev pub as_text : Value → List ℕ

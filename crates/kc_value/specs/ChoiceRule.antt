@@ -12,8 +12,9 @@ use Rattle.kc_outline.specs.TreeValue.{TreeValue, ChoiceValue}
 use Rattle.kc_value.specs.declared.value.Value.{Value}
 use Rattle.kc_value.specs.declared.value.Value.TheVariants.{Shown}
 use Rattle.kc_value.specs.Assignment.{Assignment, as_tri, as_member}
-use Rattle.kc_value.specs.ExprValue.{own_condition, yes_if}
-use Rattle.kc_value.specs.Conditions.{choice_prompt_value}
+use Rattle.kc_tree.specs.ConditionTable.{of_choice_default}
+use Rattle.kc_value.specs.ExprValue.{yes_if}
+use Rattle.kc_value.specs.Conditions.{condition_value, choice_prompt_value}
 
 -- ---- mode: y where the prompt's condition is not n and, in an optional choice, the user chose a member
 abbrev pub mode : TreeValue → Assignment → ChoiceValue → Option SymId → Tri
@@ -39,7 +40,7 @@ abbrev pub visible_if : TreeValue → Bool → Assignment → Option SymId → O
 visible_if t active a s = option_and_then (λ m. if active && is_visible t a m then Some m else None) s
 
 abbrev pub default_member : TreeValue → Assignment → ChoiceDefault → Option SymId
-default_member t a d = visible_if t (not (is_no (own_condition t a d.condition))) a d.symbol
+default_member t a d = visible_if t (not (is_no (condition_value t a (of_choice_default d)))) a d.symbol
 
 -- the chosen member, else that of the first such default, else the first that is visible, else none
 abbrev pub selection : TreeValue → Assignment → ChoiceId → ChoiceValue → Option SymId → Option SymId

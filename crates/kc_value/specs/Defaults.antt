@@ -2,14 +2,14 @@
 use Rattle.std.specs.Prelude.{Bool, not}
 use Rattle.kc_statement.specs.declared.tri.Tri.{Tri}
 use Rattle.kc_statement.specs.declared.attribute.DefaultValue.{DefaultValue}
-use Rattle.kc_statement.specs.Tristate.{least, is_no}
+use Rattle.kc_statement.specs.Tristate.{is_no}
 use Rattle.kc_outline.specs.TreeValue.{TreeValue, DefinitionValue}
 use Rattle.kc_value.specs.Assignment.{Assignment}
-use Rattle.kc_value.specs.ExprValue.{own_condition}
-use Rattle.kc_value.specs.Conditions.{dependency}
+use Rattle.kc_tree.specs.ConditionTable.{of_property}
+use Rattle.kc_value.specs.Conditions.{condition_value}
 
 abbrev pub default_condition : TreeValue → Assignment → DefinitionValue → DefaultValue → Tri
-default_condition t a d v = least (own_condition t a v.condition) (dependency t a d)
+default_condition t a d v = condition_value t a (of_property t d v.condition)
 
 -- its condition is not n
 abbrev pub is_active : TreeValue → Assignment → DefinitionValue → DefaultValue → Bool

@@ -1,4 +1,4 @@
--- The walk that drops what is computed from some nodes: this project's own.
+-- Steps: the walk that drops what is computed from some nodes: this project's own.
 use Rattle.std.specs.Prelude.{◌≡◌, ◌⊎◌, ℕ, ◌+◌, ◌<◌, ◌≤◌, Bool, true, false, List, Option, None, Contains, is_some, length, slice_index_or}
 use Rattle.kc_graph.specs.Graph.{Uses as HasNumber}
 use Rattle.kc_outline.specs.TreeValue.{TreeValue}

@@ -14,12 +14,12 @@ use Rattle.kc_statement.specs.declared.expr.Comparison.{Comparison}
 use Rattle.kc_statement.specs.declared.expr.Comparison.TheVariants as comparison
 use Rattle.kc_statement.specs.declared.expr.Expr.{Expr}
 use Rattle.kc_tree.specs.declared.node.Node.TheVariants.{Val}
-use Rattle.kc_statement.specs.Grammar.{Formula, atom, bare, compare, negation, group, both, either, formula}
+use Rattle.kc_statement.specs.Formula.{Formula, atom, bare, compare, negation, group, both, either}
 use Rattle.kc_statement.specs.Tristate.{least, greatest, least_of, complement}
 use Rattle.kc_statement.specs.declared.symbol_type.SymbolType.{SymbolType}
 use Rattle.kc_statement.specs.declared.symbol_type.SymbolType.TheVariants as kind
 use Rattle.kc_statement.specs.Numerals.{numeral_in}
-use Rattle.kc_outline.specs.TreeOf.{same_type}
+use Rattle.kc_outline.specs.TreeValue.{same_type}
 use Rattle.kc_outline.specs.TreeValue.{TreeValue, modules_symbol, kind_of}
 use Rattle.kc_value.specs.declared.value.Value.{Value}
 use Rattle.kc_value.specs.Assignment.{Assignment, as_tri, as_text, tri_letter}
@@ -135,7 +135,7 @@ formula_value t a (both f g) = least (formula_value t a f) (formula_value t a g)
 formula_value t a (either f g) = greatest (formula_value t a f) (formula_value t a g)
 
 abbrev pub expr_value : TreeValue → Assignment → Expr → Tri
-expr_value t a e = formula_value t a (formula e)
+expr_value t a e = formula_value t a e
 
 -- several lines are joined by `&&`
 abbrev pub conditions_value : TreeValue → Assignment → List Expr → Tri

@@ -1,4 +1,4 @@
--- How far a walk has gone over what a node uses, in a table whose rows share lists: this project's own.
+-- Steps: how far a walk has gone over what a node uses, in a table whose rows share lists: this project's own.
 -- A number of a row below n is that of a node, and one from n on that of a shared list of nodes (kc_graph, Shared).
 use Rattle.std.specs.Prelude.{◌≡◌, ℕ, ◌+◌, ◌<◌, ◌≤◌, Bool, true, false, List, Option, None, is_some, length, slice_index_or}
 use Rattle.kc_graph.specs.Graph.{row}

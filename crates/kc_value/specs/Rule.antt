@@ -12,18 +12,19 @@ use Rattle.kc_tree.specs.declared.node.Node.TheVariants.{Vis, Val, Mode, Sel}
 use Rattle.kc_tree.specs.declared.user_value.UserVal.{UserVal}
 use Rattle.kc_tree.specs.declared.user_value.UserVal.TheVariants.{Tri as TriVal, Text}
 use Rattle.kc_statement.specs.Tristate.{least, greatest, greatest_of, is_no}
-use Rattle.kc_outline.specs.TreeOf.{same_type}
+use Rattle.kc_outline.specs.TreeValue.{same_type}
 use Rattle.kc_outline.specs.TreeValue.{TreeValue, SymbolValue, DefinitionValue, kind_of, definitions_of}
 use Rattle.kc_value.specs.declared.value.Value.{Value}
 use Rattle.kc_value.specs.declared.value.Value.TheVariants.{Tri as Level, Shown, Member}
 use Rattle.kc_value.specs.Assignment.{Assignment, as_tri}
 use Rattle.kc_value.specs.UserValues.{UserValues, user_value, chosen_in}
-use Rattle.kc_value.specs.ExprValue.{symbol_tri, modules_value, expr_value, own_condition}
-use Rattle.kc_value.specs.Conditions.{dependency, prompt_value, mode_around}
+use Rattle.kc_value.specs.ExprValue.{symbol_tri, modules_value, expr_value}
+use Rattle.kc_tree.specs.ConditionTable.{of_member, of_reverse}
+use Rattle.kc_value.specs.Conditions.{condition_value, dependency, prompt_value}
 use Rattle.kc_value.specs.Defaults.{default_condition, is_active}
 use Rattle.kc_value.specs.TextRule.{text_rule}
 use Rattle.kc_value.specs.ChoiceRule.{mode, selection, member_rule}
-use Rattle.kc_tree.specs.SymbolFaults.{is_tri_type}
+use Rattle.kc_statement.specs.SymbolTypes.{is_tri_type}
 
 -- ---- types
 -- a bool knows no m: it stands for y
@@ -42,7 +43,7 @@ in_type has v = if has then v else in_bool v
 -- ---- visibility: the greatest condition of the prompts; of a member, within the mode of its choice
 abbrev pub visibility : TreeValue → Assignment → SymbolValue → Tri
 visibility t a x = in_type (has_modules t a x)
-    (least (greatest_of (map (prompt_value t a) (definitions_of t x))) (mode_around t a x.choice))
+    (least (greatest_of (map (prompt_value t a) (definitions_of t x))) (condition_value t a (of_member x)))
 
 -- ---- defaults
 -- the least of the value and the condition of the first active default of a definition, if one is active
@@ -57,8 +58,7 @@ default_value t a x = unwrap_or (slice_get (filter_map (definition_default t a) 
 -- ---- select, imply and dependencies
 -- the least of the value of the symbol that selects or implies, and the condition
 abbrev pub reverse_value : TreeValue → Assignment → Reverse → Tri
-reverse_value t a r = least (symbol_tri t a r.by)
-    (least (own_condition t a r.condition) (option_map_or (dependency t a) (slice_get t.definitions r.definition) No))
+reverse_value t a r = least (symbol_tri t a r.by) (condition_value t a (of_reverse t r))
 
 abbrev pub reverse_values : TreeValue → Assignment → List Reverse → Tri
 reverse_values t a rs = greatest_of (map (reverse_value t a) rs)

@@ -19,8 +19,9 @@ use Rattle.kc_value.specs.declared.value.Value.{Value}
 use Rattle.kc_value.specs.declared.value.Value.TheVariants.{Shown}
 use Rattle.kc_value.specs.declared.bounds.Bounds.{Bounds}
 use Rattle.kc_value.specs.Assignment.{Assignment}
-use Rattle.kc_value.specs.ExprValue.{term_text, own_condition}
-use Rattle.kc_value.specs.Conditions.{dependency}
+use Rattle.kc_value.specs.ExprValue.{term_text}
+use Rattle.kc_tree.specs.ConditionTable.{of_property}
+use Rattle.kc_value.specs.Conditions.{condition_value}
 use Rattle.kc_value.specs.Defaults.{is_active}
 
 -- ---- defaults
@@ -42,7 +43,7 @@ abbrev pub number_or_zero : SymbolType → List ℕ → ℤ
 number_or_zero k w = unwrap_or (numeral_in k w) (pos 0)
 
 abbrev pub range_condition : TreeValue → Assignment → DefinitionValue → Range → Tri
-range_condition t a d r = least (own_condition t a r.condition) (dependency t a d)
+range_condition t a d r = condition_value t a (of_property t d r.condition)
 
 abbrev pub is_range_active : TreeValue → Assignment → DefinitionValue → Range → Bool
 is_range_active t a d r = not (is_no (range_condition t a d r))

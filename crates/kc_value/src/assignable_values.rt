@@ -9,9 +9,9 @@ ghost use Rattle.kc_statement.specs.declared.tri.Tri.TheVariants.{No, Module, Ye
 ghost use Rattle.kc_statement.specs.Tristate.{greatest, least};
 ghost use Rattle.kc_tree.specs.Accepted.{IsAccepted};
 ghost use Rattle.kc_tree.specs.Nodes.{IsNodeOf};
-ghost use Rattle.kc_tree.specs.SymbolFaults.{is_tri_type};
+ghost use Rattle.kc_statement.specs.SymbolTypes.{is_tri_type};
 ghost use Rattle.kc_tree.specs.Uses.{Uses};
-ghost use Rattle.kc_outline.specs.TreeOf.{same_type};
+ghost use Rattle.kc_outline.specs.TreeValue.{same_type};
 ghost use Rattle.kc_outline.specs.TreeValue.{choice_of};
 ghost use Rattle.kc_value.specs.Assignable.{same_tri, is_shown_with_some, assignable_values};
 ghost use Rattle.kc_value.specs.Assignment.{assignment_of};

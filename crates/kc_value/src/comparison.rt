@@ -13,7 +13,7 @@ ghost use Rattle.kc_value.specs.ExprValue.{constant_of, tri_number, number_in_ty
 use crate::expr_value::value_of;
 use crate::node_values::NodeValues;
 use crate::numeral::number_of_text;
-use crate::value::{Value, tri_letter};
+use crate::value::Value;
 use kc_tree::{Comparison, Node, Operands, SymId, SymbolType, Term, Tree, Tri, numeral};
 use std::cmp::Ordering;
 
@@ -55,7 +55,7 @@ impl<'a> Operand<'a> {
         ensures number { result.number ≡ Some (tri_number tri) }
     {
         Operand {
-            text: tri_letter(tri),
+            text: tri.letter(),
             number: Some(tri_number(tri)),
         }
     }
@@ -107,7 +107,7 @@ impl<'a> Operand<'a> {
         match kind {
             SymbolType::Bool | SymbolType::Tristate => Operand::of_tri(Tri::No),
             SymbolType::String | SymbolType::Int | SymbolType::Hex => Operand {
-                text: tri_letter(Tri::No),
+                text: Tri::No.letter(),
                 number: None,
             },
         }

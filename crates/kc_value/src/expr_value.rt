@@ -2,7 +2,7 @@
 
 ghost use Rattle.std.specs.Prelude.{◌≡◌, map};
 ghost use Rattle.std.specs.Option.{option_copied};
-ghost use Rattle.kc_statement.specs.Grammar.{formula, all_joined, any_joined};
+ghost use Rattle.kc_statement.specs.Formula.{all_joined, any_joined};
 ghost use Rattle.kc_tree.specs.Accepted.{IsAccepted};
 ghost use Rattle.kc_value.specs.Assignment.{as_tri, value_at, assignment_of};
 ghost use Rattle.kc_value.specs.ExprValue.{symbol_tri, modules_value, term_tri, complements, formula_value, expr_value, conditions_value, own_condition};
@@ -10,7 +10,7 @@ ghost use Rattle.kc_value.specs.ExprValue.{symbol_tri, modules_value, term_tri, 
 use crate::comparison::{comparison_tri, constant_of};
 use crate::node_values::NodeValues;
 use crate::value::Value;
-use kc_tree::{Expr, Node, SymId, Term, Tree, Tri};
+use kc_tree::{Expr, ExprNode, Node, SymId, Term, Tree, Tri};
 
 /// The value that stands for a node in a list by number.
 pub(crate) fn value_of<'a>(tree: &Tree, env: &'a NodeValues, node: Node) -> Option<&'a Value>
@@ -59,7 +59,7 @@ fn term_tri(tree: &Tree, env: &NodeValues, term: &Term) -> Tri
     }
 }
 
-/// A value behind so many `!`, of which each two cancel.
+/// A value after so many `!`, of which each two cancel.
 fn negated(value: Tri, count: usize) -> Tri
     ensures { result ≡ complements count value }
 {
@@ -78,21 +78,21 @@ fn negated(value: Tri, count: usize) -> Tri
 pub fn tri(tree: &Tree, expr: &Expr, env: &NodeValues) -> Tri
     ensures { result ≡ expr_value tree.now (assignment_of tree.now env.now) expr.now }
 {
-    match expr {
-        Expr::Term(term) => term_tri(tree, env, term),
-        Expr::BareModule(_) => Tri::Module.and(modules_tri(tree, env)),
-        Expr::Compare(comparison, operands) => comparison_tri(tree, env, *comparison, operands),
-        Expr::Not(run, inner) => negated(tri(tree, inner, env), run.count),
-        Expr::Group(inner) => tri(tree, inner, env),
-        Expr::All(parts) => all_tri(tree, parts, env),
-        Expr::Any(parts) => any_tri(tree, parts, env),
+    match expr.node() {
+        ExprNode::Term(term) => term_tri(tree, env, term),
+        ExprNode::BareModule(_) => Tri::Module.and(modules_tri(tree, env)),
+        ExprNode::Compare(comparison, operands) => comparison_tri(tree, env, *comparison, operands),
+        ExprNode::Not(count, inner) => negated(tri(tree, inner, env), *count),
+        ExprNode::Group(inner) => tri(tree, inner, env),
+        ExprNode::All(parts) => all_tri(tree, parts.as_slice(), env),
+        ExprNode::Any(parts) => any_tri(tree, parts.as_slice(), env),
     }
 }
 
-/// The value of expressions that `&&` joins. Behind one that is n the others make no difference.
+/// The value of expressions that `&&` joins. After one that is n the others make no difference.
 #[cycle(expr_value)]
 fn all_tri(tree: &Tree, parts: &[Expr], env: &NodeValues) -> Tri
-    ensures { result ≡ formula_value tree.now (assignment_of tree.now env.now) (all_joined (map formula parts.now)) }
+    ensures { result ≡ formula_value tree.now (assignment_of tree.now env.now) (all_joined parts.now) }
 {
     let mut least = Tri::Yes;
     for part in parts {
@@ -104,10 +104,10 @@ fn all_tri(tree: &Tree, parts: &[Expr], env: &NodeValues) -> Tri
     least
 }
 
-/// The value of expressions that `||` joins. Behind one that is y the others make no difference.
+/// The value of expressions that `||` joins. After one that is y the others make no difference.
 #[cycle(expr_value)]
 fn any_tri(tree: &Tree, parts: &[Expr], env: &NodeValues) -> Tri
-    ensures { result ≡ formula_value tree.now (assignment_of tree.now env.now) (any_joined (map formula parts.now)) }
+    ensures { result ≡ formula_value tree.now (assignment_of tree.now env.now) (any_joined parts.now) }
 {
     let mut greatest = Tri::No;
     for part in parts {
@@ -119,7 +119,7 @@ fn any_tri(tree: &Tree, parts: &[Expr], env: &NodeValues) -> Tri
     greatest
 }
 
-/// The value of conditions that `&&` joins. Behind one that is n the others make no difference.
+/// The value of conditions that `&&` joins. After one that is n the others make no difference.
 pub(crate) fn conditions_tri(tree: &Tree, exprs: &[Expr], env: &NodeValues) -> Tri
     ensures { result ≡ conditions_value tree.now (assignment_of tree.now env.now) exprs.now }
 {

@@ -42,5 +42,5 @@ pub use node_values::NodeValues;
 pub use resolver::Resolver;
 pub use shared_conditions::SharedConditions;
 pub use user::User;
-pub use value::{Value, tri_letter};
+pub use value::Value;
 pub use without::without_user;

@@ -1,5 +1,5 @@
 ghost use Rattle.std.specs.Prelude.{◌≡◌, IfOk};
-ghost use Rattle.kc_value.specs.Assignment.{as_tri, as_text, as_member, is_written, tri_letter};
+ghost use Rattle.kc_value.specs.Assignment.{as_tri, as_text, as_member, is_written};
 
 use kc_text::Text;
 use kc_tree::{SymId, Tri, UserVal};
@@ -14,17 +14,6 @@ pub enum Value {
     Shown(UserVal, bool),
     /// That of a selection: the member, if one is selected.
     Member(Option<SymId>),
-}
-
-/// The letter of a tristate value.
-pub fn tri_letter(tri: Tri) -> &'static str
-    ensures { result.now ≡ tri_letter tri }
-{
-    match tri {
-        Tri::No => "n",
-        Tri::Module => "m",
-        Tri::Yes => "y",
-    }
 }
 
 impl Value {
@@ -45,8 +34,8 @@ impl Value {
         ensures { result.now ≡ as_text self.now }
     {
         match self {
-            Value::Tri(tri) => tri_letter(*tri),
-            Value::Shown(UserVal::Tri(tri), _) => tri_letter(*tri),
+            Value::Tri(tri) => tri.letter(),
+            Value::Shown(UserVal::Tri(tri), _) => tri.letter(),
             Value::Shown(UserVal::Text(text), _) => text.as_str(),
             Value::Member(_) => "",
         }

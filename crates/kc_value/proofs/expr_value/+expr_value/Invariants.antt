@@ -1,5 +1,4 @@
 use Rattle.std.proofs.Common.{◌≡◌, map, drop}
-use Rattle.kc_statement.specs.Grammar.{formula}
 use Rattle.kc_statement.specs.Tristate.{least, least_of, greatest, greatest_of}
 use Rattle.kc_value.specs.Assignment.{assignment_of}
 use Rattle.kc_value.specs.ExprValue.{formula_value}
@@ -8,9 +7,9 @@ use Rattle.kc_value.proofs.expr_value.+expr_value.Given as goal
 abbrev pub invariant-all_tri-loop-part : goal.invariant-all_tri-loop-part
 invariant-all_tri-loop-part l =
     let value = formula_value l.tree (assignment_of l.tree l.env) in
-    least l.least (least_of (map value (map formula (drop l.part-index l.parts)))) ≡ least_of (map value (map formula l.parts))
+    least l.least (least_of (map value (drop l.part-index l.parts))) ≡ least_of (map value l.parts)
 
 abbrev pub invariant-any_tri-loop-part : goal.invariant-any_tri-loop-part
 invariant-any_tri-loop-part l =
     let value = formula_value l.tree (assignment_of l.tree l.env) in
-    greatest l.greatest (greatest_of (map value (map formula (drop l.part-index l.parts)))) ≡ greatest_of (map value (map formula l.parts))
+    greatest l.greatest (greatest_of (map value (drop l.part-index l.parts))) ≡ greatest_of (map value l.parts)
