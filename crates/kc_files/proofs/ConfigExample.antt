@@ -18,7 +18,7 @@ use Rattle.kc_value.specs.Assignment.{Assignment}
 use Rattle.kc_files.specs.ConfigText.{symbol_line, config_text_of}
 
 abbrev plain : SymbolValue
-plain = record { kind = None; has_other_type = false; choice = None; definitions = []; selected = []; implied = []; has_selections = false; has_modules = false; is_yes_in_allnoconfig = false }
+plain = record { types = []; choice = None; definitions = []; selected = []; implied = []; has_selections = false; has_modules = false; is_yes_in_allnoconfig = false }
 
 -- a menu with the title M and a comment with the title C, both without conditions
 abbrev block : BlockValue

@@ -29,8 +29,7 @@ use Rattle.kc_files.proofs.ReadingLaws.{reading_has}
 
 abbrev symbol : SymbolType → SymbolValue
 symbol kind = record {
-  kind = Some kind;
-  has_other_type = false;
+  types = kind ∷ [];
   choice = None;
   definitions = [];
   selected = [];

@@ -1,4 +1,4 @@
--- The user values while assignments are loaded, one at a time: this project's own.
+-- Steps: the user values while assignments are loaded, one at a time: this project's own.
 use Rattle.std.specs.Prelude.{List, [], ◌∷◌, Some, None, replicate, length, if◌then◌else◌}
 use Rattle.std.specs.Option.{option_map_or}
 use Rattle.kc_outline.specs.TreeValue.{TreeValue, choice_of}

@@ -10,7 +10,7 @@ use Rattle.kc_outline.specs.declared.entry.Entry.{Entry}
 use Rattle.kc_outline.specs.declared.entry.Entry.TheVariants.{Symbol}
 use Rattle.kc_outline.specs.TreeValue.{TreeValue, name_of, choice_of}
 use Rattle.kc_tree.specs.declared.node.Node.TheVariants.{Vis, Val}
-use Rattle.kc_tree.specs.SymbolFaults.{is_tri_type}
+use Rattle.kc_statement.specs.SymbolTypes.{is_tri_type}
 use Rattle.kc_value.specs.Assignable.{assignable_values}
 use Rattle.kc_value.specs.Assignment.{Assignment, as_tri, as_text}
 use Rattle.kc_value.specs.ChoiceRule.{is_symbol, is_visible, selected_in}

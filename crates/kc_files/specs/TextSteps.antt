@@ -1,4 +1,4 @@
--- A text in quotes while it is read, a character at a time: this project's own.
+-- Steps: a text in quotes while it is read, a character at a time: this project's own.
 use Rattle.std.specs.Prelude.{ℕ, ◌==◌, Bool, not, ◌&&◌, List, ◌++◌, Option, option_map}
 use Rattle.kc_files.specs.ReadingSteps.{text_from}
 

@@ -14,9 +14,7 @@ ghost use Rattle.kc_files.specs.NewText.{has_another_value, is_new_symbol, visib
 
 use crate::prefix::Prefix;
 use crate::symbol_line::push_text_line;
-use crate::symbols::{
-    choice_of, is_symbol, is_tri_type, selected_member, shown_text, type_of, visibility,
-};
+use crate::symbols::{choice_of, is_symbol, selected_member, shown_text, type_of, visibility};
 use kc_tree::{ChoiceId, Entry, SymId, Tree};
 use kc_value::{NodeValues, Resolver, SharedConditions, User, all_values, assignable_among};
 use std::alloc::{AllocError, Global};
@@ -36,7 +34,7 @@ fn has_another_value(
     requires solved { AreSolved tree.now user.now values.now }
     ensures { IfOk result (λ b. b ≡ has_another_value tree.now user.now symbol) }
 {
-    if !is_tri_type(type_of(tree, symbol)) {
+    if !type_of(tree, symbol).is_tri() {
         return Ok(true);
     }
     let assignable = assignable_among(alloc, tree, conditions, values, symbol)?;

@@ -4,7 +4,6 @@ ghost use Rattle.std.specs.Prelude.{◌≡◌};
 ghost use Rattle.std.specs.Option.{option_copied};
 ghost use Rattle.kc_outline.specs.TreeValue.{choice_of};
 ghost use Rattle.kc_tree.specs.declared.node.Node.TheVariants.{Vis, Val};
-ghost use Rattle.kc_tree.specs.SymbolFaults.{is_tri_type};
 ghost use Rattle.kc_value.specs.Assignment.{as_tri, as_text, assignment_of, value_at};
 ghost use Rattle.kc_value.specs.ChoiceRule.{is_symbol, selected_in};
 ghost use Rattle.kc_files.specs.ConfigText.{type_of, written_value};
@@ -73,16 +72,6 @@ pub(crate) fn selected_member(tree: &Tree, values: &NodeValues, choice: ChoiceId
 {
     tree.choices().get(choice.0 as usize)?;
     value_at(tree, values, Node::Sel(choice))?.as_member()
-}
-
-/// Whether the values of a type are n, m and y.
-pub(crate) fn is_tri_type(kind: SymbolType) -> bool
-    ensures { result ≡ is_tri_type kind }
-{
-    match kind {
-        SymbolType::Bool | SymbolType::Tristate => true,
-        SymbolType::String | SymbolType::Int | SymbolType::Hex => false,
-    }
 }
 
 /// Whether a symbol is this one.

@@ -13,7 +13,7 @@ use Rattle.kc_statement.specs.declared.tri.Tri.TheVariants as tri
 use Rattle.kc_outline.specs.TreeValue.{TreeValue, SymbolValue, kind_of}
 use Rattle.kc_tree.specs.declared.user_value.UserVal.TheVariants.{Tri as TriVal}
 use Rattle.kc_tree.specs.Fits.{fits, fits_type}
-use Rattle.kc_tree.specs.SymbolFaults.{is_tri_type}
+use Rattle.kc_statement.specs.SymbolTypes.{is_tri_type}
 use Rattle.kc_value.specs.UserValues.{UserValues, IsUserFor, user_value, with_value, no_values}
 use Rattle.kc_session.specs.declared.all_values.AllValue.{AllValue}
 use Rattle.kc_session.specs.declared.all_values.AllValue.TheVariants.{No, Yes}

@@ -13,6 +13,7 @@ pub mod Holding
 pub mod KeepingRequests
 pub mod LineLists
 pub mod Lines
+pub mod OneOpening
 pub mod OpenLaws
 pub mod PlainLines
 pub mod Outcomes

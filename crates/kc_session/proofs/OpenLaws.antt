@@ -19,7 +19,7 @@ text_fault files vars top config NoMemory h = tt
 pub tree_fault : (files vars : List File) (top config : List ℕ) (lines : List LineValue) (fault : OpenFault) → logical_lines_of files (texts_in vars) top ≡ Ok lines
     → IsTreeFaultOf lines fault → IsOpenFault files vars top config fault
 tree_fault files vars top config lines (Text fault) are h = absurd h
-tree_fault files vars top config lines (Tree fault) are h = record { lines = lines; lines_are = are; fault_is = h.0; numbered = h.1 }
+tree_fault files vars top config lines (Tree fault) are h = record { lines = lines; lines_are = are; fault_is = h.0; of_lines = h.1 }
 tree_fault files vars top config lines Limit are h = absurd h
 tree_fault files vars top config lines NoMemory are h = tt
 

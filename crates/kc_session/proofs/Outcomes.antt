@@ -7,7 +7,7 @@ use Rattle.kc_statement.specs.declared.id.SymId.{SymId}
 use Rattle.kc_outline.specs.declared.id.ChoiceId.{ChoiceId}
 use Rattle.kc_tree.specs.declared.user_value.UserVal.{UserVal}
 use Rattle.kc_tree.specs.declared.user_value.UserVal.TheVariants.{Text}
-use Rattle.kc_tree.specs.SymbolFaults.{is_tri_type}
+use Rattle.kc_statement.specs.SymbolTypes.{is_tri_type}
 use Rattle.kc_outline.specs.TreeValue.{TreeValue, symbol_named, choice_of}
 use Rattle.kc_value.specs.UserValues.{UserValues, IsUserFor, with_value, with_chosen, no_values}
 use Rattle.kc_files.specs.ConfigText.{type_of}

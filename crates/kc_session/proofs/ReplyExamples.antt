@@ -1,5 +1,5 @@
 -- Commands with their replies, computed from the definitions. What each reply is was worked out by hand.
-use Rattle.std.proofs.Common.{◌≡◌, ℕ, true, false, [], ◌∷◌, Option, Some, None, Ok, Err, refl}
+use Rattle.std.proofs.Common.{◌≡◌, ℕ, List, true, false, [], ◌∷◌, Option, Some, None, Ok, Err, refl}
 use Rattle.std.specs.Prelude.{codes}
 use Rattle.kc_statement.specs.declared.attribute.Prompt.{Prompt}
 use Rattle.kc_statement.specs.declared.id.SymId.{SymId}
@@ -28,8 +28,7 @@ use Rattle.kc_session.specs.Values.{value_of}
 -- a symbol with one definition
 abbrev symbol : SymbolType → ℕ → SymbolValue
 symbol kind definition = record {
-  kind = Some kind;
-  has_other_type = false;
+  types = kind ∷ [];
   choice = None;
   definitions = definition ∷ [];
   selected = [];
@@ -40,26 +39,25 @@ symbol kind definition = record {
 }
 
 -- a definition, with or without a prompt
-abbrev definition : ℕ → Option Prompt → DefinitionValue
-definition s prompt = record {
+abbrev definition : ℕ → List Prompt → DefinitionValue
+definition s prompts = record {
   symbol = record { 0 = s };
   block = None;
   depends = [];
-  prompt = prompt;
-  has_second_prompt = false;
+  prompts = prompts;
   defaults = [];
   ranges = [];
 }
 
-abbrev prompt : Option Prompt
-prompt = Some (record { text = codes "p"; condition = None })
+abbrev prompted : List Prompt
+prompted = record { text = codes "p"; condition = None } ∷ []
 
 -- bool A and tristate T with prompts, and bool B without one
 abbrev tree : TreeValue
 tree = record {
   names = codes "A" ∷ codes "B" ∷ codes "T" ∷ [];
   symbols = symbol BoolType 0 ∷ symbol BoolType 1 ∷ symbol Tristate 2 ∷ [];
-  definitions = definition 0 prompt ∷ definition 1 None ∷ definition 2 prompt ∷ [];
+  definitions = definition 0 prompted ∷ definition 1 [] ∷ definition 2 prompted ∷ [];
   blocks = [];
   choices = [];
   comments = [];
@@ -191,8 +189,7 @@ hex_takes_no_minus = refl
 -- a bool that is a member of the first choice
 abbrev member : ℕ → SymbolValue
 member definition = record {
-  kind = Some BoolType;
-  has_other_type = false;
+  types = BoolType ∷ [];
   choice = Some (record { 0 = 0 });
   definitions = definition ∷ [];
   selected = [];
@@ -207,9 +204,9 @@ abbrev other_tree : TreeValue
 other_tree = record {
   names = codes "S" ∷ codes "M" ∷ codes "N" ∷ [];
   symbols = symbol StringType 0 ∷ member 1 ∷ member 2 ∷ [];
-  definitions = definition 0 prompt ∷ definition 1 prompt ∷ definition 2 prompt ∷ [];
+  definitions = definition 0 prompted ∷ definition 1 prompted ∷ definition 2 prompted ∷ [];
   blocks = [];
-  choices = record { block = record { 0 = 0 }; prompt = prompt; has_second_prompt = false; defaults = []; members = record { 0 = 1 } ∷ record { 0 = 2 } ∷ []; is_optional = false } ∷ [];
+  choices = record { block = record { 0 = 0 }; prompts = prompted; defaults = []; members = record { 0 = 1 } ∷ record { 0 = 2 } ∷ []; is_optional = false } ∷ [];
   comments = [];
   entries = [];
 }

@@ -1,4 +1,4 @@
--- This project's own commands `allno` and `allyes`, a symbol at a time.
+-- Steps: this project's own commands `allno` and `allyes`, a symbol at a time.
 use Rattle.std.specs.Prelude.{Some, if◌then◌else◌}
 use Rattle.kc_statement.specs.declared.id.SymId.{SymId}
 use Rattle.kc_tree.specs.declared.user_value.UserVal.TheVariants.{Tri as TriVal}

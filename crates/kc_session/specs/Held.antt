@@ -1,4 +1,4 @@
--- This project's own command stream: what the line buffer keeps of a line.
+-- Steps: this project's own command stream: what the line buffer keeps of a line.
 use Rattle.std.specs.Prelude.{ℕ, ◌+◌, nat_lt, Bool, cond, List, length, take, Option, Some, None}
 use Rattle.kc_session.specs.Stream.{line_limit, fits_line, text_if_fits}
 

@@ -1,4 +1,4 @@
--- This project's own command stream: what was read and not yet taken.
+-- Steps: this project's own command stream: what was read and not yet taken.
 use Rattle.std.specs.Prelude.{ℕ, ◌+◌, ◌-◌, ◌*◌, ◌^◌, List}
 
 -- the most reads that are made from one stream

@@ -1,4 +1,4 @@
--- This project's own: a tree with user values and what is kept, as contracts see it.
+-- Steps: this project's own: a tree with user values and what is kept, as contracts see it.
 use Rattle.std.specs.Prelude.{◌≡◌, List, Contains}
 use Rattle.kc_outline.specs.TreeValue.{TreeValue}
 use Rattle.kc_tree.specs.declared.node.Node.{Node}

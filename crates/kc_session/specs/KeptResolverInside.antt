@@ -1,4 +1,4 @@
--- This project's own: what holds of the parts of a resolver that keeps values.
+-- Steps: this project's own: what holds of the parts of a resolver that keeps values.
 use Rattle.std.specs.Prelude.{◌≡◌}
 use Rattle.kc_value.specs.Kept.{AreKept}
 use Rattle.kc_value.specs.KeptLaws.{KeptLaws}

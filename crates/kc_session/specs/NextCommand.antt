@@ -1,4 +1,4 @@
--- This project's own command stream: what the reading of one command takes from a stream and leaves in the buffers.
+-- Steps: what the reading of one command takes from a stream and leaves in the buffers. This project's own.
 use Rattle.std.specs.Prelude.{◌≡◌, ◌≤◌, ℕ, ◌==◌, ◌&&◌, Bool, true, false, List, [], ◌∷◌, ◌++◌, length, Option}
 use Rattle.std.specs.List.{list_all}
 use Rattle.std.specs.Io.KnownBytes.{Consumes, IsAtEnd}

@@ -1,4 +1,4 @@
--- This project's own command stream: what the reading of one line takes from a stream and leaves in the line buffer.
+-- Steps: what the reading of one line takes from a stream and leaves in the line buffer. This project's own.
 use Rattle.std.specs.Prelude.{◌≡◌, ℕ, Bool, true, false, List, [], ◌∷◌, ◌++◌, Option}
 use Rattle.std.specs.Io.KnownBytes.{Consumes, IsAtEnd}
 use Rattle.kc_session.specs.declared.next_line.LineRead.{LineRead}

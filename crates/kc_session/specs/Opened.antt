@@ -5,8 +5,7 @@ use Rattle.kc_text.specs.FileList.{File}
 use Rattle.kc_text.specs.Expansion.{texts_in}
 use Rattle.kc_text.specs.Reading.{logical_lines_of}
 use Rattle.kc_tree.specs.declared.fault.TreeFault.{TreeFault}
-use Rattle.kc_tree.specs.declared.fault.TreeFault.TheVariants.{Line, Symbol, Choice, Loop, NoMemory as NoTreeMemory}
-use Rattle.kc_tree.specs.Parsed.{IsTreeOf, IsFaultOf}
+use Rattle.kc_tree.specs.Parsed.{IsTreeOf, IsFaultOf, IsOfLines, AreOneFault, IsFirstFault}
 use Rattle.kc_session.specs.declared.opening.OpenFault.{OpenFault}
 use Rattle.kc_session.specs.declared.opening.OpenFault.TheVariants.{Text, Tree, Limit, NoMemory}
 use Rattle.kc_outline.specs.TreeValue.{TreeValue}
@@ -30,20 +29,12 @@ pub record IsOpened (files vars : List File) (top prefix config : List ℕ) (s :
   pub session : s ≡ record { tree = s.tree; user = user_of_config s.tree prefix config; prefix = prefix }
   pub fits : fits_body config ≡ true
 
--- the fault has a number: it is not out of memory
-abbrev pub IsNumbered : TreeFault → Type 0
-IsNumbered (Line problem path number) = Unit {0}
-IsNumbered (Symbol problem name) = Unit {0}
-IsNumbered (Choice problem path number) = Unit {0}
-IsNumbered (Loop nodes) = Unit {0}
-IsNumbered NoTreeMemory = ⊥
-
 -- the first fault of the lines
 pub record HasTreeFault (files vars : List File) (top : List ℕ) (fault : TreeFault) : Type 0 where
   pub lines : List LineValue
   pub lines_are : logical_lines_of files (texts_in vars) top ≡ Ok lines
   pub fault_is : IsFaultOf lines fault
-  pub numbered : IsNumbered fault
+  pub of_lines : IsOfLines fault
 
 -- the first fault of the texts
 abbrev pub IsTextFaultOf : List File → List File → List ℕ → OpenFault → Type 0
@@ -55,7 +46,7 @@ IsTextFaultOf files vars top NoMemory = Unit {0}
 -- what stops the lines from having a tree
 abbrev pub IsTreeFaultOf : List LineValue → OpenFault → Type 0
 IsTreeFaultOf lines (Text fault) = ⊥
-IsTreeFaultOf lines (Tree fault) = IsFaultOf lines fault × IsNumbered fault
+IsTreeFaultOf lines (Tree fault) = IsFaultOf lines fault × IsOfLines fault
 IsTreeFaultOf lines Limit = ⊥
 IsTreeFaultOf lines NoMemory = Unit {0}
 
@@ -80,3 +71,36 @@ IsOpenFault files vars top config (Text fault) = logical_lines_of files (texts_i
 IsOpenFault files vars top config (Tree fault) = HasTreeFault files vars top fault
 IsOpenFault files vars top config Limit = HasLongConfig files vars top config
 IsOpenFault files vars top config NoMemory = Unit {0}
+
+-- ---- there is one answer for texts, variables and a `.config`
+-- the first fault that stops the lines from having a tree is the only one; out of memory says nothing
+abbrev pub IsOnlyTreeFault : List LineValue → OpenFault → Type 0
+IsOnlyTreeFault lines (Tree fault) = IsFirstFault lines fault
+IsOnlyTreeFault lines fault = Unit {0}
+
+-- the fault says something of the texts: it is not out of memory
+abbrev pub IsOfTexts : OpenFault → Type 0
+IsOfTexts (Text fault) = Unit {0}
+IsOfTexts (Tree fault) = Unit {0}
+IsOfTexts Limit = Unit {0}
+IsOfTexts NoMemory = ⊥
+
+-- two faults are the same; of several loops any may be the one that is reported
+abbrev pub AreOneOpenFault : OpenFault → OpenFault → Type 0
+AreOneOpenFault (Tree f) (Tree g) = AreOneFault f g
+AreOneOpenFault f g = f ≡ g
+
+-- the texts give this session, no other, and no fault
+pub record IsOnlySession (files vars : List File) (top prefix config : List ℕ) (s : SessionValue) : Type 0 where
+  pub one : (other : SessionValue) → IsOpened files vars top prefix config other → other ≡ s
+  pub faultless : (f : OpenFault) → IsOfTexts f → IsOpenFault files vars top config f → ⊥
+
+-- the texts have this first fault, no other, and give no session
+pub record IsOnlyOpenFault (files vars : List File) (top prefix config : List ℕ) (f : OpenFault) : Type 0 where
+  pub one : (g : OpenFault) → IsOfTexts g → IsOpenFault files vars top config g → AreOneOpenFault g f
+  pub sessionless : (s : SessionValue) → IsOpened files vars top prefix config s → ⊥
+
+-- what is said where texts give no session: out of memory says nothing
+abbrev pub IsFirstOpenFault : List File → List File → List ℕ → List ℕ → List ℕ → OpenFault → Type 0
+IsFirstOpenFault files vars top prefix config NoMemory = Unit {0}
+IsFirstOpenFault files vars top prefix config fault = IsOnlyOpenFault files vars top prefix config fault

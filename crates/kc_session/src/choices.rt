@@ -13,7 +13,7 @@ ghost use Rattle.kc_session.specs.ChoiceLine.{choice_line_of, choices_text_of, m
 use crate::kept::kept_value;
 use kc_files::push_quoted;
 use kc_tree::{ChoiceId, Node, SymId, Tree};
-use kc_value::{NodeValues, User, tri_letter};
+use kc_value::{NodeValues, User};
 use std::alloc::{AllocError, Global};
 
 /// The prompt of a choice, empty where it has none.
@@ -71,7 +71,7 @@ fn choice_line(
     let selected = kept_value(tree, values, Node::Sel(choice)).as_member();
     let mut text = line_start(alloc, tree, choice)?;
     text.push_str(" mode=")?;
-    text.push_str(tri_letter(mode))?;
+    text.push_str(mode.letter())?;
     text.push_str(" sel=")?;
     text.push_str(member_name(tree, selected))?;
     text.push_str(" user=")?;

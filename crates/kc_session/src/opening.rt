@@ -1,8 +1,9 @@
 //! From the texts of a Kconfig to a session.
-ghost use Rattle.std.specs.Prelude.{◌≡◌, ℕ, List, All, IfOk, IfErr, OnOk, Ok, Err, true};
+ghost use Rattle.std.specs.Prelude.{◌≡◌, ◌≤◌, ℕ, List, length, All, IfOk, IfErr, OnOk, Ok, Err, true};
+ghost use Rattle.kc_text.specs.declared.reading.TheConstants.{MOST_LINES};
 ghost use Rattle.kc_text.specs.Expansion.{texts_in};
 ghost use Rattle.kc_text.specs.Reading.{logical_lines_of};
-ghost use Rattle.kc_tree.specs.Parsed.{IsTreeOf, IsFaultOf};
+ghost use Rattle.kc_tree.specs.Parsed.{IsTreeOf, IsFaultOf, IsOnlyTree};
 ghost use Rattle.kc_value.specs.Solution.{solution, IsOnlySolution};
 ghost use Rattle.kc_value.specs.Kept.{nothing_kept};
 ghost use Rattle.kc_value.specs.UserValues.{UserValues, IsUserFor};
@@ -11,7 +12,7 @@ ghost use Rattle.kc_files.specs.LineReading.{IsAssignFor, IsUnfed};
 ghost use Rattle.kc_files.specs.OneReading.{assigns_in, warnings_in, IsReadAs};
 ghost use Rattle.kc_session.specs.Bodies.{fits_body};
 ghost use Rattle.kc_session.specs.Keeping.{KeepsRight};
-ghost use Rattle.kc_session.specs.Opened.{IsOpened, IsOpenFault, IsTextFaultOf, IsTreeFaultOf, IsConfigFault, user_of_config};
+ghost use Rattle.kc_session.specs.Opened.{IsOpened, IsOpenFault, IsTextFaultOf, IsTreeFaultOf, IsConfigFault, IsOnlySession, IsOnlyTreeFault, IsFirstOpenFault, user_of_config};
 
 use crate::command::Refusal;
 use crate::kept_resolver::KeptResolver;
@@ -45,6 +46,7 @@ fn read_lines<'a>(
     vars: &'a Vars,
     top: &str,
 ) -> Result<Vec<Line<'a>>, OpenFault>
+    ensures few { IfOk result (λ lines. length lines.items ≤ MOST_LINES) }
     ensures lines { IfOk result (λ lines. logical_lines_of sources.now (texts_in vars.now) top.now ≡ Ok lines.items) }
     ensures fault { IfErr result (IsTextFaultOf sources.now vars.now top.now) }
 {
@@ -57,8 +59,11 @@ fn read_lines<'a>(
 
 /// The tree of logical lines, whose names are kept under the hash of a seed.
 fn read_tree(alloc: Global, seed: Seed, lines: &[Line<'_>]) -> Result<Tree, OpenFault>
+    requires { length lines.now ≤ MOST_LINES }
     ensures tree { IfOk result (IsTreeOf lines.now) }
+    ensures only { IfOk result (IsOnlyTree lines.now) }
     ensures fault { IfErr result (IsTreeFaultOf lines.now) }
+    ensures first { IfErr result (IsOnlyTreeFault lines.now) }
 {
     match Tree::parse_seeded(alloc, seed, lines) {
         Ok(tree) => Ok(tree),
@@ -137,18 +142,20 @@ pub fn open(
     ensures nothing_kept { IfOk result (λ r. r.0.kept ≡ nothing_kept r.0.session.tree) }
     ensures right { IfOk result (λ r. KeepsRight r.0) }
     ensures solved { IfOk result (λ r. (u : UserValues) → IsOnlySolution r.0.session.tree u (solution r.0.session.tree u)) }
+    ensures only { IfOk result (λ r. IsOnlySession sources.now vars.now top.now prefix.now config.now r.0.session) }
     ensures fault { IfErr result (IsOpenFault sources.now vars.now top.now config.now) }
+    ensures first { IfErr result (IsFirstOpenFault sources.now vars.now top.now prefix.now config.now) }
 {
     open_seeded(alloc, Seed::fixed(), sources, vars, top, prefix, config)
 }
 
-/// The same for texts of strangers: the names of symbols are kept under the hash of a seed, so that they can't be chosen
+/// The same for untrusted texts: the names of symbols are kept under the hash of a seed, so that they can't be chosen
 /// to be slow to find. The session or the fault is that of `open`.
 ///
 /// # Errors
 ///
 /// Those of `open`.
-#[tactic(auto, using(crate::proofs::OpenLaws::text_fault, crate::proofs::OpenLaws::tree_fault, crate::proofs::OpenLaws::config_fault))]
+#[tactic(auto, using(crate::proofs::OpenLaws::text_fault, crate::proofs::OpenLaws::tree_fault, crate::proofs::OpenLaws::config_fault, crate::proofs::OneOpening::first_text_fault, crate::proofs::OneOpening::first_tree_fault, crate::proofs::OneOpening::first_config_fault, crate::proofs::OneOpening::only_session))]
 pub fn open_seeded(
     alloc: Global,
     seed: Seed,
@@ -165,7 +172,9 @@ pub fn open_seeded(
     ensures nothing_kept { IfOk result (λ r. r.0.kept ≡ nothing_kept r.0.session.tree) }
     ensures right { IfOk result (λ r. KeepsRight r.0) }
     ensures solved { IfOk result (λ r. (u : UserValues) → IsOnlySolution r.0.session.tree u (solution r.0.session.tree u)) }
+    ensures only { IfOk result (λ r. IsOnlySession sources.now vars.now top.now prefix.now config.now r.0.session) }
     ensures fault { IfErr result (IsOpenFault sources.now vars.now top.now config.now) }
+    ensures first { IfErr result (IsFirstOpenFault sources.now vars.now top.now prefix.now config.now) }
 {
     let arena = Bump::new(alloc);
     let lines = read_lines(alloc, &arena, sources, vars, top)?;

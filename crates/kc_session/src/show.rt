@@ -17,7 +17,7 @@ use crate::kept::kept_value;
 use crate::values::{choice_of, type_of};
 use kc_files::push_text_in;
 use kc_tree::{Node, SymId, SymbolType, Tree, Tri, UserVal};
-use kc_value::{NodeValues, SharedConditions, User, Value, assignable_among, tri_letter};
+use kc_value::{NodeValues, SharedConditions, User, Value, assignable_among};
 use std::alloc::{AllocError, Global};
 
 /// The line of `show` about a symbol whose value is kept. What it is computed from, as its visibility, is kept with it.
@@ -100,7 +100,7 @@ fn given_text(
 {
     match value {
         None => String::from_str(alloc, "-"),
-        Some(UserVal::Tri(tri)) => String::from_str(alloc, tri_letter(*tri)),
+        Some(UserVal::Tri(tri)) => String::from_str(alloc, tri.letter()),
         Some(UserVal::Text(text)) => {
             let mut given = String::new(alloc);
             push_text_in(&mut given, kind, text.as_str())?;
@@ -132,7 +132,7 @@ fn push_rest(
         ++ codes " can=" ++ values_text values.now ++ codes " user=" ++ user.now ++ codes "\n") }
 {
     text.push_str(" vis=")?;
-    text.push_str(tri_letter(visibility))?;
+    text.push_str(visibility.letter())?;
     text.push_str(" can=")?;
     push_values(text, values)?;
     text.push_str(" user=")?;
@@ -191,10 +191,10 @@ fn push_values(text: &mut String, values: &[Tri]) -> Result<(), AllocError>
     let Some((first, rest)) = values.split_first() else {
         return text.push_str("-");
     };
-    text.push_str(tri_letter(*first))?;
+    text.push_str(first.letter())?;
     for value in rest {
         text.push_str(",")?;
-        text.push_str(tri_letter(*value))?;
+        text.push_str(value.letter())?;
     }
     Ok(())
 }

@@ -2,7 +2,7 @@
 ghost use Rattle.std.specs.Prelude.{◌≡◌, IfOk, OnErr, IsTrue, is_some, not};
 ghost use Rattle.kc_tree.specs.declared.node.Node.TheVariants.{Vis};
 ghost use Rattle.kc_tree.specs.Nodes.{IsNodeOf};
-ghost use Rattle.kc_tree.specs.SymbolFaults.{is_tri_type};
+ghost use Rattle.kc_statement.specs.SymbolTypes.{is_tri_type};
 ghost use Rattle.kc_outline.specs.TreeValue.{choice_of};
 ghost use Rattle.kc_files.specs.ConfigText.{type_of};
 ghost use Rattle.kc_session.specs.Values.{bool_of, tristate_of, value_of};

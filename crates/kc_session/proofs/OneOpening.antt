@@ -1,0 +1,125 @@
+-- Texts, variables and a `.config` give one session or one first fault.
+use Rattle.std.proofs.Common.{◌≡◌, ℕ, List, Ok, Err, true, false, refl, sym, ap, subst, ◌∙◌}
+use Rattle.kc_text.specs.LineValue.{LineValue}
+use Rattle.kc_text.specs.FileList.{File}
+use Rattle.kc_text.specs.Expansion.{texts_in}
+use Rattle.kc_text.specs.Reading.{logical_lines_of}
+use Rattle.kc_text.specs.declared.fault.TextFault.{TextFault}
+use Rattle.kc_tree.specs.declared.fault.TreeFault.{TreeFault}
+use Rattle.kc_tree.specs.declared.fault.TreeFault.TheVariants as tree_fault
+use Rattle.kc_tree.specs.Parsed.{IsTreeOf, IsFaultOf, IsOfLines, AreOneFault, IsOnlyTree, IsOnlyFault, IsFirstFault}
+use Rattle.kc_outline.specs.TreeValue.{TreeValue}
+use Rattle.kc_session.specs.declared.opening.OpenFault.{OpenFault}
+use Rattle.kc_session.specs.declared.opening.OpenFault.TheVariants.{Text, Tree, Limit, NoMemory}
+use Rattle.kc_session.specs.Bodies.{fits_body}
+use Rattle.kc_session.specs.Session.{SessionValue}
+use Rattle.kc_session.specs.Opened.{user_of_config, IsOpened, IsTextFaultOf, IsTreeFaultOf, IsConfigFault, IsOpenFault, IsOfTexts, AreOneOpenFault, IsOnlySession, IsOnlyOpenFault, IsOnlyTreeFault, IsFirstOpenFault}
+
+module _ (files vars : List File) (top prefix config : List ℕ) where
+  -- ---- a fault of the texts
+  not_both : (lines : List LineValue) (fault : TextFault) → logical_lines_of files (texts_in vars) top ≡ Ok lines → logical_lines_of files (texts_in vars) top ≡ Err fault → ⊥
+  not_both lines fault are is =
+      let both : Ok lines ≡ Err fault = sym are ∙ is in
+      cc
+
+  same_text_fault : (fault other : TextFault) → logical_lines_of files (texts_in vars) top ≡ Err fault → logical_lines_of files (texts_in vars) top ≡ Err other → Text other ≡ Text fault
+  same_text_fault fault other is also =
+      let both : Err other ≡ Err fault = sym also ∙ is in
+      let same : other ≡ fault = cc in
+      ap Text same
+
+  one_text_fault : (fault : TextFault) → logical_lines_of files (texts_in vars) top ≡ Err fault → (g : OpenFault) → IsOfTexts g → IsOpenFault files vars top config g → AreOneOpenFault g (Text fault)
+  one_text_fault fault is (Text other) real h = same_text_fault fault other is h
+  one_text_fault fault is (Tree other) real h = absurd (not_both h.lines fault h.lines_are is)
+  one_text_fault fault is Limit real h = absurd (not_both h.lines fault h.lines_are is)
+  one_text_fault fault is NoMemory real h = absurd real
+
+  only_text_fault : (fault : TextFault) → logical_lines_of files (texts_in vars) top ≡ Err fault → IsOnlyOpenFault files vars top prefix config (Text fault)
+  only_text_fault fault is = record {
+    one = one_text_fault fault is;
+    sessionless = λ s h. not_both h.lines fault h.lines_are is;
+  }
+
+  pub first_text_fault : (fault : OpenFault) → IsTextFaultOf files vars top fault → IsFirstOpenFault files vars top prefix config fault
+  first_text_fault (Text fault) h = only_text_fault fault h
+  first_text_fault (Tree fault) h = absurd h
+  first_text_fault Limit h = absurd h
+  first_text_fault NoMemory h = tt
+
+  module _ (lines : List LineValue) (are : logical_lines_of files (texts_in vars) top ≡ Ok lines) where
+    same_lines : (others : List LineValue) → logical_lines_of files (texts_in vars) top ≡ Ok others → others ≡ lines
+    same_lines others also =
+        let both : Ok others ≡ Ok lines = sym also ∙ are in
+        cc
+
+    tree_of_lines : (others : List LineValue) (t : TreeValue) → logical_lines_of files (texts_in vars) top ≡ Ok others → IsTreeOf others t → IsTreeOf lines t
+    tree_of_lines others t also h = subst (λ (ls : List LineValue). IsTreeOf ls t) (same_lines others also) h
+
+    fault_of_lines : (others : List LineValue) (f : TreeFault) → logical_lines_of files (texts_in vars) top ≡ Ok others → IsFaultOf others f → IsFaultOf lines f
+    fault_of_lines others f also h = subst (λ (ls : List LineValue). IsFaultOf ls f) (same_lines others also) h
+
+    -- ---- a fault of the lines
+    one_tree_fault : (fault : TreeFault) → IsOnlyFault lines fault → (g : OpenFault) → IsOfTexts g → IsOpenFault files vars top config g → AreOneOpenFault g (Tree fault)
+    one_tree_fault fault only (Text other) real h = absurd (not_both lines other are h)
+    one_tree_fault fault only (Tree other) real h = only.one other h.of_lines (fault_of_lines h.lines other h.lines_are h.fault_is)
+    one_tree_fault fault only Limit real h = absurd (only.treeless h.tree (tree_of_lines h.lines h.tree h.lines_are h.tree_is))
+    one_tree_fault fault only NoMemory real h = absurd real
+
+    only_tree_fault : (fault : TreeFault) → IsOnlyFault lines fault → IsOnlyOpenFault files vars top prefix config (Tree fault)
+    only_tree_fault fault only = record {
+      one = one_tree_fault fault only;
+      sessionless = λ s h. only.treeless s.tree (tree_of_lines h.lines s.tree h.lines_are h.tree);
+    }
+
+    of_lines : (f : TreeFault) → IsOfLines f → IsFirstFault lines f → IsOnlyFault lines f
+    of_lines (tree_fault.Line p path number) real h = h
+    of_lines (tree_fault.Symbol p name) real h = h
+    of_lines (tree_fault.Choice p path number) real h = h
+    of_lines (tree_fault.Loop nodes) real h = h
+    of_lines tree_fault.NoMemory real h = absurd real
+
+    pub first_tree_fault : (fault : OpenFault) → IsTreeFaultOf lines fault → IsOnlyTreeFault lines fault → IsFirstOpenFault files vars top prefix config fault
+    first_tree_fault (Text fault) h only = absurd h
+    first_tree_fault (Tree fault) h only = only_tree_fault fault (of_lines fault h.1 only)
+    first_tree_fault Limit h only = absurd h
+    first_tree_fault NoMemory h only = tt
+
+    -- ---- a tree
+    module _ (t : TreeValue) (only : IsOnlyTree lines t) where
+      too_long : fits_body config ≡ false → fits_body config ≡ true → ⊥
+      too_long is fits =
+          let both : false ≡ true = sym is ∙ fits in
+          cc
+
+      one_limit : fits_body config ≡ false → (g : OpenFault) → IsOfTexts g → IsOpenFault files vars top config g → AreOneOpenFault g Limit
+      one_limit is (Text other) real h = absurd (not_both lines other are h)
+      one_limit is (Tree other) real h = absurd (only.faultless other h.of_lines (fault_of_lines h.lines other h.lines_are h.fault_is))
+      one_limit is Limit real h = refl
+      one_limit is NoMemory real h = absurd real
+
+      only_limit : fits_body config ≡ false → IsOnlyOpenFault files vars top prefix config Limit
+      only_limit is = record {
+        one = one_limit is;
+        sessionless = λ s h. too_long is h.fits;
+      }
+
+      pub first_config_fault : (fault : OpenFault) → IsConfigFault config fault → IsFirstOpenFault files vars top prefix config fault
+      first_config_fault (Text fault) h = absurd h
+      first_config_fault (Tree fault) h = absurd h
+      first_config_fault Limit h = only_limit h
+      first_config_fault NoMemory h = tt
+
+      abbrev session_of : TreeValue → SessionValue
+      session_of s = record { tree = s; user = user_of_config s prefix config; prefix = prefix }
+
+      no_open_fault : fits_body config ≡ true → (f : OpenFault) → IsOfTexts f → IsOpenFault files vars top config f → ⊥
+      no_open_fault fits (Text fault) real h = not_both lines fault are h
+      no_open_fault fits (Tree fault) real h = only.faultless fault h.of_lines (fault_of_lines h.lines fault h.lines_are h.fault_is)
+      no_open_fault fits Limit real h = too_long h.is_long fits
+      no_open_fault fits NoMemory real h = real
+
+      pub only_session : fits_body config ≡ true → (s : SessionValue) → s ≡ session_of t → IsOnlySession files vars top prefix config s
+      only_session fits s is = record {
+        one = λ other h. h.session ∙ ap session_of (only.one other.tree (tree_of_lines h.lines other.tree h.lines_are h.tree)) ∙ sym is;
+        faultless = no_open_fault fits;
+      }
