@@ -1,4 +1,4 @@
--- The first words of the lines that show a fault of each kind: this project's own.
+-- Steps: the first words of the lines that show a fault of each kind: this project's own.
 use Rattle.std.specs.Prelude.{Bool}
 use Rattle.kc_statement.specs.declared.keyword.Keyword.{Keyword}
 use Rattle.kc_explain.specs.declared.shown.Fault.{Fault}

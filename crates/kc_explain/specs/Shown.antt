@@ -2,10 +2,10 @@
 use Rattle.std.specs.Prelude.{Bool, true, false, ◌||◌}
 use Rattle.kc_statement.specs.declared.keyword.Keyword.{Keyword}
 use Rattle.kc_statement.specs.declared.keyword.Keyword.TheVariants as keyword
-use Rattle.kc_tree.specs.declared.fault.SymbolProblem.{SymbolProblem}
-use Rattle.kc_tree.specs.declared.fault.SymbolProblem.TheVariants.{NoType, TypeConflict, SecondPrompt as SymbolPrompts, UnfitDefault, UnfitSelect, BadModules}
-use Rattle.kc_tree.specs.declared.fault.ChoiceProblem.{ChoiceProblem}
-use Rattle.kc_tree.specs.declared.fault.ChoiceProblem.TheVariants.{NoPrompt, SecondPrompt as ChoicePrompts, ForeignDefault, MemberType, MemberWithoutPrompt, MemberDefinedAgain}
+use Rattle.kc_tree.specs.declared.problem.SymbolProblem.{SymbolProblem}
+use Rattle.kc_tree.specs.declared.problem.SymbolProblem.TheVariants.{NoType, TypeConflict, SecondPrompt as SymbolPrompts, UnfitDefault, UnfitSelect, BadModules}
+use Rattle.kc_tree.specs.declared.problem.ChoiceProblem.{ChoiceProblem}
+use Rattle.kc_tree.specs.declared.problem.ChoiceProblem.TheVariants.{NoPrompt, SecondPrompt as ChoicePrompts, ForeignDefault, MemberType, MemberWithoutPrompt, MemberDefinedAgain}
 
 -- the line gives its symbol a type
 abbrev pub is_type_word : Keyword → Bool

@@ -15,6 +15,7 @@ use crate::unknown::explain_unknown;
 use crate::unsupported::explain_unsupported;
 use kc_outline::LineProblem;
 use kc_text::Line;
+use kc_tree::Problem;
 use std::alloc::{AllocError, Global};
 
 /// What is said of the fault of the line of a number in a file, by the lines of its Kconfig and the text of that file.
@@ -44,7 +45,8 @@ pub fn explain_line(
         }
         context.pass(line)?;
     }
-    Explanation::of_words(alloc, fault_meaning(problem.number()).unwrap_or(""))
+    let number = Problem::Line(problem).number();
+    Explanation::of_words(alloc, fault_meaning(number).unwrap_or(""))
 }
 
 /// What is said of the fault of a line, if it is at fault in this place.

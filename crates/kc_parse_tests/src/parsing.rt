@@ -1,4 +1,8 @@
 //! Trees of whole texts, and the faults of texts that have none.
+
+ghost use Rattle.std.specs.Prelude.{◌≤◌, length};
+ghost use Rattle.kc_text.specs.declared.reading.TheConstants.{MOST_LINES};
+
 use crate::tree_showing::node_word;
 use bumpalo::Bump;
 use kc_text::{Line, Sources, Vars, logical_lines};
@@ -40,7 +44,8 @@ fn shown_of_lines<F: FnOnce(Global, &Tree) -> Result<String, AllocError>>(
     lines: &[Line<'_>],
     show: F,
 ) -> Result<String, AllocError>
-    requires { F.IsAlwaysCallable show }
+    requires show { F.IsAlwaysCallable show }
+    requires few { length lines.now ≤ MOST_LINES }
 {
     match Tree::parse(alloc, lines) {
         Ok(tree) => show(alloc, &tree),
@@ -49,7 +54,9 @@ fn shown_of_lines<F: FnOnce(Global, &Tree) -> Result<String, AllocError>>(
 }
 
 /// The lines of a part.
-fn lines_of_part<'a, 'b>(lines: &'a [Line<'b>], part: Part) -> &'a [Line<'b>] {
+fn lines_of_part<'a, 'b>(lines: &'a [Line<'b>], part: Part) -> &'a [Line<'b>]
+    ensures { length result.now ≤ length lines.now }
+{
     let count = match part {
         Part::Whole => lines.len(),
         Part::Cut => lines.len().saturating_sub(1),

@@ -1,5 +1,6 @@
 //! Expressions, definitions and nodes as short texts.
-use kc_tree::{Comparison, Expr, Node, SymbolType, Term, Tri};
+use kc_statement::{Comparison, Expr, ExprNode, SymbolType, Term, Tri};
+use kc_tree::Node;
 use std::alloc::{AllocError, Global};
 
 fn sign_of(comparison: Comparison) -> &'static str {
@@ -34,35 +35,35 @@ pub(crate) fn show_term(alloc: Global, out: &mut String, term: &Term) -> Result<
 /// An expression as `#0`, `A<=#1`, `!A`, `(A)`, `[all A B]` and `[any A B]`; a bare m as `bare m`.
 #[cycle(show)]
 pub(crate) fn show_expr(alloc: Global, out: &mut String, expr: &Expr) -> Result<(), AllocError> {
-    match expr {
-        Expr::Term(term) => show_term(alloc, out, term),
-        Expr::BareModule(term) => {
+    match expr.node() {
+        ExprNode::Term(term) => show_term(alloc, out, term),
+        ExprNode::BareModule(term) => {
             out.push_str("bare ")?;
             show_term(alloc, out, term)
         }
-        Expr::Compare(comparison, operands) => {
+        ExprNode::Compare(comparison, operands) => {
             show_term(alloc, out, &operands.left)?;
             out.push_str(sign_of(*comparison))?;
             show_term(alloc, out, &operands.right)
         }
-        Expr::Not(run, inner) => {
-            for _i in 0..run.count {
+        ExprNode::Not(count, inner) => {
+            for _i in 0..*count {
                 out.push_str("!")?;
             }
             show_expr(alloc, out, inner)
         }
-        Expr::Group(inner) => {
+        ExprNode::Group(inner) => {
             out.push_str("(")?;
             show_expr(alloc, out, inner)?;
             out.push_str(")")
         }
-        Expr::All(exprs) => {
+        ExprNode::All(exprs) => {
             out.push_str("[all")?;
-            show_list(alloc, out, exprs)
+            show_list(alloc, out, exprs.as_slice())
         }
-        Expr::Any(exprs) => {
+        ExprNode::Any(exprs) => {
             out.push_str("[any")?;
-            show_list(alloc, out, exprs)
+            show_list(alloc, out, exprs.as_slice())
         }
     }
 }

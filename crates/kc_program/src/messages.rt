@@ -202,13 +202,8 @@ fn write_tree_fault<E: Write>(
 fn number_of(fault: &TreeFault) -> Option<u8>
     ensures { result ≡ fault_number fault.now }
 {
-    match fault {
-        TreeFault::Line { problem, .. } => Some(problem.number()),
-        TreeFault::Symbol { problem, .. } => Some(problem.number()),
-        TreeFault::Choice { problem, .. } => Some(problem.number()),
-        TreeFault::Loop(_) => Some(19),
-        TreeFault::NoMemory => None,
-    }
+    let problem = fault.problem()?;
+    Some(problem.number())
 }
 
 /// Ends a line, with the words that explain it, if there are some.

@@ -3,7 +3,7 @@
 use kc_files::{Assign, Warning};
 use kc_text::{Line, LineKind, Operator, Token};
 use kc_tree::{Node, Tree, UserVal};
-use kc_value::{User, tri_letter};
+use kc_value::User;
 use std::alloc::{AllocError, Global};
 
 /// How an operator is written.
@@ -71,7 +71,7 @@ fn push_value(
     value: &UserVal,
 ) -> Result<(), AllocError> {
     let value = match value {
-        UserVal::Tri(tri) => tri_letter(*tri),
+        UserVal::Tri(tri) => tri.letter(),
         UserVal::Text(text) => text.as_str(),
     };
     out.push_str(format!(in alloc; "{name}={value}\n")?.as_str())

@@ -12,7 +12,7 @@ use crate::texts::{
 use bumpalo::Bump;
 use kc_files::{Load, Prefix, apply, config_text, read_config};
 use kc_session::Session;
-use kc_text::{Line, logical_lines};
+use kc_text::{Line, MOST_LINES, logical_lines};
 use kc_tree::{NamedNode, Tree, TreeFault};
 use kc_value::{Fresh, User};
 use std::alloc::Global;
@@ -30,8 +30,12 @@ fn parse_top(texts: &Texts, top: &str, wanted: &str) -> Result<Call, Stop> {
     made(|_time| parse(texts, lines.as_slice(), wanted))
 }
 
-/// Parses lines, and wants the tree of this `.config` or the loop of these names.
+/// Parses lines, and wants the tree of this `.config` or the loop of these names. `logical_lines` gives no more lines
+/// than the limit.
 fn parse(texts: &Texts, lines: &[Line<'_>], wanted: &str) -> Result<(), Stop> {
+    if lines.len() > MOST_LINES {
+        return want(false, Wrong::Tree);
+    }
     match Tree::parse(texts.alloc, lines) {
         Ok(tree) => own(want_tree(texts, &tree, wanted)),
         Err(fault) => want_loop(&fault, wanted),

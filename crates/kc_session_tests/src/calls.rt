@@ -10,7 +10,7 @@ use kc_session::Session;
 use kc_tree::{ChoiceId, Node, SymId, Tree, Tri};
 use kc_value::{
     Fresh, KeptValues, Meter, NodeValues, Resolver, User, Value, all_values, assignable, eval, tri,
-    tri_letter, without_user,
+    without_user,
 };
 use std::alloc::Global;
 use std::test::Fail;
@@ -47,7 +47,7 @@ fn show_values(alloc: Global, values: &[Tri]) -> Result<String, Fail> {
         if !out.is_empty() {
             out.push_str(",")?;
         }
-        out.push_str(tri_letter(*value))?;
+        out.push_str(value.letter())?;
     }
     Ok(out)
 }
@@ -210,8 +210,8 @@ fn condition<R: Resolver>(alloc: Global, resolver: &mut R) -> Result<String, Fai
     let values = all_values(alloc, resolver)?;
     let tree = resolver.tree();
     let inside = tree.find("INSIDE").ok_or("no symbol INSIDE")?;
-    let condition = tri_letter(first_condition(tree, &values)?);
-    let visibility = tri_letter(values.tri(tree.number(Node::Vis(inside))));
+    let condition = first_condition(tree, &values)?.letter();
+    let visibility = values.tri(tree.number(Node::Vis(inside))).letter();
     Ok(format!(in alloc; "{condition} {visibility}")?)
 }
 

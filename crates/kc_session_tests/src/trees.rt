@@ -1,4 +1,7 @@
 //! Trees of Kconfigs, for calls that take a tree in place of a session.
+ghost use Rattle.std.specs.Prelude.{◌≤◌, length};
+ghost use Rattle.kc_text.specs.declared.reading.TheConstants.{MOST_LINES};
+
 use bumpalo::Bump;
 use kc_text::{Line, Sources, Vars, logical_lines};
 use kc_tree::Tree;
@@ -11,7 +14,8 @@ fn shown_of_lines<F: FnOnce(Global, &Tree) -> Result<String, Fail>>(
     lines: &[Line<'_>],
     show: F,
 ) -> Result<String, Fail>
-    requires { F.IsAlwaysCallable show }
+    requires show { F.IsAlwaysCallable show }
+    requires few { length lines.now ≤ MOST_LINES }
 {
     match Tree::parse(alloc, lines) {
         Ok(tree) => show(alloc, &tree),

@@ -2,7 +2,7 @@
 use crate::table::{rows, three_fields};
 use crate::trees::shown;
 use kc_tree::{Node, Tree};
-use kc_value::{Fresh, KeptValues, NodeValues, Resolver, User, eval, tri_letter};
+use kc_value::{Fresh, KeptValues, NodeValues, Resolver, User, eval};
 use std::alloc::Global;
 use std::test::Fail;
 
@@ -12,7 +12,7 @@ fn show_resolved(alloc: Global, tree: &Tree) -> Result<String, Fail> {
     let user = User::empty(alloc, tree)?;
     let mut resolver = Fresh::new(alloc, tree, &user);
     let value = resolver.node(Node::Val(symbol))?;
-    Ok(String::from_str(alloc, tri_letter(value.as_tri()))?)
+    Ok(String::from_str(alloc, value.as_tri().letter())?)
 }
 
 /// Texts of S with a default of R that compares something, and the value of R. The first text counts as a number, the
