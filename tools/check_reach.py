@@ -5,9 +5,10 @@
 
 The gate runs it, by tools/check_all.sh. A definition of specs/ is reached where a public contract names it, or a
 definition that is reached does. The others say how the code goes, for proofs alone: who relies on an answer of kconf
-need not read them. The table of docs/PROOFS.md has the files in which nothing is reached. A line is written for each
-file that it lacks or has wrongly, and the status is 1 where there is one. With --each the definitions of other files
-that are not reached are written, too, which is no mistake.
+need not read them. The table of docs/PROOFS.md has the files in which nothing is reached, and the first line of each
+begins with `-- Steps: `, as that of no other file does. A line is written for each file of which this is not true, and
+the status is 1 where there is one. With --each the definitions of other files that are not reached are written, too,
+which is no mistake.
 
 A public contract is what users of a crate see: the clauses of the functions that src/lib.rt exports, and those of the
 methods and traits, the fields and the `ghost` items of the types that it exports. Of kc_program, which nothing calls
@@ -19,7 +20,7 @@ import re
 import sys
 from dataclasses import dataclass, field
 from pathlib import Path
-from typing import Dict, Iterator, List, Set, Tuple
+from typing import Dict, Iterable, Iterator, List, Set, Tuple
 
 from check_rules import CRATES, DOCS, cells_of, text_of
 
@@ -28,6 +29,9 @@ PROGRAM = "kc_program"
 
 # The heading of docs/PROOFS.md above the table.
 HEADING = "## Definitions that no public contract reaches"
+
+# How the first line of a file begins in which nothing is reached.
+STEPS = "-- Steps: "
 
 # A definition: its crate, its file without the ending, and its name.
 Definition = Tuple[str, str, str]
@@ -218,6 +222,23 @@ def listed_files(text: str) -> Set[Tuple[str, str]]:
     return {(cells[0], name) for cells in rows for name in re.findall(r"`(\w+)`", cells[1])}
 
 
+def is_of_steps(place: Tuple[str, str]) -> bool:
+    """Whether the first line of a file says that it only tells how the code goes on."""
+    crate, file = place
+    return text_of(CRATES / crate / "specs" / f"{file}.antt").startswith(STEPS)
+
+
+def misnamed(files: Iterable[Tuple[str, str]], whole: Set[Tuple[str, str]]) -> List[str]:
+    """What is wrong with the first lines of files, of which these are reached by no public contract."""
+    wrong = sorted(place for place in files if is_of_steps(place) != (place in whole))
+    return [
+        f"{crate}/specs/{file}.antt: no public contract reaches it, and its first line lacks {STEPS!r}"
+        if (crate, file) in whole
+        else f"{crate}/specs/{file}.antt: a public contract reaches it, and its first line has {STEPS!r}"
+        for crate, file in wrong
+    ]
+
+
 def main() -> int:
     files = all_definitions()
     left = unreached(files)
@@ -227,13 +248,16 @@ def main() -> int:
         print(f"docs/PROOFS.md: it lacks {crate}/specs/{file}.antt, which no public contract reaches")
     for crate, file in sorted(listed - whole):
         print(f"docs/PROOFS.md: it lists {crate}/specs/{file}.antt, which is reached or not there")
+    wrong = misnamed(files, whole)
+    for line in wrong:
+        print(line)
     if "--each" in sys.argv[1:]:
         for (crate, file), names in sorted(left.items()):
             if names and (crate, file) not in whole:
                 print(f"{crate}/specs/{file}.antt: {', '.join(names)}")
-    if whole == listed:
+    if whole == listed and not wrong:
         print(f"{len(whole)} files of {len(files)} are reached by no public contract")
-    return int(whole != listed)
+    return int(whole != listed or bool(wrong))
 
 
 if __name__ == "__main__":
