@@ -1,6 +1,6 @@
 -- Rows of nodes, where several share a list of nodes: this project's own.
--- A table has the rows of n nodes first, and shared rows after them. In the row of a node a number below n stands for
--- the node itself, and one from n on for the nodes of its shared row.
+-- A table has the rows of n nodes first, and shared rows after them. In the row of a node, a number below n is the node
+-- of that number, and one from n on means all nodes of the shared row of that number.
 use Rattle.std.specs.Prelude.{ℕ, ◌<◌, ◌≤◌, if◌then◌else◌, nat_lt, Bool, List, [], ◌∷◌, length, take, map, slice_index_or, flat_map}
 use Rattle.kc_graph.specs.Graph.{Uses}
 
@@ -8,7 +8,7 @@ use Rattle.kc_graph.specs.Graph.{Uses}
 abbrev pub is_node : ℕ → ℕ → Bool
 is_node n k = nat_lt k n
 
--- the nodes that a number stands for
+-- the nodes that a number of a row means
 abbrev pub stands_for : ℕ → List (List ℕ) → ℕ → List ℕ
 stands_for n g k = if is_node n k then k ∷ [] else slice_index_or g k []
 

@@ -42,8 +42,8 @@ fn keep_nodes(numbers: &mut Vec<u32>, nodes: usize)
 impl SharedRows {
     ghost use Rattle.kc_graph.specs.OrderFault.{IsTrueFault};
 
-    /// These are the rows of so many nodes, which are first in a table, with the shared lists after them. 32 bits count
-    /// the rows of the table.
+    /// The rows of `nodes` nodes come first in the table, and the shared lists after them. 32 bits count the rows of
+    /// the table.
     pub fn of(nodes: usize, rows: Rows) -> SharedRows
         requires shared { IsShared nodes rows }
         requires few { length rows < 2 ^ 32 }

@@ -58,7 +58,7 @@ places (l ∷ earlier) =
     if is_opener l then length earlier ∷ places earlier
     else (if is_closer l then drop 1 (places earlier) else places earlier)
 
--- the line at a place below a bound opens a block, and so many of the blocks from it on are open
+-- the line at a place below a bound opens a block, and `level` of the blocks from it on are open
 record IsOpen (ls : List LineValue) (bound level place : ℕ) : Type 0 where
   below : place < bound
   stays : StaysOpen (drop place ls)

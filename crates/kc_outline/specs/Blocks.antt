@@ -37,7 +37,7 @@ pub record AreOpenAt (lines : List LineValue) (j : ℕ) : Type 0 where
   pub opened : AllZip (IsOpenedAt lines) openers (open_blocks (before lines j))
 
 -- ---- the blocks of lines that have no problem
--- the number of the block that line i opens: so many were opened before
+-- the number of the block that line i opens: the count of blocks that the lines before it open
 abbrev pub block_number : List LineValue → ℕ → ℕ
 block_number lines i = count_by is_opener (take i lines)
 

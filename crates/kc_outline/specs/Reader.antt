@@ -13,7 +13,7 @@ use Rattle.kc_outline.specs.TreeOf.{Reading, IsReading, tree_of}
 use Rattle.kc_outline.specs.Outline.{AreMade}
 use Rattle.kc_outline.specs.TreeValue.{TreeValue}
 
--- no line has a problem, and each is read as its reading; the last come first, and so many lines follow
+-- no line has a problem, and each is read as its reading; the last come first, and `following` lines come after them
 abbrev pub AreReadingsBefore : List (List ℕ) → ℕ → List LineValue → List Reading → Type 0
 AreReadingsBefore names following [] [] = Unit {0}
 AreReadingsBefore names following [] (r ∷ rs) = ⊥

@@ -50,7 +50,7 @@ pub record IsReadingAt (lines : List LineValue) (i : ℕ) (r : Reading) : Type 0
   pub is : slice_get lines i ≡ Some line
   pub reads : IsReading (names_of lines) (before lines i) (i + 1 == length lines) line r
 
--- the first so many lines have no problem, and these are their readings in their order
+-- the first `count` lines have no problem, and these are their readings in their order
 pub record AreFirstReadings (lines : List LineValue) (count : ℕ) (rs : List Reading) : Type 0 where
   pub many : length rs ≡ count
   pub each : (i : ℕ) (r : Reading) → slice_get rs i ≡ Some r → IsReadingAt lines i r
@@ -219,7 +219,7 @@ symbol_at rs s = record {
   is_yes_in_allnoconfig = is_said (is_of_symbol s) says_yes_in_allnoconfig rs;
 }
 
--- so many symbols, by number
+-- the first `count` symbols, by number
 abbrev pub symbols_in : ℕ → List Reading → List SymbolValue
 symbols_in count rs = map (λ k. symbol_at rs (record { 0 = k })) (range_with_len 0 count)
 

@@ -52,7 +52,7 @@ fn refused(statement: Statement, stop: Stop) -> Stop
     stop
 }
 
-/// Reads a line after those that the outline and the context are of. So many lines follow it.
+/// Reads a line after those that the outline and the context come from. `following` lines come after it.
 fn read_line(
     alloc: Global,
     outline: &mut Outline,

@@ -42,7 +42,7 @@ impl Model for Outline {
     ghost view = { λ a. record { names = a.names; symbols = a.symbols.items; definitions = a.definitions.items; blocks = a.blocks.items; choices = a.choices.items; comments = a.comments.items; entries = a.entries.items } };
 }
 
-/// A symbol for each of so many names, before any line says something of it.
+/// A symbol for each of `count` names, before any line says something of it.
 #[tactic(auto, using(crate::proofs::AddingSymbols::new_symbols_more))]
 fn new_symbols(alloc: Global, count: usize) -> Result<Vec<Symbol>, AllocError>
     ensures { IfOk result (λ symbols. symbols.items ≡ symbols_in count []) }

@@ -10,7 +10,7 @@ use Rattle.kc_statement.specs.Fronts.{BeginsWithNoComparison, StopsBefore, Begin
 use Rattle.kc_statement.proofs.FrontLaws.{alone_atom, alone_bare, begins_alone, begins_compare, begins_group, begins_negations}
 use Rattle.kc_statement.proofs.JoinLaws.{Joins, factors_join, parts_join, expression_ends, part_ends, IsPartway, partway_start, partway_next, partway_end}
 
--- ---- a factor stands for a part, and a part for an expression
+-- ---- a factor is a part, and a part is an expression
 part_front : (k : ExprKind) (symbols : List Symbol) (f : Formula) (rest : List Symbol) → Begins k factor symbols f rest → StopsBefore part rest →
     Begins k part symbols f rest
 part_front k symbols f rest b stop =

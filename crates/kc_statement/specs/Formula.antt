@@ -30,7 +30,7 @@ all_joined = joined both (atom (Tri Yes))
 abbrev pub any_joined : List Formula → Formula
 any_joined = joined either (atom (Tri No))
 
--- the formula after so many `!`, each of which is a negation
+-- the formula after a number of `!`: each is a negation
 abbrev pub negations : ℕ → Formula → Formula
 negations zero f = f
 negations (suc n) f = negation (negations n f)

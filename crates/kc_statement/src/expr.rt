@@ -62,7 +62,7 @@ pub enum ExprNode {
     BareModule(Term),
     /// A comparison, whose terms are what they are anywhere, m too.
     Compare(Comparison, Box<Operands>),
-    /// After so many `!`, one or more. What comes after them has no `!` at its front.
+    /// After a run of `!`, with their count, one or more. What comes after them has no `!` at its front.
     Not(usize, Box<Expr>),
     /// In parentheses.
     Group(Box<Expr>),

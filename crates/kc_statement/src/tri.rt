@@ -56,7 +56,7 @@ impl Tri {
         }
     }
 
-    /// The letter that stands for it, n, m or y.
+    /// The letter that it is written as: n, m or y.
     pub fn letter(self) -> &'static str
         ensures { result.now ≡ letter self }
     {

@@ -1,4 +1,4 @@
--- Steps: lists of nodes that rows share, each of which a number stands for: this project's own.
+-- Steps: lists of nodes that rows share, each with a number of its own: this project's own.
 use Rattle.std.specs.Prelude.{◌≡◌, ℕ, ◌+◌, ◌-◌, ◌<◌, ◌==◌, ◌⊎◌, Bool, ◌||◌, if◌then◌else◌, nat_lt, List, [], ◌∷◌, ◌++◌, length, Contains, slice_index_or}
 use Rattle.std.specs.List.{list_any}
 use Rattle.kc_tree.specs.declared.node.Node.{Node}

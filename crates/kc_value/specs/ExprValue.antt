@@ -118,7 +118,7 @@ abbrev pub yes_if : Bool → Tri
 yes_if true = Yes
 yes_if false = No
 
--- a value behind so many `!`, each the complement of what it stands before
+-- a value after a number of `!`: each is the complement of what comes after it
 abbrev pub complements : ℕ → Tri → Tri
 complements zero v = v
 complements (suc n) v = complement (complements n v)

@@ -59,7 +59,7 @@ fn term_tri(tree: &Tree, env: &NodeValues, term: &Term) -> Tri
     }
 }
 
-/// A value after so many `!`, of which each two cancel.
+/// A value after `count` times `!`: each two cancel.
 fn negated(value: Tri, count: usize) -> Tri
     ensures { result ≡ complements count value }
 {

@@ -41,8 +41,8 @@ const LONGEST_COPIED: usize = 8;
 /// The number from which on no shared row is added, since 32 bits count the nodes and these rows.
 const LAST_NUMBER: usize = u32::MAX as usize;
 
-/// Puts a long row after the shared ones, and its number in its place, in a tree of so many nodes. A row that is not long
-/// is left as it is.
+/// Puts a long row after the shared ones, and its number in its place, in a tree of `nodes` nodes. A row that is not
+/// long is left as it is.
 fn shorten(nodes: usize, shared: &mut Rows, row: &mut Vec<u32>) -> Result<(), AllocError>
     requires { nodes + length shared.old < 2 ^ 32 }
     ensures shortened { OnOk result (IsShortened nodes shared.old shared.new row.old.items row.new.items) }
