@@ -6,7 +6,7 @@ ghost use Rattle.std.specs.String.{string_bytes};
 ghost use Rattle.kc_files.specs.ReadingSteps.{text_from, unquoted};
 ghost use Rattle.kc_files.specs.TextSteps.{is_end, is_escape, begun};
 
-use kc_text::Text;
+use kc_tree::SharedText;
 use std::alloc::{AllocError, Global};
 
 /// Whether a character closes a text in quotes: it is `"` without a backslash before it.
@@ -39,14 +39,14 @@ fn push_unescaped(out: &mut String, escape: bool, c: char) -> Result<bool, Alloc
 /// The text behind an opening quote, up to the closing one; what follows that is ignored. None where no quote closes it.
 ///
 /// The error comes where memory is refused.
-fn text_behind(alloc: Global, quoted: &str) -> Result<Option<Text>, AllocError>
+fn text_behind(alloc: Global, quoted: &str) -> Result<Option<SharedText>, AllocError>
     ensures { IfOk result (λ text. text ≡ text_from false quoted.now) }
 {
     let mut text = String::new(alloc);
     let mut escape = false;
     for c in quoted.chars() {
         if is_end(escape, c) {
-            return Ok(Some(Text::new(text)));
+            return Ok(Some(SharedText::new(alloc, text)?));
         }
         escape = push_unescaped(&mut text, escape, c)?;
     }
@@ -57,7 +57,7 @@ fn text_behind(alloc: Global, quoted: &str) -> Result<Option<Text>, AllocError>
 /// not closed.
 ///
 /// The error comes where memory is refused.
-pub(crate) fn unquoted(alloc: Global, value: &str) -> Result<Option<Text>, AllocError>
+pub(crate) fn unquoted(alloc: Global, value: &str) -> Result<Option<SharedText>, AllocError>
     ensures { IfOk result (λ text. text ≡ unquoted value.now) }
 {
     match value.strip_prefix('"') {

@@ -4,8 +4,7 @@ ghost use Rattle.std.specs.Prelude.{◌≡◌, IfOk};
 ghost use Rattle.kc_files.specs.ReadingSteps.{bool_given, tristate_given, numeral_given, value_given, no_given};
 
 use crate::unquoting::unquoted;
-use kc_text::Text;
-use kc_tree::{SymbolType, Tri, UserVal, numeral};
+use kc_tree::{SharedText, SymbolType, Tri, UserVal, numeral};
 use std::alloc::{AllocError, Global};
 
 /// The value of a bool that a text spells.
@@ -38,7 +37,7 @@ fn numeral_given(alloc: Global, kind: SymbolType, text: &str) -> Result<Option<U
     if numeral(kind, text).is_none() {
         return Ok(None);
     }
-    Ok(Some(UserVal::Text(Text::copy_of(alloc, text)?)))
+    Ok(Some(UserVal::Text(SharedText::copy_of(alloc, text)?)))
 }
 
 /// The value of a type that a text spells in a `.config`: n, m and y for a bool or a tristate, a numeral, or a string in

@@ -1,6 +1,6 @@
 //! Which user values symbols take.
 use crate::parsing::shown;
-use kc_text::Text;
+use kc_statement::SharedText;
 use kc_tree::{SymId, Tree, Tri, UserVal};
 use std::alloc::{AllocError, Global};
 use std::test::Fail;
@@ -54,7 +54,7 @@ fn show_texts(
     symbol: SymId,
 ) -> Result<(), AllocError> {
     for text in ["1f", "07", ""] {
-        let value = UserVal::Text(Text::copy_of(alloc, text)?);
+        let value = UserVal::Text(SharedText::copy_of(alloc, text)?);
         if tree.fits(symbol, &value) {
             out.push_str(format!(in alloc; " '{text}'")?.as_str())?;
         }

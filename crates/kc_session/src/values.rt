@@ -7,7 +7,7 @@ ghost use Rattle.kc_outline.specs.TreeValue.{choice_of};
 ghost use Rattle.kc_files.specs.ConfigText.{type_of};
 ghost use Rattle.kc_session.specs.Values.{bool_of, tristate_of, value_of};
 
-use kc_text::Text;
+use kc_statement::SharedText;
 use kc_tree::{ChoiceId, SymId, SymbolType, Tree, Tri, UserVal, numeral};
 use std::alloc::{AllocError, Global};
 
@@ -63,12 +63,12 @@ pub(crate) fn value_of(
     match kind {
         SymbolType::Bool => Ok(bool_of(text).map(UserVal::Tri)),
         SymbolType::Tristate => Ok(tristate_of(text).map(UserVal::Tri)),
-        SymbolType::String => Ok(Some(UserVal::Text(Text::copy_of(alloc, text)?))),
+        SymbolType::String => Ok(Some(UserVal::Text(SharedText::copy_of(alloc, text)?))),
         SymbolType::Int | SymbolType::Hex => {
             if numeral(kind, text).is_none() {
                 return Ok(None);
             }
-            Ok(Some(UserVal::Text(Text::copy_of(alloc, text)?)))
+            Ok(Some(UserVal::Text(SharedText::copy_of(alloc, text)?)))
         }
     }
 }

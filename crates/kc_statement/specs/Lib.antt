@@ -3,6 +3,7 @@ pub mod Fronts
 pub mod Grammar
 pub mod Keywords
 pub mod Names
+pub mod LentText
 pub mod Nesting
 pub mod NestingDepth
 pub mod Numerals

@@ -1,8 +1,8 @@
 ghost use Rattle.std.specs.Prelude.{◌≡◌};
 ghost use Rattle.kc_statement.specs.NodeFormula.{node_formula, IsKept};
 
-use crate::boxed_text::BoxedText;
 use crate::id::SymId;
+use crate::shared_text::SharedText;
 use crate::tri::Tri;
 use std::marker::Model;
 
@@ -29,11 +29,11 @@ pub enum Term {
     /// One of the words n, m and y.
     Tri(Tri),
     /// A text in quotes. The texts n, m and y are the constants that the words are.
-    Text(BoxedText),
+    Text(SharedText),
     /// A defined symbol.
     Symbol(SymId),
     /// A word that no definition names.
-    Undefined(BoxedText),
+    Undefined(SharedText),
 }
 
 /// The two terms of a comparison.

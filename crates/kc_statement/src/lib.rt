@@ -2,11 +2,11 @@
 #![tactic(auto)]
 
 mod attribute;
-mod boxed_text;
 mod expr;
 mod expression;
 mod id;
 mod keyword;
+mod lent_text;
 mod limits;
 mod lone_terms;
 mod name;
@@ -15,6 +15,7 @@ mod nesting;
 mod numerals;
 mod parser;
 mod seed;
+mod shared_text;
 mod statement;
 mod statement_forms;
 mod symbol_type;
@@ -22,10 +23,10 @@ mod tri;
 mod word;
 
 pub use attribute::{DefaultValue, Prompt, Range};
-pub use boxed_text::BoxedText;
 pub use expr::{Comparison, Expr, ExprKind, ExprNode, Operands, Term};
 pub use id::SymId;
 pub use keyword::{Keyword, read_keyword};
+pub use lent_text::LentText;
 pub use limits::{MOST_NESTED, MOST_SYMBOLS};
 pub use lone_terms::{lone_term, term_alone};
 pub use name::{is_name, read_names};
@@ -33,6 +34,7 @@ pub use names::Names;
 pub use nesting::nests_too_deep;
 pub use numerals::{after_hex_sign, after_minus, digits_up_to, hex_digits, numeral};
 pub use seed::Seed;
+pub use shared_text::SharedText;
 pub use statement::Statement;
 pub use statement_forms::read_statement;
 pub use symbol_type::SymbolType;

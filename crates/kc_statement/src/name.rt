@@ -6,12 +6,12 @@ ghost use Rattle.std.specs.Option.{option_map_or};
 ghost use Rattle.kc_statement.specs.declared.limits.TheConstants.{MOST_SYMBOLS};
 ghost use Rattle.kc_statement.specs.Names.{is_name, is_name_byte, is_reserved, name_word, token_word, word_term, quoted_term, defined_name, names_of, with_name};
 
-use crate::boxed_text::BoxedText;
 use crate::expr::Term;
 use crate::keyword::is_config;
 use crate::limits::MOST_SYMBOLS;
 use crate::names::Names;
 use crate::seed::Seed;
+use crate::shared_text::SharedText;
 use crate::tri::Tri;
 use kc_text::{Line, TextRef, Token};
 use std::alloc::{AllocError, Global};
@@ -97,7 +97,7 @@ pub(crate) fn word_term(alloc: Global, names: &Names, word: &str) -> Result<Term
         "y" => Ok(Term::Tri(Tri::Yes)),
         _ => match names.symbol(word) {
             Some(symbol) => Ok(Term::Symbol(symbol)),
-            None => Ok(Term::Undefined(BoxedText::copy_of(alloc, word)?)),
+            None => Ok(Term::Undefined(SharedText::copy_of(alloc, word)?)),
         },
     }
 }
@@ -106,7 +106,7 @@ pub(crate) fn word_term(alloc: Global, names: &Names, word: &str) -> Result<Term
 pub(crate) fn quoted_term(alloc: Global, text: &str) -> Result<Term, AllocError>
     ensures { IfOk result (λ t. t ≡ quoted_term text.now) }
 {
-    Ok(Term::Text(BoxedText::copy_of(alloc, text)?))
+    Ok(Term::Text(SharedText::copy_of(alloc, text)?))
 }
 
 /// The name that a line defines: the line is its keyword and the name alone.

@@ -21,8 +21,8 @@ pub use kc_outline::{
     Entry, LineProblem, Reverse, Symbol,
 };
 pub use kc_statement::{
-    BoxedText, Comparison, DefaultValue, Expr, ExprNode, Operands, Prompt, Range, Seed, SymId,
-    SymbolType, Term, Tri, lone_term, numeral,
+    Comparison, DefaultValue, Expr, ExprNode, LentText, Operands, Prompt, Range, Seed, SharedText,
+    SymId, SymbolType, Term, Tri, lone_term, numeral,
 };
 pub use node::Node;
 pub use node_rows::NodeRow;

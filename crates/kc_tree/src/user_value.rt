@@ -1,5 +1,4 @@
-use kc_statement::Tri;
-use kc_text::Text;
+use kc_statement::{SharedText, Tri};
 
 /// A value that a user gives to a symbol.
 #[derive(Debug, Drop)]
@@ -7,5 +6,5 @@ pub enum UserVal {
     /// That of a bool or tristate symbol.
     Tri(Tri),
     /// That of a symbol of another type, as it is spelt.
-    Text(Text),
+    Text(SharedText),
 }

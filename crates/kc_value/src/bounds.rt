@@ -2,11 +2,11 @@
 
 ghost use Rattle.std.specs.Prelude.{◌≡◌, IfOk};
 ghost use Rattle.std.specs.String.{string_bytes};
+ghost use Rattle.kc_statement.specs.LentText.{lent_bytes};
 ghost use Rattle.kc_value.specs.TextRule.{number_or_zero, is_inside, spelled, clamped};
 ghost use Rattle.kc_value.specs.BoundsRange.{IsSmall, AreSmall};
 
-use kc_text::Text;
-use kc_tree::{SymbolType, numeral};
+use kc_tree::{LentText, SharedText, SymbolType, numeral};
 use std::alloc::{AllocError, Global};
 
 /// The bounds of a range, by the numerals of a symbol's type.
@@ -50,25 +50,25 @@ fn spelled(alloc: Global, kind: SymbolType, bound: i128) -> Result<String, Alloc
     }
 }
 
-/// A text between bounds, if there are any: the bound past which its number is, or a copy of the text.
+/// A text between bounds, if there are any: the bound past which its number is, or the text itself.
 pub(crate) fn clamped(
     alloc: Global,
     kind: SymbolType,
     bounds: Option<Bounds>,
-    text: &str,
-) -> Result<Text, AllocError>
+    text: LentText<'_>,
+) -> Result<SharedText, AllocError>
     requires { AreSmall kind bounds }
-    ensures { IfOk result (λ clamped_text. clamped_text ≡ clamped kind bounds text.now) }
+    ensures { IfOk result (λ clamped_text. clamped_text ≡ clamped kind bounds (lent_bytes text.entry)) }
 {
     let Some(bounds) = bounds else {
-        return Text::copy_of(alloc, text);
+        return text.to_shared(alloc);
     };
-    let number = number_or_zero(kind, text);
+    let number = number_or_zero(kind, text.as_str());
     if number < bounds.low {
-        Ok(Text::new(spelled(alloc, kind, bounds.low)?))
+        SharedText::new(alloc, spelled(alloc, kind, bounds.low)?)
     } else if number > bounds.high {
-        Ok(Text::new(spelled(alloc, kind, bounds.high)?))
+        SharedText::new(alloc, spelled(alloc, kind, bounds.high)?)
     } else {
-        Text::copy_of(alloc, text)
+        text.to_shared(alloc)
     }
 }

@@ -57,17 +57,12 @@ fn is_same_value(left: &Value, right: &Value) -> bool
 }
 
 /// A copy of the value of a node, by its number.
-fn value_at(
-    alloc: Global,
-    tree: &Tree,
-    values: &NodeValues,
-    node: Node,
-) -> Result<Value, AllocError>
+fn value_at(tree: &Tree, values: &NodeValues, node: Node) -> Result<Value, AllocError>
     ensures value { IfOk result (λ v. v ≡ assignment_of tree.now values.now node) }
     ensures accepted { IsAccepted tree.now }
 {
     match values.get(tree.number(node)) {
-        Some(value) => copy_of(alloc, value),
+        Some(value) => copy_of(value),
         None => Ok(Value::Tri(Tri::No)),
     }
 }
@@ -122,7 +117,7 @@ pub fn changed_value(
     ensures solved { (u : UserValues) → IsOnlySolution tree.now u (solution tree.now u) }
     ensures laws { (u : UserValues) → ChangesAreJustEnough tree.now u }
 {
-    let value = value_at(alloc, tree, values, node)?;
+    let value = value_at(tree, values, node)?;
     let without = value_without(alloc, tree, conditions, values, node)?;
     if is_same_value(&value, &without) {
         return Ok(None);

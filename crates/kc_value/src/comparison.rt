@@ -166,14 +166,6 @@ pub(crate) fn is_related(comparison: Comparison, order: Ordering) -> bool
     }
 }
 
-/// The text of a term.
-pub(crate) fn term_text<'a>(tree: &Tree, env: &'a NodeValues, term: &'a Term) -> &'a str
-    ensures { result.now ≡ term_text tree.now (assignment_of tree.now env.now) term.now }
-{
-    let operand = Operand::of_term(tree, env, term);
-    operand.text
-}
-
 /// Whether a term is a symbol of type string.
 fn is_string(tree: &Tree, term: &Term) -> bool
     ensures { result ≡ is_string_term tree.now term.now }

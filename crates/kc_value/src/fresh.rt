@@ -25,7 +25,7 @@ pub fn solve(alloc: Global, tree: &Tree, user: &User, node: Node) -> Result<Valu
     let mut kept = KeptValues::new(alloc, tree)?;
     kept.fill(alloc, tree, user, node)?;
     match kept.values().get(number) {
-        Some(value) => copy_of(alloc, value),
+        Some(value) => copy_of(value),
         None => unreachable!(),
     }
 }

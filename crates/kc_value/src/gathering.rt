@@ -15,14 +15,14 @@ use kc_tree::{Node, NodeRow};
 use std::alloc::{AllocError, Global};
 
 /// A copy of the value of a node. The error comes where memory is refused.
-fn value_at<R: Resolver>(alloc: Global, resolver: &mut R, node: Node) -> Result<Value, AllocError>
+fn value_at<R: Resolver>(resolver: &mut R, node: Node) -> Result<Value, AllocError>
     requires { IsNodeOf (R.tree_of resolver.old) node }
     ensures value { IfOk result (λ v. v ≡ solution (R.tree_of resolver.old) (R.user_of resolver.old) node) }
     ensures tree { R.tree_of resolver.new ≡ R.tree_of resolver.old }
     ensures user { R.user_of resolver.new ≡ R.user_of resolver.old }
     ensures grew { R.grew resolver.old resolver.new (node ∷ []) }
 {
-    let value = copy_of(alloc, resolver.node(node)?)?;
+    let value = copy_of(resolver.node(node)?)?;
     Ok(value)
 }
 
@@ -41,7 +41,7 @@ pub fn all_values<R: Resolver>(alloc: Global, resolver: &mut R) -> Result<NodeVa
 {
     let mut values = Vec::with_capacity(alloc, resolver.tree().node_count())?;
     for node in resolver.tree().nodes() {
-        let value = value_at(alloc, resolver, node)?;
+        let value = value_at(resolver, node)?;
         values.push(value)?;
     }
     NodeValues::of(alloc, values)
@@ -72,7 +72,7 @@ pub(crate) fn used_values<R: Resolver>(
     let nodes = listed(alloc, resolver.tree().uses(node))?;
     let mut values = NodeValues::empty(alloc, resolver.tree().node_count())?;
     for next in nodes.as_slice() {
-        let value = value_at(alloc, resolver, *next)?;
+        let value = value_at(resolver, *next)?;
         let number = resolver.tree().number(*next);
         values.put(number, value);
     }

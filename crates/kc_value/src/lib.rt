@@ -25,6 +25,7 @@ mod shared_conditions;
 mod slots;
 mod summary;
 mod symbol_value;
+mod term_text;
 mod text_value;
 mod user;
 mod value;

@@ -2,6 +2,7 @@
 
 ghost use Rattle.std.specs.Prelude.{◌≡◌, IfOk, not, option_map, None, Some, slice_get, find};
 ghost use Rattle.std.specs.Option.{option_copied, option_map_or};
+ghost use Rattle.kc_statement.specs.LentText.{lent_bytes};
 ghost use Rattle.kc_statement.specs.Tristate.{least, is_no};
 ghost use Rattle.kc_outline.specs.TreeValue.{kind_of};
 ghost use Rattle.kc_value.specs.Assignment.{assignment_of};
@@ -12,25 +13,26 @@ ghost use Rattle.kc_value.specs.ExprValue.{own_condition};
 ghost use Rattle.kc_value.specs.TextRule.{value_text, definition_text, default_text, bounds_in, definition_bounds, bounds_of, is_range_active, user_text, text_rule};
 
 use crate::bounds::{Bounds, clamped, is_inside, number_or_zero};
-use crate::comparison::term_text;
 use crate::conditions::dependency_tri;
 use crate::expr_value::own_condition_tri;
 use crate::known_conditions::KnownConditions;
 use crate::node_values::NodeValues;
 use crate::symbol_value::first_active_default;
+use crate::term_text::term_text;
 use crate::value::Value;
 use itertools::Itertools;
-use kc_text::Text;
-use kc_tree::{Definition, Expr, Range, Symbol, SymbolType, Tree, Tri, UserVal, lone_term};
+use kc_tree::{
+    Definition, Expr, LentText, Range, SharedText, Symbol, SymbolType, Tree, Tri, UserVal, lone_term,
+};
 use std::alloc::{AllocError, Global};
 
 /// The text of a default's value: that of the one term that it is.
-fn value_text<'a>(tree: &Tree, value: &'a Expr, env: &'a NodeValues) -> &'a str
-    ensures { result.now ≡ value_text tree.now (assignment_of tree.now env.now) value.now }
+fn value_text<'a>(tree: &Tree, value: &'a Expr, env: &'a NodeValues) -> LentText<'a>
+    ensures { lent_bytes result ≡ value_text tree.now (assignment_of tree.now env.now) value.now }
 {
     match lone_term(value) {
         Some(term) => term_text(tree, env, term),
-        None => "",
+        None => LentText::Plain(""),
     }
 }
 
@@ -40,9 +42,9 @@ fn numbered_text<'a>(
     number: usize,
     known: KnownConditions<'_>,
     env: &'a NodeValues,
-) -> Option<&'a str>
+) -> Option<LentText<'a>>
     requires known { AreRight tree.now env.now known.depends.now known.visible.now known.own.now }
-    ensures { option_map (λ w. w.now) result ≡ option_map_or (definition_text tree.now (assignment_of tree.now env.now)) (slice_get tree.now.definitions number) None }
+    ensures { option_map lent_bytes result ≡ option_map_or (definition_text tree.now (assignment_of tree.now env.now)) (slice_get tree.now.definitions number) None }
 {
     let definition = tree.definitions().get(number)?;
     let depends = dependency_tri(tree, number, known, env);
@@ -56,9 +58,9 @@ fn default_text<'a>(
     symbol: &Symbol,
     known: KnownConditions<'_>,
     env: &'a NodeValues,
-) -> Option<&'a str>
+) -> Option<LentText<'a>>
     requires known { AreRight tree.now env.now known.depends.now known.visible.now known.own.now }
-    ensures { option_map (λ w. w.now) result ≡ default_text tree.now (assignment_of tree.now env.now) symbol.now }
+    ensures { option_map lent_bytes result ≡ default_text tree.now (assignment_of tree.now env.now) symbol.now }
 {
     for number in symbol.definitions() {
         if let Some(text) = numbered_text(tree, *number, known, env) {
@@ -101,8 +103,8 @@ fn bounds_in(tree: &Tree, kind: SymbolType, range: &Range, env: &NodeValues) -> 
     ensures small { AreSmall kind (Some result) }
 {
     Bounds {
-        low: number_or_zero(kind, term_text(tree, env, &range.low)),
-        high: number_or_zero(kind, term_text(tree, env, &range.high)),
+        low: number_or_zero(kind, term_text(tree, env, &range.low).as_str()),
+        high: number_or_zero(kind, term_text(tree, env, &range.high).as_str()),
     }
 }
 
@@ -153,13 +155,13 @@ fn user_text(
     bounds: Option<Bounds>,
     visibility: Tri,
     user: Option<&UserVal>,
-) -> Option<&str>
+) -> Option<&SharedText>
     ensures { option_map (λ w. w.now) result ≡ user_text kind bounds visibility (option_copied user.entry) }
 {
     match (visibility, user) {
         (Tri::Module | Tri::Yes, Some(UserVal::Text(text))) => {
             if is_inside(bounds, number_or_zero(kind, text.as_str())) {
-                Some(text.as_str())
+                Some(text)
             } else {
                 None
             }
@@ -190,8 +192,8 @@ pub(crate) fn text_value(
     let default = default_text(tree, symbol, known, env);
     let written = !visibility.is_no() || default.is_some();
     let text = match user_text(kind, bounds, visibility, user) {
-        Some(text) => Text::copy_of(alloc, text)?,
-        None => clamped(alloc, kind, bounds, default.unwrap_or(""))?,
+        Some(text) => text.share()?,
+        None => clamped(alloc, kind, bounds, default.unwrap_or(LentText::Plain("")))?,
     };
     Ok(Value::Shown(UserVal::Text(text), written))
 }

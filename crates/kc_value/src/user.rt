@@ -7,7 +7,6 @@ ghost use Rattle.kc_value.specs.UserValues.{UserValues, IsUserFor, no_values, wi
 ghost use Rattle.kc_value.specs.Solution.{solution, IsOnlySolution};
 
 use crate::slots::{clear_slots, empty_slots};
-use kc_text::Text;
 use kc_tree::{ChoiceId, SymId, Tree, UserVal};
 use std::alloc::{AllocError, Global};
 use std::marker::Model;
@@ -122,13 +121,13 @@ impl User {
     }
 }
 
-/// A copy of a user value. The error comes where memory is refused for a text.
-fn copy_value(alloc: Global, value: &UserVal) -> Result<UserVal, AllocError>
+/// A copy of a user value, which shares its text. The error comes where the owners of that can't be counted.
+fn copy_value(value: &UserVal) -> Result<UserVal, AllocError>
     ensures { IfOk result (λ v. v ≡ value.now) }
 {
     match value {
         UserVal::Tri(tri) => Ok(UserVal::Tri(*tri)),
-        UserVal::Text(text) => Ok(UserVal::Text(Text::copy_of(alloc, text.as_str())?)),
+        UserVal::Text(text) => Ok(UserVal::Text(text.share()?)),
     }
 }
 
@@ -142,7 +141,7 @@ fn copy_values(
     let mut copies = Vec::with_capacity(alloc, values.len())?;
     for value in values {
         let copy = match value {
-            Some(value) => Some(copy_value(alloc, value)?),
+            Some(value) => Some(copy_value(value)?),
             None => None,
         };
         copies.push(copy)?;

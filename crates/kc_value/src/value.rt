@@ -1,9 +1,9 @@
 ghost use Rattle.std.specs.Prelude.{◌≡◌, IfOk};
+ghost use Rattle.kc_statement.specs.LentText.{lent_bytes};
 ghost use Rattle.kc_value.specs.Assignment.{as_tri, as_text, as_member, is_written};
 
-use kc_text::Text;
-use kc_tree::{SymId, Tri, UserVal};
-use std::alloc::{AllocError, Global};
+use kc_tree::{LentText, SymId, Tri, UserVal};
+use std::alloc::AllocError;
 
 /// The value of a node, as its rule gives it.
 #[derive(Debug, Drop)]
@@ -41,6 +41,16 @@ impl Value {
         }
     }
 
+    /// The text, which is shared where it is kept.
+    pub(crate) fn lent_text(&self) -> LentText<'_>
+        ensures { lent_bytes result ≡ as_text self.now }
+    {
+        match self {
+            Value::Shown(UserVal::Text(text), _) => LentText::Shared(text),
+            _ => LentText::Plain(self.as_text()),
+        }
+    }
+
     /// The member that is selected, none for the value of another node.
     pub fn as_member(&self) -> Option<SymId>
         ensures { result ≡ as_member self.now }
@@ -64,16 +74,15 @@ impl Value {
     }
 }
 
-/// A copy of a value. The error comes where memory is refused for a text.
-pub(crate) fn copy_of(alloc: Global, value: &Value) -> Result<Value, AllocError>
+/// A copy of a value, which shares its text. The error comes where the owners of that can't be counted.
+pub(crate) fn copy_of(value: &Value) -> Result<Value, AllocError>
     ensures { IfOk result (λ v. v ≡ value.now) }
 {
     match value {
         Value::Tri(tri) => Ok(Value::Tri(*tri)),
         Value::Shown(UserVal::Tri(tri), written) => Ok(Value::Shown(UserVal::Tri(*tri), *written)),
         Value::Shown(UserVal::Text(text), written) => {
-            let text = Text::copy_of(alloc, text.as_str())?;
-            Ok(Value::Shown(UserVal::Text(text), *written))
+            Ok(Value::Shown(UserVal::Text(text.share()?), *written))
         }
         Value::Member(member) => Ok(Value::Member(*member)),
     }
