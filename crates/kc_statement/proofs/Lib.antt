@@ -8,6 +8,7 @@ pub mod NamesLemmas
 pub mod NestingLaws
 pub mod NodeLaws
 pub mod NumeralLaws
+pub mod ZeroLaws
 pub mod OneFormula
 pub mod OneStatement
 pub mod ReservedLaws

@@ -15,3 +15,4 @@ pub mod Formula
 pub mod FormulaCode
 pub mod NodeFormula
 pub mod NodeFalls
+pub mod Zeros

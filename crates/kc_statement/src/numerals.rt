@@ -1,10 +1,12 @@
 //! Texts that are numerals of a type.
 
-ghost use Rattle.std.specs.Prelude.{◌≡◌, ◌<◌, ◌-◌, ◌^◌, ◌&&◌, ◌||◌, [], ◌∷◌, None, Some, option_map, if◌then◌else◌, length, nat_le, take, drop, codes};
+ghost use Rattle.std.specs.Prelude.{◌≡◌, ◌<◌, ◌≤◌, ◌-◌, ◌^◌, ◌&&◌, ◌||◌, ℕ, [], ◌∷◌, None, Some, option_map, if◌then◌else◌, length, nat_le, take, drop, codes};
 ghost use Rattle.std.specs.Char.{is_ascii_digit, is_ascii_hexdigit};
 ghost use Rattle.std.specs.List.{list_all};
 ghost use Rattle.std.specs.Str.{bytes_eq};
-ghost use Rattle.kc_statement.specs.Numerals.{digits_up_to, hex_digits, int_numeral, hex_numeral, numeral_in};
+ghost use Rattle.std.specs.Str.Parse.{AllDigits, digits_value};
+ghost use Rattle.kc_statement.specs.Numerals.{up_to, digits_up_to, hex_digits, int_numeral, hex_numeral, numeral_in};
+ghost use Rattle.kc_statement.specs.Zeros.{zeros_len};
 
 use crate::symbol_type::SymbolType;
 
@@ -27,14 +29,46 @@ fn is_hex(text: &str) -> bool
     are_digits && text.len() >= 1
 }
 
+/// How many zeros are at the front of digits.
+fn zeros_len(digits: &str) -> usize
+    ensures { result ≡ zeros_len digits.now }
+{
+    match digits.as_bytes().iter().position(|byte| *byte != b'0') {
+        Some(len) => len,
+        None => digits.len(),
+    }
+}
+
+/// Digits without the zeros at their front, which may be many: `from_str_radix` takes longer for each of them.
+fn without_zeros(digits: &str) -> &str
+    ensures value { (radix : ℕ) → digits_value radix result.now ≡ digits_value radix digits.now }
+    ensures digits { (radix : ℕ) → AllDigits radix digits.now → AllDigits radix result.now }
+{
+    digits.get(zeros_len(digits)..).unwrap_or(digits)
+}
+
+/// The number that digits of a radix spell, 0 for none of them, and no number past 64 bits.
+fn number_of(digits: &str, radix: u32) -> Option<u64>
+    requires digits { AllDigits radix digits.now }
+    requires radix { (2 ≤ radix) × (radix ≤ 36) }
+    ensures { result ≡ up_to (2 ^ 64 - 1) (digits_value radix digits.now) }
+{
+    let digits = without_zeros(digits);
+    if digits.is_empty() {
+        return Some(0);
+    }
+    u64::from_str_radix(digits, radix).ok()
+}
+
 /// The number that one or more decimal digits spell, none past 64 bits.
 fn decimal(text: &str) -> Option<u64>
     ensures { result ≡ digits_up_to (2 ^ 64 - 1) text.now }
 {
-    if !is_decimal(text) {
-        return None;
+    if is_decimal(text) {
+        number_of(text, 10)
+    } else {
+        None
     }
-    u64::from_str_radix(text, 10).ok()
 }
 
 /// The number that one or more decimal digits spell, none past a bound (this project's own).
@@ -52,10 +86,11 @@ pub fn digits_up_to(bound: u64, text: &str) -> Option<u64>
 pub fn hex_digits(text: &str) -> Option<u64>
     ensures { result ≡ hex_digits text.now }
 {
-    if !is_hex(text) {
-        return None;
+    if is_hex(text) {
+        number_of(text, 16)
+    } else {
+        None
     }
-    u64::from_str_radix(text, 16).ok()
 }
 
 /// What follows a `-`, if there is one.
