@@ -5,7 +5,7 @@ ghost use Rattle.kc_statement.specs.Names.{symbol_among, with_name};
 
 use crate::id::SymId;
 use crate::limits::MOST_SYMBOLS;
-use crate::seed::Seed;
+use crate::seed::{NameSeed, Seed};
 use indexmap::IndexSet;
 use std::alloc::{AllocError, Global};
 use std::marker::Model;
@@ -14,7 +14,7 @@ use std::marker::Model;
 /// of the names.
 #[derive(Drop)]
 pub struct Names {
-    set: IndexSet<String, Seed>,
+    set: IndexSet<String, NameSeed>,
 }
 
 impl Model for Names {
@@ -40,7 +40,7 @@ impl Names {
         ensures { IfOk result (λ names. names ≡ []) }
     {
         Ok(Names {
-            set: IndexSet::with_capacity_and_hasher(alloc, room, seed)?,
+            set: IndexSet::with_capacity_and_hasher(alloc, room, seed.names())?,
         })
     }
 
