@@ -1,4 +1,4 @@
--- Which user values a symbol takes: kconfig-language.rst, "Menu attributes".
+-- The type of a symbol, and which user values it takes: kconfig-language.rst, "Menu attributes".
 use Rattle.std.specs.Prelude.{Bool, true, false, not, ◌&&◌, is_some, slice_get}
 use Rattle.std.specs.Option.{option_map_or}
 use Rattle.kc_statement.specs.declared.id.SymId.{SymId}
@@ -9,6 +9,10 @@ use Rattle.kc_tree.specs.declared.user_value.UserVal.{UserVal}
 use Rattle.kc_tree.specs.declared.user_value.UserVal.TheVariants.{Tri, Text}
 use Rattle.kc_statement.specs.Numerals.{numeral_in}
 use Rattle.kc_outline.specs.TreeValue.{TreeValue, kind_of}
+
+-- the declared type of a symbol, bool for a number that the tree doesn't have
+abbrev pub type_of : TreeValue → SymId → SymbolType
+type_of t s = option_map_or kind_of (slice_get t.symbols s.0) kind.Bool
 
 -- a bool takes n and y, a tristate m too, a string all texts, an int and a hex the numerals of their types
 abbrev pub fits_type : SymbolType → UserVal → Bool

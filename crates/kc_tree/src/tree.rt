@@ -1,11 +1,11 @@
 ghost use Rattle.std.specs.Prelude.{◌≡◌, ◌<◌, ◌≤◌, ◌^◌, IfSome, IfOk, IfErr, length, Contains, ◌↔◌};
 ghost use Rattle.kc_text.specs.declared.reading.TheConstants.{MOST_LINES};
-ghost use Rattle.kc_outline.specs.TreeValue.{symbol_named, name_of, modules_symbol};
+ghost use Rattle.kc_outline.specs.TreeValue.{choice_of, symbol_named, name_of, modules_symbol};
 ghost use Rattle.kc_tree.specs.Nodes.{all_nodes, node_at, node_count, number_of, AreNumbered, IsNodeOf};
 ghost use Rattle.kc_tree.specs.Uses.{Uses};
 ghost use Rattle.kc_tree.specs.Order.{IsOrder};
 ghost use Rattle.kc_tree.specs.Accepted.{IsAccepted, IsSharedTable};
-ghost use Rattle.kc_tree.specs.Fits.{fits, fits_type};
+ghost use Rattle.kc_tree.specs.Fits.{fits, fits_type, type_of};
 
 use crate::fault::TreeFault;
 use crate::link::link;
@@ -14,7 +14,9 @@ use crate::node_rows::NodeRow;
 use crate::nodes::Nodes;
 use crate::user_value::UserVal;
 use kc_graph::{Rows, SharedRows};
-use kc_outline::{Block, Choice, Comment, Definition, Entry, Outline, Symbol, read_outline};
+use kc_outline::{
+    Block, Choice, ChoiceId, Comment, Definition, Entry, Outline, Symbol, read_outline,
+};
 use kc_statement::{Seed, SymId, SymbolType, Tri, numeral};
 use kc_text::Line;
 use std::alloc::Global;
@@ -131,6 +133,23 @@ impl Tree {
         ensures { result.now ≡ name_of self.now symbol }
     {
         self.outline.names().get(symbol.0 as usize)
+    }
+
+    /// The declared type of a symbol, bool for one that the tree doesn't have.
+    pub fn symbol_type(&self, symbol: SymId) -> SymbolType
+        ensures { result ≡ type_of self.now symbol }
+    {
+        match self.outline.symbols().get(symbol.0 as usize) {
+            Some(found) => found.kind(),
+            None => SymbolType::Bool,
+        }
+    }
+
+    /// The choice that a symbol is a member of, none for a symbol that the tree doesn't have.
+    pub fn choice_of(&self, symbol: SymId) -> Option<ChoiceId>
+        ensures { result ≡ choice_of self.now symbol }
+    {
+        self.outline.symbols().get(symbol.0 as usize)?.choice()
     }
 
     /// The symbols by number.
