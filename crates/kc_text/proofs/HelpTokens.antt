@@ -21,13 +21,13 @@ use Rattle.kc_text.proofs.Runs.{first_past_run, prefix_len-no}
 use Rattle.kc_text.proofs.TokenLemmas.{shows_first, short_word}
 
 -- a comment, or nothing
-abbrev IsComment : List ℕ → Type 0
+abbrev pub IsComment : List ℕ → Type 0
 IsComment r = 0 < length r → not (slice_index r 0 == 35) ≡ false
 
 number_sign : (b : ℕ) → not (b == 35) ≡ false → b ≡ 35
 number_sign b e = grind (arith, nat_tests)
 
-comment_raw : (r : List ℕ) → IsComment r → raw_tokens r ≡ []
+pub comment_raw : (r : List ℕ) → IsComment r → raw_tokens r ≡ []
 comment_raw [] c = refl
 comment_raw (b ∷ bs) c = ap (λ v. raw_tokens (v ∷ bs)) (number_sign b (c (omega arith)))
 
@@ -35,7 +35,15 @@ comment_word : (r : List ℕ) → IsComment r → begins_word r ≡ false
 comment_word [] c = refl
 comment_word (b ∷ bs) c = ap (λ v. begins_word (v ∷ bs)) (number_sign b (c (omega arith)))
 
-comment_name : (r : List ℕ) → IsComment r → prefix_len is_name r ≡ 0
+-- what a run of bytes of a name defines
+abbrev defines : List ℕ → ℕ → Option Definition
+defines bs n = if n == 0 then None else assignment_in (take n bs) (behind_blanks (drop n bs))
+
+-- a line whose first word has no byte of a name
+pub no_name : (bs : List ℕ) → prefix_len is_name bs ≡ 0 → definition_after_blanks bs ≡ None
+no_name bs e = ap (λ n. defines bs n) e
+
+pub comment_name : (r : List ℕ) → IsComment r → prefix_len is_name r ≡ 0
 comment_name [] c = refl
 comment_name (b ∷ bs) c = ap (λ v. prefix_len is_name (v ∷ bs)) (number_sign b (c (omega arith)))
 
@@ -130,10 +138,6 @@ module _ (line w : List ℕ) (left : trimmed (before_comment line) ≡ w) (some 
   no_definition named =
       ap definition_after_blanks line_is ∙ named (blanks ++ comment) (tail_name blanks comment (blanks_at_end kept) is_comment)
       ∙ ap (assignment_in w) (tail_blanks blanks comment (blanks_at_end kept) is_comment) ∙ comment_assigns w comment is_comment
-
--- what a run of bytes of a name defines
-abbrev defines : List ℕ → ℕ → Option Definition
-defines bs n = if n == 0 then None else assignment_in (take n bs) (behind_blanks (drop n bs))
 
 -- the words
 help_named : (x : List ℕ) → prefix_len is_name x ≡ 0 → definition_after_blanks (codes "help" ++ x) ≡ assignment_in (codes "help") (behind_blanks x)

@@ -20,4 +20,5 @@ pub mod Pairs
 pub mod PhysicalLines
 pub mod References
 pub mod Runs
+pub mod Silent
 pub mod TokenLemmas

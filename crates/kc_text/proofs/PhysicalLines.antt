@@ -19,6 +19,10 @@ lines-cut bs some =
     let parts = slice_split is_feed (after_first is_feed bs) in
     ap lines_of_parts (slice_split_first is_feed bs 0 some) ∙ parts-cons (before_first is_feed bs) parts (omega (arith, length-slice_split is_feed (after_first is_feed bs)))
 
+-- a text that begins with a line feed
+pub lines-empty : (bs : List ℕ) → lines (10 ∷ bs) ≡ [] ∷ lines bs
+lines-empty bs = lines-cut (10 ∷ bs) (omega arith)
+
 pub feed_is_ascii : (b : ℕ) → not (is_feed b) ≡ false → b < 128
 feed_is_ascii b e = grind (arith, nat_tests)
 

@@ -1,11 +1,13 @@
 //! How the lines of a file are taken together.
 
-ghost use Rattle.std.specs.Prelude.{◌≡◌, ◌+◌, ◌<◌, ◌≤◌, drop, length, true, IfOk, IfSome};
+ghost use Rattle.std.specs.Prelude.{◌≡◌, ◌+◌, ◌<◌, ◌≤◌, ◌∷◌, drop, length, false, true, IfOk, IfSome};
 ghost use Rattle.std.specs.Str.Lines.{lines};
 ghost use Rattle.kc_text.specs.Help.{is_help};
 ghost use Rattle.kc_text.specs.Items.{before_backslash, behind_joined, ends_in_backslash, first_item, joined, joined_more};
 ghost use Rattle.kc_text.specs.Scanning.{item_of, joined_text};
+ghost use Rattle.kc_text.specs.declared.front.Start.TheVariants.{Other};
 
+use crate::front::{Front, Start};
 use crate::help::{is_help, skip_help};
 use crate::help_text::HelpText;
 use crate::physical::first_line;
@@ -46,7 +48,7 @@ pub(crate) struct Item<'a> {
 }
 
 /// Whether a line is joined with the next one.
-fn ends_in_backslash(line: &str) -> bool
+pub(crate) fn ends_in_backslash(line: &str) -> bool
     ensures { result ≡ ends_in_backslash line.now }
 {
     line.as_bytes().last() == Some(&b'\\')
@@ -87,30 +89,48 @@ fn join_lines<'a>(alloc: Global, file: &'a str) -> Result<(Text, usize, &'a str)
 }
 
 /// The same, where one line that is joined to none is lent.
-fn join_first<'a>(alloc: Global, file: &'a str) -> Result<(Joined<'a>, usize, &'a str), AllocError>
-    requires some { 0 < length file.now }
+fn join_first<'a>(
+    alloc: Global,
+    file: &'a str,
+    front: Front<'a>,
+) -> Result<(Joined<'a>, usize, &'a str), AllocError>
+    requires cut { lines file.now ≡ front.line.now ∷ lines front.rest.now }
+    requires shorter { length front.rest.now < length file.now }
     ensures text { IfOk result (λ r. joined_text r.0 ≡ joined (lines file.now)) }
     ensures more { IfOk result (λ r. r.1 ≡ joined_more (lines file.now)) }
     ensures rest { IfOk result (λ r. lines r.2.now ≡ behind_joined (lines file.now)) }
     ensures within { IfOk result (λ r. r.1 + length r.2.now < length file.now) }
 {
-    let (first, rest) = first_line(file);
-    if !ends_in_backslash(first) {
-        return Ok((Joined::One(first), 0, rest));
+    if !ends_in_backslash(front.line) {
+        return Ok((Joined::One(front.line), 0, front.rest));
     }
     let (text, more, rest) = join_lines(alloc, file)?;
     Ok((Joined::Many(text), more, rest))
 }
 
-/// The item that a file begins with.
-pub(crate) fn first_item<'a>(alloc: Global, file: &'a str) -> Result<Item<'a>, AllocError>
-    requires some { 0 < length file.now }
+/// The item that a file begins with, by its first line.
+pub(crate) fn first_item<'a>(
+    alloc: Global,
+    file: &'a str,
+    front: Front<'a>,
+) -> Result<Item<'a>, AllocError>
+    requires cut { lines file.now ≡ front.line.now ∷ lines front.rest.now }
+    requires shorter { length front.rest.now < length file.now }
+    requires other { front.start ≡ Other → is_help front.line.now ≡ false }
     ensures item { IfOk result (λ i. item_of i ≡ first_item (lines file.now)) }
     ensures help { IfOk result (λ i. IfSome i.help (λ _. is_help (joined_text i.text) ≡ true)) }
     ensures rest { IfOk result (λ i. lines i.rest.now ≡ drop (i.more + 1) (lines file.now)) }
     ensures within { IfOk result (λ i. i.more + length i.rest.now < length file.now) }
 {
-    let (text, more, behind) = join_first(alloc, file)?;
+    if matches!(front.start, Start::Other) && !ends_in_backslash(front.line) {
+        return Ok(Item {
+            text: Joined::One(front.line),
+            help: None,
+            more: 0,
+            rest: front.rest,
+        });
+    }
+    let (text, more, behind) = join_first(alloc, file, front)?;
     if !is_help(text.as_str()) {
         return Ok(Item {
             text,

@@ -6,6 +6,7 @@ mod defining;
 mod definition;
 mod expansion;
 mod fault;
+mod front;
 mod help;
 mod help_text;
 mod help_tokens;

@@ -35,6 +35,9 @@ pub(crate) fn first_line(text: &str) -> (&str, &str)
     ensures lines { lines text.now ≡ result.0.now ∷ lines result.1.now }
     ensures shorter { length result.1.now < length text.now }
 {
+    if let [b'\n', ..] = text.as_bytes() {
+        return ("", behind(text, 0));
+    }
     let len = line_len(text);
     if len == text.len() {
         // the last line, where no line feed ends it, keeps its carriage return

@@ -1,10 +1,12 @@
 //! Files that are read line by line, each `source` line with the file that it names in its place.
 
-ghost use Rattle.std.specs.Prelude.{◌≡◌, ◌≤◌, length, true, IfOk, IfSome, OnOk, MatchOption, None, Some, Ok};
+ghost use Rattle.std.specs.Prelude.{◌≡◌, ◌≤◌, length, false, true, IfOk, IfSome, OnOk, MatchOption, None, Some, Ok};
 ghost use Rattle.kc_text.specs.Faults.{GivesAfter, GivesBy, ReadsBy};
 ghost use Rattle.kc_text.specs.Definitions.{defined};
 ghost use Rattle.kc_text.specs.Expansion.{is_among, names_in, texts_in, then_on};
 ghost use Rattle.kc_text.specs.Help.{is_help};
+ghost use Rattle.kc_text.specs.Items.{ends_in_backslash};
+ghost use Rattle.kc_text.specs.declared.front.Start.TheVariants.{Silent};
 ghost use Rattle.kc_text.specs.Tokens.{line_tokens};
 ghost use Rattle.kc_text.specs.Reading.{at_place, file_read, item_read, logical_lines_of, source_path, with_names};
 ghost use Rattle.kc_text.specs.Scanning.{item_of, joined_text, names_of, outside_of, place_of, placing, state_of};
@@ -13,7 +15,8 @@ use crate::defining::define;
 use crate::definition::{Definition, definition_of};
 use crate::expansion::Scope;
 use crate::fault::{LineFault, TextFault, TextProblem};
-use crate::items::{Item, Joined, first_item};
+use crate::front::{Front, Start};
+use crate::items::{Item, Joined, ends_in_backslash, first_item};
 use crate::line::{Line, LineTokens, PlacedFile, Token};
 use crate::place::Place;
 use crate::sources::{MAX_BYTES, Sources};
@@ -85,6 +88,17 @@ fn source_path<'b>(tokens: &'b [Token<'_>]) -> Option<&'b str>
     }
 }
 
+/// Whether a line is one of blanks or a comment, as short as it has to be and joined with no other: it changes nothing.
+fn is_silent(front: Front<'_>) -> bool
+    ensures start { result ≡ true → front.entry.start ≡ Silent }
+    ensures short { result ≡ true → length front.entry.line.now ≤ 65536 }
+    ensures alone { result ≡ true → ends_in_backslash front.entry.line.now ≡ false }
+{
+    matches!(front.start, Start::Silent)
+        && front.line.len() <= MAX_LINE_BYTES
+        && !ends_in_backslash(front.line)
+}
+
 /// Reads a file, whose end stands behind its lines. The paths `around` are those of the files that are open, this
 /// one last.
 #[cycle(read)]
@@ -102,13 +116,18 @@ fn read_file<'a>(
     let mut rest = text;
     let mut number = 1;
     while !rest.is_empty() {
-        let item = first_item(reader.alloc, rest)?;
-        let taken = item.more + 1;
-        let behind = item.rest;
-        let place = Place { file, number };
-        read_item(reader, around, place, item, state)?;
-        number += taken;
-        rest = behind;
+        let front = Front::of(rest);
+        if is_silent(front) {
+            number += 1;
+            rest = front.rest;
+        } else {
+            let item = first_item(reader.alloc, rest, front)?;
+            let taken = item.more + 1;
+            let behind = item.rest;
+            read_item(reader, around, Place { file, number }, item, state)?;
+            number += taken;
+            rest = behind;
+        }
     }
     state.push_end(Place { file, number })?;
     Ok(())

@@ -1,13 +1,15 @@
-use Rattle.std.proofs.Common.{◌≡◌, ◌<◌, length, Ok, false, arith, rules, tests, ap, sym, ◌∙◌}
+use Rattle.std.proofs.Common.{◌≡◌, ◌<◌, length, drop, Ok, false, arith, rules, tests, ap, sym, ◌∙◌}
 use Rattle.std.specs.Str.Lines.{lines}
 use Rattle.std.proofs.lemmas.List.{nil_from_length}
 use Rattle.std.proofs.lemmas.Result.{err_from_is_err_and}
 use Rattle.kc_text.specs.Expansion.{is_among}
+use Rattle.kc_text.specs.Items.{first_item}
 use Rattle.kc_text.specs.declared.line.PlacedFile.{PlacedFile}
 use Rattle.kc_text.specs.Reading.{entered, file_read}
 use Rattle.kc_text.specs.Scanning.{item_of, names_of, outside_of, place_of, placing, state_of}
 use Rattle.kc_text.proofs.Nesting.{fault_along, lines_end, lines_fail, lines_go_on, lines_left, source_reads}
 use Rattle.kc_text.proofs.PhysicalLines.{more_lines}
+use Rattle.kc_text.proofs.Silent.{silent_first, silent_item, silent_read}
 use Rattle.kc_text.proofs.reading.+read.Goals as goal
 
 pub put_in_place-returns-in_err-read_file-clause-reads : goal.put_in_place-returns-in_err-read_file-clause-reads
@@ -33,6 +35,26 @@ read_file-returns-in_err-read_item-clause-reads t c =
     (fault_along _ _ _
     (lines_fail c.args.reader c.args.around.now.items c.loop-rest.around.items c.loop-rest.invariant.around c.args.file.now.path c.args.file.now.run c.args.text.now (lines c.loop-rest.rest.now) c.loop-rest.number (state_of c.args.state.now) (state_of c.loop-rest.state) (item_of c.in_ok-item.item) some c.in_ok-item.ensures.item c.loop-rest.invariant.reads)
     c.in_err-read_item.ensures.reads)
+
+pub read_file-loop-rest-preserved-then-is_silent : goal.read_file-loop-rest-preserved-then-is_silent
+read_file-loop-rest-preserved-then-is_silent t c =
+    let now = lines c.loop-rest.rest.now in
+    let front = c.of-front.result in
+    let line = front.line.now in
+    let behind = lines front.rest.now in
+    let passed = c.if-is_silent.true in
+    let silent = c.of-front.ensures.silent (c.is_silent.ensures.start passed) in
+    let some : 0 < length now = more_lines c.loop-rest.rest.now (search (rules, tests)) in
+    let first : silent_item line ≡ first_item now = silent_first line silent behind (c.is_silent.ensures.alone passed) ∙ ap first_item (sym c.of-front.ensures.lines) in
+    let rest : behind ≡ drop 1 now = ap (drop 1) (sym c.of-front.ensures.lines) in
+    record {
+      utf8 = search rules;
+      around = c.loop-rest.invariant.around;
+      within = omega (arith, c.loop-rest.invariant.within, c.of-front.ensures.shorter);
+      count = lines_left c.args.reader c.args.around.now.items c.loop-rest.around.items c.loop-rest.invariant.around c.args.file.now.path c.args.file.now.run c.args.text.now now c.loop-rest.number (state_of c.args.state.now) (state_of c.loop-rest.state) (silent_item line) some first c.loop-rest.invariant.reads behind rest c.loop-rest.invariant.count;
+      reads = lines_go_on c.args.reader c.args.around.now.items c.loop-rest.around.items c.loop-rest.invariant.around c.args.file.now.path c.args.file.now.run c.args.text.now now c.loop-rest.number (state_of c.args.state.now) (state_of c.loop-rest.state) (silent_item line) some first c.loop-rest.invariant.reads (state_of c.loop-rest.state) behind rest
+          (silent_read line silent (outside_of c.args.reader) (placing c.args.reader c.loop-rest.around.items) (record { path = c.args.file.now.path; run = c.args.file.now.run; number = c.loop-rest.number }) (state_of c.loop-rest.state) (c.is_silent.ensures.short passed));
+    }
 
 pub read_file-loop-rest-preserved : goal.read_file-loop-rest-preserved
 read_file-loop-rest-preserved t c =
