@@ -6,6 +6,7 @@ pub mod Examples
 pub mod Expanding
 pub mod Files
 pub mod FirstLines
+pub mod FirstWords
 pub mod HelpLines
 pub mod HelpTokens
 pub mod HelpWords

@@ -15,13 +15,8 @@ use Rattle.kc_text.specs.References.{Piece}
 use Rattle.kc_text.specs.Lexing.{Raw, word, quoted, raw_tokens}
 use Rattle.kc_text.specs.Expansion.{Names, Environment, Progress, then_on, put, expansion, start, followed}
 use Rattle.kc_text.specs.Scanning.{piece_of, pieces_of, bytes_of}
-use Rattle.kc_text.specs.Tokens.{before, is_reference, word_of, token_of, tokens_of, line_tokens}
+use Rattle.kc_text.specs.Tokens.{ahead, before, is_reference, word_of, token_of, tokens_of, line_tokens}
 use Rattle.kc_text.proofs.Expanding.{expanded-bytes}
-
--- the tokens that were found before a result
-abbrev pub ahead : {A E : Type 0} → List A → Result (List A) E → Result (List A) E
-ahead [] r = r
-ahead (x ∷ xs) r = before x (ahead xs r)
 
 pub ahead-push : {A E : Type 0} (xs : List A) (x : A) (r : Result (List A) E) → ahead (xs ++ x ∷ []) r ≡ ahead xs (before x r)
 ahead-push [] x r = refl

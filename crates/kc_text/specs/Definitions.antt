@@ -1,6 +1,6 @@
 -- Lines that define variables: kconfig-macro-language.rst, "Variables". The lines are this project's own: blanks, a
 -- name, blanks, one of = := +=, and the value up to the end of the line.
-use Rattle.std.specs.Prelude.{ℕ, List, [], ◌∷◌, ◌++◌, Option, Some, None, Result, Ok, if◌then◌else◌, ◌==◌, ◌&&◌, drop}
+use Rattle.std.specs.Prelude.{ℕ, Bool, false, List, [], ◌∷◌, ◌++◌, Option, Some, None, Result, Ok, if◌then◌else◌, ◌==◌, ◌||◌, ◌&&◌, drop}
 use Rattle.std.specs.List.{prefix_len}
 use Rattle.std.specs.Str.{bytes_eq}
 use Rattle.kc_text.specs.declared.fault.TextProblem.{TextProblem}
@@ -21,6 +21,11 @@ assignment_in name (b ∷ bs) =
     else (if b == 58 && begins_with 61 bs then Some (record { name = name; assignment = AtOnce; value = trimmed (drop 1 bs) })
     else (if b == 43 && begins_with 61 bs then Some (record { name = name; assignment = Append; value = trimmed (drop 1 bs) })
     else None))
+
+-- whether the bytes behind a name and its blanks may begin what the name is given
+abbrev pub may_assign : List ℕ → Bool
+may_assign [] = false
+may_assign (b ∷ bs) = b == 61 || (b == 58 || b == 43)
 
 -- the definition that a line from its first word on makes, if it makes one
 abbrev pub definition_after_blanks : List ℕ → Option Definition

@@ -14,6 +14,11 @@ abbrev pub before : {A E : Type 0} → A → Result (List A) E → Result (List 
 before x (Ok xs) = Ok (x ∷ xs)
 before x (Err e) = Err e
 
+-- those that were found before a result
+abbrev pub ahead : {A E : Type 0} → List A → Result (List A) E → Result (List A) E
+ahead [] r = r
+ahead (x ∷ xs) r = before x (ahead xs r)
+
 abbrev pub is_reference : Piece → Bool
 is_reference (byte b) = false
 is_reference (reference name) = true

@@ -1,7 +1,8 @@
 //! Lines that define variables.
 
 ghost use Rattle.std.specs.Prelude.{◌≡◌};
-ghost use Rattle.kc_text.specs.Definitions.{assignment_in, definition_of};
+ghost use Rattle.kc_text.specs.Bytes.{behind_blanks};
+ghost use Rattle.kc_text.specs.Definitions.{assignment_in, definition_of, may_assign};
 
 use crate::bytes::{behind, behind_blanks, name_len, trimmed};
 use crate::text::TextRef;
@@ -23,6 +24,13 @@ pub(crate) struct Definition<'a> {
     pub(crate) name: TextRef<'a>,
     pub(crate) assignment: Assignment,
     pub(crate) value: TextRef<'a>,
+}
+
+/// Whether a text after a name may give the name a value: after blanks it begins as one of `=`, `:=` and `+=`.
+pub(crate) fn may_assign(text: &str) -> bool
+    ensures { result ≡ may_assign (behind_blanks text.now) }
+{
+    matches!(behind_blanks(text).as_bytes(), [b'=' | b':' | b'+', ..])
 }
 
 /// The definition that a line makes: blanks, a name, blanks, one of `=`, `:=` and `+=`, and the value, which has

@@ -1,7 +1,9 @@
 //! Tokens that stand in a line as they are, and so take no memory.
 
-ghost use Rattle.std.specs.Prelude.{◌≡◌, ◌==◌, ◌<◌, ◌≤◌, [], false, true, length, slice_index, IfSome};
-ghost use Rattle.kc_text.specs.Bytes.{is_blank};
+ghost use Rattle.std.specs.Prelude.{◌≡◌, ◌==◌, ◌<◌, ◌≤◌, [], false, true, length, slice_index, drop, IfSome, None};
+ghost use Rattle.std.specs.List.{prefix_len};
+ghost use Rattle.kc_text.specs.Bytes.{behind_blanks, is_blank, is_word};
+ghost use Rattle.kc_text.specs.Definitions.{definition_of, may_assign};
 ghost use Rattle.kc_text.specs.Expansion.{Environment, Names};
 ghost use Rattle.kc_text.specs.Lexing.{begins_word, in_quotes, is_quote, lexed};
 ghost use Rattle.kc_text.specs.Tokens.{before, line_tokens, tokens_of};
@@ -17,6 +19,7 @@ use crate::text::TextRef;
 fn word(text: &str) -> Option<(Token<'_>, &str)>
     requires begins { begins_word text.now ≡ true }
     ensures shows { IfSome result (λ found. (names : Names) (outside : Environment) → line_tokens names outside text.now ≡ before found.0 (line_tokens names outside found.1.now)) }
+    ensures rest { IfSome result (λ found. found.1.now ≡ drop (prefix_len is_word text.now) text.now) }
     ensures shorter { IfSome result (λ found. length found.1.now < length text.now) }
 {
     match plain_word(text) {
@@ -55,6 +58,7 @@ fn sign(text: &str) -> Option<(Token<'_>, &str)>
 /// backslashes. Most do.
 pub(crate) fn plain_token(line: &str) -> Option<(Token<'_>, &str)>
     ensures shows { IfSome result (λ found. (names : Names) (outside : Environment) → line_tokens names outside line.now ≡ before found.0 (line_tokens names outside found.1.now)) }
+    ensures defines { IfSome result (λ found. may_assign (behind_blanks found.1.now) ≡ false → definition_of line.now ≡ None) }
     ensures shorter { IfSome result (λ found. length found.1.now < length line.now) }
 {
     let text = skip_blanks(line);

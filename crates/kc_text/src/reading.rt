@@ -1,20 +1,20 @@
 //! Files that are read line by line, each `source` line with the file that it names in its place.
 
 ghost use Rattle.std.specs.Prelude.{◌≡◌, ◌≤◌, length, false, true, IfOk, IfSome, OnOk, MatchOption, None, Some, Ok};
-ghost use Rattle.kc_text.specs.Faults.{GivesAfter, GivesBy, ReadsBy};
+ghost use Rattle.kc_text.specs.Faults.{GivesAfter, GivesBy};
 ghost use Rattle.kc_text.specs.Definitions.{defined};
-ghost use Rattle.kc_text.specs.Expansion.{is_among, names_in, texts_in, then_on};
+ghost use Rattle.kc_text.specs.Expansion.{is_among, names_in, then_on};
 ghost use Rattle.kc_text.specs.Help.{is_help};
 ghost use Rattle.kc_text.specs.Items.{ends_in_backslash};
 ghost use Rattle.kc_text.specs.declared.front.Start.TheVariants.{Silent};
-ghost use Rattle.kc_text.specs.Tokens.{line_tokens};
+ghost use Rattle.kc_text.specs.Tokens.{ahead, line_tokens};
 ghost use Rattle.kc_text.specs.Reading.{at_place, file_read, item_read, logical_lines_of, source_path, with_names};
 ghost use Rattle.kc_text.specs.Scanning.{item_of, joined_text, names_of, outside_of, place_of, placing, state_of};
 
 use crate::defining::define;
 use crate::definition::{Definition, definition_of};
 use crate::expansion::Scope;
-use crate::fault::{LineFault, TextFault, TextProblem};
+use crate::fault::{TextFault, TextProblem};
 use crate::front::{Front, Start};
 use crate::items::{Item, Joined, ends_in_backslash, first_item};
 use crate::line::{Line, LineTokens, PlacedFile, Token};
@@ -22,7 +22,7 @@ use crate::place::Place;
 use crate::sources::{MAX_BYTES, Sources};
 use crate::state::State;
 use crate::text::TextRef;
-use crate::tokens::tokens;
+use crate::tokens::{Begun, begin, tokens};
 use crate::variables::Variables;
 use crate::vars::Vars;
 use bumpalo::Bump;
@@ -54,22 +54,13 @@ pub(crate) struct Reader<'a> {
     pub(crate) vars: &'a Vars,
 }
 
-/// The tokens of an item. The arena keeps them, and a text that was joined.
-fn item_tokens<'a>(
-    scope: Scope<'_>,
-    arena: &'a Bump,
-    gathered: &mut Vec<Token<'a>, &'a Bump>,
-    text: &Joined<'a>,
-) -> Result<LineTokens<'a>, LineFault>
-    requires { length (joined_text text.now) ≤ 65536 }
-    ensures { ReadsBy (λ v. v) result (line_tokens (names_in scope.entry.variables.now) (texts_in scope.entry.outside.now) (joined_text text.now)) }
+/// The text of an item, which the arena keeps where lines were joined.
+fn kept_text<'a>(arena: &'a Bump, text: Joined<'a>) -> Result<&'a str, AllocError>
+    ensures { IfOk result (λ line. line.now ≡ joined_text text.entry) }
 {
     match text {
-        Joined::One(line) => tokens(scope, arena, gathered, line),
-        Joined::Many(text) => {
-            let line = arena.try_alloc_str(text.as_str())?;
-            tokens(scope, arena, gathered, line)
-        }
+        Joined::One(line) => Ok(line),
+        Joined::Many(text) => Ok(arena.try_alloc_str(text.as_str())?),
     }
 }
 
@@ -160,10 +151,14 @@ fn read_item<'a>(
         let tokens = state.help.of(text.as_str());
         return Ok(state.push_statement(reader.arena, place, tokens, help)?);
     }
-    if let Some(definition) = definition_of(text.as_str()) {
-        return read_definition(reader, place, &definition, state);
+    let line = kept_text(reader.arena, text)?;
+    let begun = begin(&mut state.gathered, line)?;
+    if begun.may_define {
+        if let Some(definition) = definition_of(line) {
+            return read_definition(reader, place, &definition, state);
+        }
     }
-    let tokens = read_tokens(reader, place, &text, &state.variables, &mut state.gathered)?;
+    let tokens = read_tokens(reader, place, begun, &state.variables, &mut state.gathered)?;
     match source_path(tokens.as_slice()) {
         Some(wanted) => put_in_place(reader, around, place, wanted, state),
         None => Ok(state.push_statement(reader.arena, place, tokens, None)?),
@@ -185,23 +180,23 @@ fn read_definition<'a>(
     }
 }
 
-/// The tokens of the text of an item at a place.
+/// The tokens of a line at a place.
 fn read_tokens<'a>(
     reader: Reader<'a>,
     place: Place<'a>,
-    text: &Joined<'a>,
+    begun: Begun<'a>,
     variables: &Variables,
     gathered: &mut Vec<Token<'a>, &'a Bump>,
 ) -> Result<LineTokens<'a>, TextFault>
-    requires { length (joined_text text.now) ≤ 65536 }
-    ensures { GivesBy (λ v. v) result (at_place (place_of place.entry) (line_tokens (names_in variables.now) (outside_of reader.entry) (joined_text text.now))) }
+    requires shows { line_tokens (names_in variables.now) (outside_of reader) begun.line.now ≡ ahead gathered.old.items (line_tokens (names_in variables.now) (outside_of reader) begun.rest.now) }
+    ensures { GivesBy (λ v. v) result (at_place (place_of place.entry) (line_tokens (names_in variables.now) (outside_of reader.entry) begun.entry.line.now)) }
 {
     let scope = Scope {
         alloc: reader.alloc,
         variables,
         outside: reader.vars,
     };
-    match item_tokens(scope, reader.arena, gathered, text) {
+    match tokens(scope, reader.arena, gathered, begun) {
         Ok(tokens) => Ok(tokens),
         Err(fault) => Err(place.fault(reader.alloc, fault)),
     }

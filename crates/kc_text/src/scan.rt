@@ -1,7 +1,8 @@
 //! What stands in a line, from left to right, before references are followed.
 
 ghost use Rattle.std.specs.Prelude.{◌≡◌, ◌==◌, true, false, ◌++◌, ◌<◌, ◌≤◌, ◌∷◌, List, [], length, drop, slice_index, IfOk, IfNone, IfSome};
-ghost use Rattle.kc_text.specs.Bytes.{begins_with, is_blank};
+ghost use Rattle.std.specs.List.{prefix_len};
+ghost use Rattle.kc_text.specs.Bytes.{begins_with, behind_blanks, is_blank, is_word};
 ghost use Rattle.kc_text.specs.Lexing.{begins_word, is_quote, in_word, between, sign_step, on, stop, operator as an_operator, word as a_word, not_allowed, lexed, raw_tokens};
 ghost use Rattle.kc_text.specs.References.{Piece as SpecPiece};
 ghost use Rattle.kc_text.specs.Scanning.{bytes_of, piece_of, raw_of};
@@ -32,6 +33,7 @@ pub(crate) enum RawToken<'a> {
 
 /// The text without the blanks before its first token.
 pub(crate) fn skip_blanks(text: &str) -> &str
+    ensures value { result.now ≡ behind_blanks text.now }
     ensures same { raw_tokens result.now ≡ raw_tokens text.now }
     ensures first { 0 < length result.now → is_blank (slice_index result.now 0) ≡ false }
     ensures within { length result.now ≤ length text.now }
@@ -60,6 +62,7 @@ fn begins_dollar(text: &str) -> bool
 pub(crate) fn plain_word(text: &str) -> Option<(&str, &str)>
     requires begins { begins_word text.now ≡ true }
     ensures lexes { IfSome result (λ found. raw_tokens text.now ≡ a_word (bytes_of found.0.now) ∷ raw_tokens found.1.now) }
+    ensures rest { IfSome result (λ found. found.1.now ≡ drop (prefix_len is_word text.now) text.now) }
     ensures shorter { IfSome result (λ found. length found.1.now < length text.now) }
 {
     let (word, rest) = text.split_at(word_len(text));

@@ -1,14 +1,16 @@
 //! The tokens of a line.
 
-ghost use Rattle.std.specs.Prelude.{◌≡◌, ◌<◌, List, [], length, Err, Ok, IfErr, IfNone, IfOk, IfSome};
+ghost use Rattle.std.specs.Prelude.{◌≡◌, ◌<◌, List, [], false, length, None, Err, Ok, IfErr, IfNone, IfOk, IfSome};
 ghost use Rattle.std.specs.List.{list_any};
-ghost use Rattle.kc_text.specs.Expansion.{names_in, texts_in};
+ghost use Rattle.kc_text.specs.Definitions.{definition_of};
+ghost use Rattle.kc_text.specs.Expansion.{Environment, Names, names_in, texts_in};
 ghost use Rattle.kc_text.specs.Faults.{ReadsBy};
-ghost use Rattle.kc_text.specs.Tokens.{before, is_reference, line_tokens, token_of};
+ghost use Rattle.kc_text.specs.Tokens.{ahead, before, is_reference, line_tokens, token_of};
 ghost use Rattle.kc_text.specs.Lexing.{word as a_word};
 ghost use Rattle.kc_text.specs.declared.line.Token.{Token};
 ghost use Rattle.kc_text.specs.Scanning.{piece_of, pieces_of, raw_of};
 
+use crate::definition::may_assign;
 use crate::expansion::{Scope, expanded_text, plain_text};
 use crate::fault::{LineFault, TextProblem};
 use crate::line::{LineTokens, Token};
@@ -104,18 +106,53 @@ fn first_token<'a>(
     }
 }
 
+/// A line of which the first token was gathered, where that stands in the line as it is.
+#[derive(Clone, Copy)]
+pub(crate) struct Begun<'a> {
+    pub(crate) line: &'a str,
+    /// The line after that token, or all of it.
+    pub(crate) rest: &'a str,
+    /// Whether the line may define a variable.
+    pub(crate) may_define: bool,
+}
+
+/// Gathers the first token of a line, where it stands there as it is.
+pub(crate) fn begin<'a>(
+    gathered: &mut Vec<Token<'a>, &'a Bump>,
+    line: &'a str,
+) -> Result<Begun<'a>, AllocError>
+    ensures line { IfOk result (λ b. b.line.now ≡ line.now) }
+    ensures shows { IfOk result (λ b. (names : Names) (outside : Environment) → line_tokens names outside line.now ≡ ahead gathered.new.items (line_tokens names outside b.rest.now)) }
+    ensures defines { IfOk result (λ b. b.may_define ≡ false → definition_of line.now ≡ None) }
+{
+    gathered.clear();
+    let Some((first, rest)) = plain_token(line) else {
+        return Ok(Begun {
+            line,
+            rest: line,
+            may_define: true,
+        });
+    };
+    gathered.push(first)?;
+    Ok(Begun {
+        line,
+        rest,
+        may_define: may_assign(rest),
+    })
+}
+
 /// The tokens of a line, which the arena keeps, or its first fault from the left. They are gathered in a vector that
 /// serves line after line, so the arena has no room for more of them than there are.
 pub(crate) fn tokens<'a>(
     scope: Scope<'_>,
     arena: &'a Bump,
     gathered: &mut Vec<Token<'a>, &'a Bump>,
-    line: &'a str,
+    begun: Begun<'a>,
 ) -> Result<LineTokens<'a>, LineFault>
-    ensures { ReadsBy (λ v. v) result (line_tokens (names_in scope.entry.variables.now) (texts_in scope.entry.outside.now) line.now) }
+    requires shows { line_tokens (names_in scope.variables.now) (texts_in scope.outside.now) begun.line.now ≡ ahead gathered.old.items (line_tokens (names_in scope.variables.now) (texts_in scope.outside.now) begun.rest.now) }
+    ensures { ReadsBy (λ v. v) result (line_tokens (names_in scope.entry.variables.now) (texts_in scope.entry.outside.now) begun.entry.line.now) }
 {
-    gathered.clear();
-    let mut rest = line;
+    let mut rest = begun.rest;
     while let Some((token, after)) = first_token(scope, arena, rest)? {
         gathered.push(token)?;
         rest = after;

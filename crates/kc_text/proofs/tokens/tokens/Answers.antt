@@ -2,15 +2,15 @@ use Rattle.std.proofs.Common.{List, ◌++◌, Ok, ap, sym, ◌∙◌, rules}
 use Rattle.std.proofs.lemmas.Result.{err_from_is_err_and}
 use Rattle.kc_text.specs.declared.line.Token.{Token}
 use Rattle.kc_text.specs.Expansion.{names_in, texts_in}
-use Rattle.kc_text.specs.Tokens.{line_tokens}
-use Rattle.kc_text.proofs.TokenLemmas.{ahead, ahead-none, ahead-push, fault_ahead, shows_some, shows_none}
+use Rattle.kc_text.specs.Tokens.{ahead, line_tokens}
+use Rattle.kc_text.proofs.TokenLemmas.{ahead-none, ahead-push, fault_ahead, shows_some, shows_none}
 use Rattle.kc_text.proofs.tokens.tokens.Goals as goal
 
 pub returns-in_err-token : goal.returns-in_err-token
 returns-in_err-token c =
     let found = line_tokens (names_in c.args.scope.variables.now) (texts_in c.args.scope.outside.now) in
     let p = err_from_is_err_and c.from_residual.result c.from_residual.ensures.1 in
-    rw (p.1, p.2) (fault_ahead c.in_err-token.field-0.0 c.loop-token.gathered.items (found c.args.line.now) (found c.loop-token.rest.now) c.loop-token.invariant.found c.in_err-token.ensures.fault)
+    rw (p.1, p.2) (fault_ahead c.in_err-token.field-0.0 c.loop-token.gathered.items (found c.args.begun.line.now) (found c.loop-token.rest.now) c.loop-token.invariant.found c.in_err-token.ensures.fault)
 
 pub loop-token-preserved : goal.loop-token-preserved
 loop-token-preserved c =

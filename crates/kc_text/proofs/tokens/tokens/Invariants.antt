@@ -2,8 +2,7 @@ use Rattle.std.proofs.Common.{◌≡◌, length}
 use denote.Text.{Utf8}
 use denote.Shadow.{shadow}
 use Rattle.kc_text.specs.Expansion.{names_in, texts_in}
-use Rattle.kc_text.specs.Tokens.{line_tokens}
-use Rattle.kc_text.proofs.TokenLemmas.{ahead}
+use Rattle.kc_text.specs.Tokens.{ahead, line_tokens}
 use Rattle.kc_text.proofs.tokens.tokens.Given as goal
 
 -- the tokens so far stand before those of the rest
@@ -12,7 +11,7 @@ invariant-loop-token l =
     let found = line_tokens (names_in l.scope.variables.now) (texts_in l.scope.outside.now) in
     record {
       utf8 : shadow (Utf8 l.rest);
-      found : found l.line ≡ ahead l.gathered.items (found l.rest);
+      found : found l.begun.line.now ≡ ahead l.gathered.items (found l.rest);
     }
 
 abbrev pub decreases-loop-token : goal.decreases-loop-token
