@@ -4,13 +4,13 @@ use Rattle.std.specs.BTreeMap.{BTreeMap, IsOrdered, get_by_text, insert_entry}
 use Rattle.std.specs.Cmp.Lexicographic.{slice_cmp}
 use Rattle.std.specs.List.{sum_by, AllByRecursion}
 use Rattle.std.specs.List.Sorted.{IsStrictlySortedBy}
-use Rattle.std.specs.Map.{lookup, keys_of, values_of}
+use Rattle.std.specs.Map.{lookup, remove_entry, keys_of, values_of}
 use Rattle.std.specs.Ordering.{nat_cmp, is_eq}
 use Rattle.std.specs.String.{string_cmp, string_cmp_total}
 use Rattle.std.specs.declared.alloc.Global.{Global}
 use Rattle.std.specs.declared.cmp.Ordering.TheVariants.{Less}
 use Rattle.std.proofs.lemmas.List.Sums.{sum_by-cons}
-use Rattle.std.proofs.lemmas.Map.Entries.{sum_by-insert_entry}
+use Rattle.std.proofs.lemmas.Map.Entries.{sum_by-insert_entry, sum_by-remove_entry}
 use Rattle.std.proofs.lemmas.Map.Text.{is_eq-slice_cmp}
 use Rattle.std.proofs.lemmas.Slice.Eq.{bytes_eq-Decides}
 use Rattle.kc_text.specs.FileList.{file_of, file_list, bytes_in, IsCounted}
@@ -72,3 +72,7 @@ IsCounted-put path m n k v bytes ascend is_path puts ordered counted within =
     let put : bytes_in n ≡ sum_by text_len (values_of (insert_entry string_cmp m.entries k v)) = ap (λ es. sum_by text_len (values_of es)) puts in
     let same : len_of (get_by_text m (string_bytes k)) ≡ len_of (get_by_text m path) = ap (λ bs. len_of (get_by_text m bs)) is_path in
     (omega (arith, before, after, put, same, counted), within, ordered)
+
+-- the bytes of a map that an entry was taken out of
+pub bytes_in-without : (path : List ℕ) (m n : BTreeMap Text Text) → n.entries ≡ remove_entry (is_at_path path) m.entries → bytes_in n + len_of (get_by_text m path) ≡ bytes_in m
+bytes_in-without path m n removed = ap (λ es. sum_by text_len (values_of es) + len_of (get_by_text m path)) removed ∙ sum_by-remove_entry text_len (is_at_path path) m.entries

@@ -5,13 +5,13 @@ use Rattle.std.specs.Cmp.Lexicographic.{slice_cmp}
 use Rattle.std.specs.Ordering.{nat_cmp, is_eq, match_ordering}
 use Rattle.std.specs.declared.cmp.Ordering.TheVariants.{Less, Equal, Greater}
 use Rattle.std.specs.declared.alloc.Global.{Global}
-use Rattle.std.specs.Map.{lookup, update}
+use Rattle.std.specs.Map.{lookup, remove_entry, update}
 use Rattle.std.specs.String.{string_cmp}
 use Rattle.std.proofs.lemmas.List.{length-map}
 use Rattle.std.proofs.lemmas.List.Sums.{sum_by-cons}
 use Rattle.std.proofs.lemmas.Map.Text.{is_eq-slice_cmp}
 use Rattle.kc_text.specs.FileList.{File, file_of, file_list}
-use Rattle.kc_text.specs.Sources.{text_of, count_with, other_bytes, put, keeps_limits, added}
+use Rattle.kc_text.specs.Sources.{text_of, count_with, other_bytes, put, keeps_limits, added, without}
 use Rattle.kc_text.specs.declared.fault.TextProblem.TheVariants.{Limit}
 use Rattle.kc_text.specs.declared.fault.TextFault.TheVariants.{At}
 
@@ -73,3 +73,27 @@ pub added-ok : (path text : List ℕ) (files after : List File) → count_with p
 added-ok path text files after count bytes e =
     let fits : keeps_limits path text files ≡ true = rw (le-leb (count_with path files) 4096 count, le-leb (other_bytes path files + length text) 16777216 bytes) in
     ap (λ b. if b then Ok (put path text files) else Err (At Limit path 0)) fits ∙ ap Ok (sym e)
+
+-- an entry goes with its file
+without-entries : (path : List ℕ) (es : List Entry) → map file_of (remove_entry (λ k. is_eq (slice_cmp nat_cmp path (string_bytes k))) es) ≡ without path (map file_of es)
+without-entries path [] = refl
+without-entries path (e ∷ es) =
+    rw (sym (is_eq-slice_cmp path (string_bytes e.0))) (
+    elim (is_eq (slice_cmp nat_cmp path (string_bytes e.0))) as (λ b. map file_of (cond b es (e ∷ remove_entry (λ k. is_eq (slice_cmp nat_cmp path (string_bytes k))) es)) ≡ cond b (map file_of es) (file_of e ∷ without path (map file_of es))) [
+      | true ↦ refl
+      | false ↦ ap (λ fs. file_of e ∷ fs) (without-entries path es)
+    ])
+
+-- the files after an entry was taken out
+pub without-file_list : (path : List ℕ) (m n : BTreeMap (String Global) (String Global)) → n.entries ≡ remove_entry (λ k. is_eq (slice_cmp nat_cmp path (string_bytes k))) m.entries → file_list n ≡ without path (file_list m)
+without-file_list path m n e = ap (map file_of) e ∙ without-entries path m.entries
+
+-- a look-up after a text was taken out
+pub text_of-removed : (path : List ℕ) (m n : BTreeMap (String Global) (String Global)) (q : List ℕ)
+    → get_by_text n q ≡ update bytes_eq (get_by_text m) path None q → text_of q (file_list n) ≡ (if bytes_eq path q then None else text_of q (file_list m))
+text_of-removed path m n q h =
+    text_of-file_list q n ∙ ap (option_map string_bytes) h
+    ∙ elim (bytes_eq path q) as (λ b. option_map string_bytes (cond b None (get_by_text m q)) ≡ cond b None (text_of q (file_list m))) [
+      | true ↦ refl
+      | false ↦ sym (text_of-file_list q m)
+    ]

@@ -2,7 +2,7 @@
 use Rattle.std.specs.Prelude.{ℕ, ◌+◌, List, length, if◌then◌else◌, Bool, ◌&&◌, nat_le, Option, Result, Ok, Err, is_some}
 use Rattle.std.specs.List.{sum_by}
 use Rattle.std.specs.Str.{bytes_eq}
-use Rattle.std.specs.Map.{lookup}
+use Rattle.std.specs.Map.{lookup, remove_entry}
 use Rattle.std.specs.BTreeMap.{insert_entry}
 use Rattle.std.specs.Cmp.Lexicographic.{slice_cmp}
 use Rattle.std.specs.Ordering.{nat_cmp}
@@ -34,3 +34,7 @@ keeps_limits path text files = nat_le (count_with path files) 4096 && nat_le (ot
 -- the files after a text was added
 abbrev pub added : List ℕ → List ℕ → List File → Result (List File) TextFault
 added path text files = if keeps_limits path text files then Ok (put path text files) else Err (At Limit path 0)
+
+-- the files but that of a path
+abbrev pub without : List ℕ → List File → List File
+without path files = remove_entry (bytes_eq path) files

@@ -4,7 +4,7 @@ ghost use Rattle.std.specs.Prelude.{◌≡◌, ◌≤◌, ℕ, List, [], length,
 ghost use Rattle.std.specs.Str.{bytes_eq};
 ghost use Rattle.kc_text.specs.FileList.{file_list};
 ghost use Rattle.kc_text.specs.Faults.{GivesAfter};
-ghost use Rattle.kc_text.specs.Sources.{added, count_with, other_bytes, text_of};
+ghost use Rattle.kc_text.specs.Sources.{added, count_with, other_bytes, text_of, without};
 
 use crate::fault::{TextFault, TextProblem};
 use crate::text::Text;
@@ -116,5 +116,24 @@ impl Sources {
     {
         let (path, text) = self.files.get_key_value(path)?;
         Some((path.as_str(), text.as_str()))
+    }
+
+    /// The text of the file of a path.
+    pub fn text(&self, path: &str) -> Option<&str>
+        ensures { MatchOption result (text_of path.now self.now ≡ None) (λ text. text_of path.now self.now ≡ Some text.now) }
+    {
+        let (_, text) = self.file(path)?;
+        Some(text)
+    }
+
+    /// Takes the file of a path out, and gives its text. Where there is none, all files stay.
+    pub fn take(&mut self, path: &str) -> Option<Text>
+        ensures text { result ≡ text_of path.now self.old }
+        ensures files { self.new ≡ without path.now self.old }
+        ensures texts { (q : List ℕ) → text_of q self.new ≡ (if bytes_eq path.now q then None else text_of q self.old) }
+    {
+        let text = self.files.remove(path)?;
+        self.bytes -= text.len();
+        Some(Text::new(text))
     }
 }
