@@ -123,3 +123,14 @@ module _ (names : Names) (outside : Environment) (name : List ℕ) (p : Progress
       followed_recursive (64 - length around) (64 - length after) (names_of around) one new
       ∙ ap (λ ns. expanded (followed names outside (64 - length after) ns) (value_pieces text) (counted p)) (sym (ap names_of behind ∙ names_of-push around pushed ∙ ap (λ q. names_of around ++ q ∷ []) same))
       ∙ ap (λ ps. expanded (followed_inside names outside after) ps (counted p)) (sym e)
+
+  -- and holds no reference
+  pub followed_plain : (n more : ℕ) → n ≡ suc more → value_pieces text ≡ map byte text → followed names outside n [] name p ≡ put text (counted p)
+  followed_plain n more one plain =
+      let follow = followed names outside more (name ∷ []) in
+      followed_recursive n more [] one refl ∙ ap (λ ps. expanded follow ps (counted p)) (plain ∙ sym (append-nil (map byte text))) ∙ expanded-bytes follow text [] (counted p)
+      ∙ after (put text (counted p))
+    where
+      after : (r : Result Progress TextProblem) → then_on r (λ q. Ok q) ≡ r
+      after (Ok q) = refl
+      after (Err e) = refl

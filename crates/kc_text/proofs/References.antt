@@ -38,6 +38,17 @@ value_pieces-run (b ∷ bs) =
           ∙ ap (behind_run (b ∷ bs)) (sym (prefix_len-yes is_no_dollar b bs (ap not e)))
     ] refl
 
+-- a text without a dollar stands for itself
+pub value_pieces-plain : (bs : List ℕ) → prefix_len is_no_dollar bs ≡ length bs → value_pieces bs ≡ bytes_of bs
+value_pieces-plain [] all = refl
+value_pieces-plain (b ∷ bs) all =
+    elim (eqb b 36) as (λ v. eqb b 36 ≡ v → value_pieces (b ∷ bs) ≡ bytes_of (b ∷ bs)) [
+      | true ↦ λ e. absurd (omega (arith, all, prefix_len-no is_no_dollar b bs (ap not e)))
+      | false ↦ λ e.
+          ap (λ v. value_pieces_by v b bs) e
+          ∙ ap (λ ps. byte b ∷ ps) (value_pieces-plain bs (omega (arith, all, prefix_len-yes is_no_dollar b bs (ap not e))))
+    ] refl
+
 abbrev after_value_dollar : Option (List ℕ) → List ℕ → List Piece
 after_value_dollar found bs = elim found [
   | Some name ↦ reference name ∷ value_pieces_from (reference_len name) bs

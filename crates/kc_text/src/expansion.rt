@@ -1,13 +1,13 @@
 //! What references stand for.
 
-ghost use Rattle.std.specs.Prelude.{◌≡◌, ◌≤◌, ◌-◌, length, nat_le, Ok, OnOk};
+ghost use Rattle.std.specs.Prelude.{◌≡◌, ◌≤◌, ◌-◌, [], length, nat_le, unwrap_or, Ok, IfSome, OnOk};
 ghost use Rattle.std.specs.String.{string_bytes};
 ghost use Rattle.kc_text.specs.Faults.{ReadsBy, ReadsAfter};
-ghost use Rattle.kc_text.specs.Expansion.{expanded, expansion, followed, is_among, names_in, put, start, texts_in, then_on};
+ghost use Rattle.kc_text.specs.Expansion.{counted, expanded, expansion, followed, is_among, names_in, put, start, texts_in, then_on};
 ghost use Rattle.kc_text.specs.Scanning.{names_of, pieces_of, progress_of};
 
 use crate::fault::{LineFault, TextProblem};
-use crate::reference::{Piece, value_pieces};
+use crate::reference::{Piece, has_no_dollar, value_pieces};
 use crate::variables::{Value, Variables};
 use crate::vars::Vars;
 use std::alloc::Global;
@@ -117,6 +117,13 @@ fn is_among(name: &str, others: &[&str]) -> bool
     others.iter().any(|other| name == *other)
 }
 
+/// The text that was passed in for a name that no line defines.
+fn outside_text<'a>(scope: Scope<'a>, name: &'a str) -> &'a str
+    ensures { result.now ≡ unwrap_or (texts_in scope.entry.outside.now name.entry.now) [] }
+{
+    scope.outside.get(name).unwrap_or("")
+}
+
 /// Puts the text of a name behind a text. The names `around` are being expanded round it.
 #[cycle(follow)]
 fn follow<'a>(
@@ -146,7 +153,7 @@ fn follow<'a>(
             Ok(())
         }
         Some(Value::Simple(text)) => out.put(text.as_str()),
-        None => out.put(scope.outside.get(name).unwrap_or("")),
+        None => out.put(outside_text(scope, name)),
     }
 }
 
@@ -157,6 +164,33 @@ pub(crate) fn expanded_text<'a>(scope: Scope<'a>, pieces: &[Piece<'a>]) -> Resul
     let mut out = Expansion::behind(scope.alloc, "");
     expand(scope, pieces, &mut out)?;
     Ok(out.text)
+}
+
+/// The text of parts, lent, where they are one reference to a text that holds none and keeps the limit.
+pub(crate) fn lent_text<'a>(scope: Scope<'a>, pieces: &[Piece<'a>]) -> Option<&'a str>
+    ensures { IfSome result (λ text. then_on (expansion (names_in scope.entry.variables.now) (texts_in scope.entry.outside.now) (pieces_of pieces.now) start) (λ p. Ok p.text) ≡ Ok text.now) }
+{
+    let [Piece::Reference(name)] = pieces else {
+        return None;
+    };
+    match plain_meaning(scope, name) {
+        Some(text) if is_short(text) => Some(text),
+        _ => None,
+    }
+}
+
+/// The text that a name stands for, lent, where it holds no reference.
+fn plain_meaning<'a>(scope: Scope<'a>, name: &'a str) -> Option<&'a str>
+    ensures { IfSome result (λ text. followed (names_in scope.entry.variables.now) (texts_in scope.entry.outside.now) 64 [] name.entry.now start ≡ put text.now (counted start)) }
+{
+    let Some(value) = scope.variables.get(name) else {
+        return Some(outside_text(scope, name));
+    };
+    match value {
+        Value::Recursive(text) if has_no_dollar(text.as_str()) => Some(text.as_str()),
+        Value::Recursive(_) => None,
+        Value::Simple(text) => Some(text.as_str()),
+    }
 }
 
 /// A text without references, as it is. Its limit is that of an expanded text.

@@ -11,6 +11,7 @@ mod help;
 mod help_text;
 mod help_tokens;
 mod items;
+mod kept;
 mod line;
 mod lines;
 mod physical;

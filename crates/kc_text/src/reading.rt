@@ -23,7 +23,6 @@ use crate::sources::{MAX_BYTES, Sources};
 use crate::state::State;
 use crate::text::TextRef;
 use crate::tokens::{Begun, begin, tokens};
-use crate::variables::Variables;
 use crate::vars::Vars;
 use bumpalo::Bump;
 use std::alloc::{AllocError, Global};
@@ -158,7 +157,7 @@ fn read_item<'a>(
             return read_definition(reader, place, &definition, state);
         }
     }
-    let tokens = read_tokens(reader, place, begun, &state.variables, &mut state.gathered)?;
+    let tokens = read_tokens(reader, place, begun, state)?;
     match source_path(tokens.as_slice()) {
         Some(wanted) => put_in_place(reader, around, place, wanted, state),
         None => Ok(state.push_statement(reader.arena, place, tokens, None)?),
@@ -185,18 +184,18 @@ fn read_tokens<'a>(
     reader: Reader<'a>,
     place: Place<'a>,
     begun: Begun<'a>,
-    variables: &Variables,
-    gathered: &mut Vec<Token<'a>, &'a Bump>,
+    state: &mut State<'a>,
 ) -> Result<LineTokens<'a>, TextFault>
-    requires shows { line_tokens (names_in variables.now) (outside_of reader) begun.line.now ≡ ahead gathered.old.items (line_tokens (names_in variables.now) (outside_of reader) begun.rest.now) }
-    ensures { GivesBy (λ v. v) result (at_place (place_of place.entry) (line_tokens (names_in variables.now) (outside_of reader.entry) begun.entry.line.now)) }
+    requires shows { line_tokens (state_of state.old).names (outside_of reader) begun.line.now ≡ ahead state.old.gathered.items (line_tokens (state_of state.old).names (outside_of reader) begun.rest.now) }
+    ensures reads { GivesBy (λ v. v) result (at_place (place_of place.entry) (line_tokens (state_of state.old).names (outside_of reader.entry) begun.entry.line.now)) }
+    ensures state { state_of state.new ≡ state_of state.old }
 {
     let scope = Scope {
         alloc: reader.alloc,
-        variables,
+        variables: &state.variables,
         outside: reader.vars,
     };
-    match tokens(scope, reader.arena, gathered, begun) {
+    match tokens(scope, &mut state.texts, &mut state.gathered, begun) {
         Ok(tokens) => Ok(tokens),
         Err(fault) => Err(place.fault(reader.alloc, fault)),
     }

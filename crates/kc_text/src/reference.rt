@@ -1,12 +1,13 @@
 //! References to variables, and the parts of a text between them.
 
-ghost use Rattle.std.specs.Prelude.{◌≡◌, ◌++◌, ◌<◌, ◌≤◌, [], drop, length, Some, None, MatchOption, IfOk, IfNone, IfSome};
+ghost use Rattle.std.specs.Prelude.{◌≡◌, ◌++◌, ◌<◌, ◌≤◌, [], drop, length, true, Some, None, MatchOption, IfOk, IfNone, IfSome};
 ghost use Rattle.std.specs.Char.{is_ascii_digit};
 ghost use Rattle.std.specs.List.{list_all, prefix_len};
 ghost use Rattle.kc_text.specs.References.{is_no_dollar, is_referable, reference_after_dollar, reference_len, value_pieces};
-ghost use Rattle.kc_text.specs.Scanning.{piece_of, pieces_of};
+ghost use Rattle.kc_text.specs.Scanning.{bytes_of, piece_of, pieces_of};
 
 use crate::bytes::{behind, name_len};
+use memchr::memchr;
 use std::alloc::{AllocError, Global};
 
 /// A part of a text.
@@ -59,10 +60,17 @@ fn plain_len(text: &str) -> usize
     ensures count { result ≡ prefix_len is_no_dollar text.now }
     ensures within { result ≤ length text.now }
 {
-    text.as_bytes()
-        .iter()
-        .take_while(|byte| **byte != b'$')
-        .count()
+    match memchr(b'$', text.as_bytes()) {
+        Some(len) => len,
+        None => text.len(),
+    }
+}
+
+/// Whether a text holds no dollar, and so no reference.
+pub(crate) fn has_no_dollar(text: &str) -> bool
+    ensures { result ≡ true → value_pieces text.now ≡ bytes_of text.now }
+{
+    plain_len(text) == text.len()
 }
 
 /// The parts of a variable's text.

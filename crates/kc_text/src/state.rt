@@ -6,6 +6,7 @@ ghost use Rattle.kc_text.specs.Scanning.{place_of, state_of};
 
 use crate::help_text::HelpText;
 use crate::help_tokens::HelpTokens;
+use crate::kept::KeptTexts;
 use crate::line::{Content, HelpLine, Line, LineTokens, Token};
 use crate::place::Place;
 use crate::variables::Variables;
@@ -20,6 +21,8 @@ const USUAL_LINE_BYTES: usize = 64;
 pub(crate) struct State<'a> {
     pub(crate) lines: Vec<Line<'a>>,
     pub(crate) variables: Variables,
+    /// Texts of tokens, in the arena.
+    pub(crate) texts: KeptTexts<'a>,
     /// Where the tokens of a line are gathered.
     pub(crate) gathered: Vec<Token<'a>, &'a Bump>,
     /// The tokens of `help` lines.
@@ -43,6 +46,7 @@ impl<'a> State<'a> {
         Ok(State {
             lines,
             variables: Variables::new(alloc),
+            texts: KeptTexts::new(alloc, arena),
             gathered: Vec::new(arena),
             help: HelpTokens::new(arena)?,
             followed: 0,

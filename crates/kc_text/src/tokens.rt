@@ -3,7 +3,7 @@
 ghost use Rattle.std.specs.Prelude.{◌≡◌, ◌<◌, List, [], false, length, None, Err, Ok, IfErr, IfNone, IfOk, IfSome};
 ghost use Rattle.std.specs.List.{list_any};
 ghost use Rattle.kc_text.specs.Definitions.{definition_of};
-ghost use Rattle.kc_text.specs.Expansion.{Environment, Names, names_in, texts_in};
+ghost use Rattle.kc_text.specs.Expansion.{Environment, Names, expansion, names_in, start, texts_in, then_on};
 ghost use Rattle.kc_text.specs.Faults.{ReadsBy};
 ghost use Rattle.kc_text.specs.Tokens.{ahead, before, is_reference, line_tokens, token_of};
 ghost use Rattle.kc_text.specs.Lexing.{word as a_word};
@@ -11,8 +11,9 @@ ghost use Rattle.kc_text.specs.declared.line.Token.{Token};
 ghost use Rattle.kc_text.specs.Scanning.{piece_of, pieces_of, raw_of};
 
 use crate::definition::may_assign;
-use crate::expansion::{Scope, expanded_text, plain_text};
+use crate::expansion::{Scope, expanded_text, lent_text, plain_text};
 use crate::fault::{LineFault, TextProblem};
+use crate::kept::KeptTexts;
 use crate::line::{LineTokens, Token};
 use crate::plain::plain_token;
 use crate::reference::Piece;
@@ -29,18 +30,30 @@ fn is_reference(piece: &Piece<'_>) -> bool
     matches!(piece, Piece::Reference(_))
 }
 
-/// A text that the arena keeps.
-fn kept<'a>(arena: &'a Bump, text: &str) -> Result<TextRef<'a>, AllocError>
-    ensures { IfOk result (λ t. t ≡ text.now) }
+/// The text of parts, kept.
+fn kept_text<'a>(
+    scope: Scope<'_>,
+    texts: &mut KeptTexts<'a>,
+    pieces: &[Piece<'_>],
+) -> Result<TextRef<'a>, LineFault>
+    ensures { ReadsBy (λ t. t) result (then_on (expansion (names_in scope.entry.variables.now) (texts_in scope.entry.outside.now) (pieces_of pieces.now) start) (λ p. Ok p.text)) }
 {
-    Ok(TextRef::new(arena.try_alloc_str(text)?))
+    if let Some(text) = lent_text(scope, pieces) {
+        return Ok(texts.keep(text)?);
+    }
+    let text = expanded_text(scope, pieces)?;
+    Ok(texts.keep(text.as_str())?)
 }
 
 /// The word of parts: one that holds a reference is never a keyword, whatever its text.
-fn word<'a>(scope: Scope<'_>, arena: &'a Bump, pieces: &[Piece<'_>]) -> Result<Token<'a>, LineFault>
+fn word<'a>(
+    scope: Scope<'_>,
+    texts: &mut KeptTexts<'a>,
+    pieces: &[Piece<'_>],
+) -> Result<Token<'a>, LineFault>
     ensures { ReadsBy (λ t. t) result (token_of (names_in scope.entry.variables.now) (texts_in scope.entry.outside.now) (a_word (pieces_of pieces.now))) }
 {
-    let text = kept(arena, expanded_text(scope, pieces)?.as_str())?;
+    let text = kept_text(scope, texts, pieces)?;
     if pieces.iter().any(is_reference) {
         return Ok(Token::Expanded(text));
     }
@@ -48,17 +61,20 @@ fn word<'a>(scope: Scope<'_>, arena: &'a Bump, pieces: &[Piece<'_>]) -> Result<T
 }
 
 /// The token that was found, or the fault in its place.
-fn token<'a>(scope: Scope<'_>, arena: &'a Bump, raw: RawToken<'a>) -> Result<Token<'a>, LineFault>
+fn token<'a>(
+    scope: Scope<'_>,
+    texts: &mut KeptTexts<'a>,
+    raw: RawToken<'a>,
+) -> Result<Token<'a>, LineFault>
     ensures { ReadsBy (λ t. t) result (token_of (names_in scope.entry.variables.now) (texts_in scope.entry.outside.now) (raw_of raw.entry)) }
 {
     match raw {
         RawToken::Word(text) => Ok(Token::Word(TextRef::new(plain_text(text)?))),
         RawToken::Quoted(text) => Ok(Token::Quoted(TextRef::new(plain_text(text)?))),
         RawToken::Operator(operator) => Ok(Token::Operator(operator)),
-        RawToken::Spliced(pieces) => word(scope, arena, pieces.as_slice()),
+        RawToken::Spliced(pieces) => word(scope, texts, pieces.as_slice()),
         RawToken::QuotedParts(pieces) => {
-            let text = expanded_text(scope, pieces.as_slice())?;
-            Ok(Token::Quoted(kept(arena, text.as_str())?))
+            Ok(Token::Quoted(kept_text(scope, texts, pieces.as_slice())?))
         }
         RawToken::Unclosed(pieces) => {
             let _ = expanded_text(scope, pieces.as_slice())?;
@@ -72,7 +88,7 @@ fn token<'a>(scope: Scope<'_>, arena: &'a Bump, raw: RawToken<'a>) -> Result<Tok
 /// place.
 fn any_token<'a>(
     scope: Scope<'_>,
-    arena: &'a Bump,
+    texts: &mut KeptTexts<'a>,
     line: &'a str,
 ) -> Result<Option<(Token<'a>, &'a str)>, LineFault>
     ensures none { IfOk result (λ found. IfNone found (line_tokens (names_in scope.entry.variables.now) (texts_in scope.entry.outside.now) line.now ≡ Ok [])) }
@@ -83,13 +99,13 @@ fn any_token<'a>(
     let Some((raw, after)) = next_token(scope.alloc, line)? else {
         return Ok(None);
     };
-    Ok(Some((token(scope, arena, raw)?, after)))
+    Ok(Some((token(scope, texts, raw)?, after)))
 }
 
 /// The first token of a line and the text after it, or the fault in its place.
 fn first_token<'a>(
     scope: Scope<'_>,
-    arena: &'a Bump,
+    texts: &mut KeptTexts<'a>,
     line: &'a str,
 ) -> Result<Option<(Token<'a>, &'a str)>, LineFault>
     ensures none { IfOk result (λ found. IfNone found (line_tokens (names_in scope.entry.variables.now) (texts_in scope.entry.outside.now) line.now ≡ Ok [])) }
@@ -102,7 +118,7 @@ fn first_token<'a>(
     }
     match plain_token(line) {
         Some(found) => Ok(Some(found)),
-        None => any_token(scope, arena, line),
+        None => any_token(scope, texts, line),
     }
 }
 
@@ -145,7 +161,7 @@ pub(crate) fn begin<'a>(
 /// serves line after line, so the arena has no room for more of them than there are.
 pub(crate) fn tokens<'a>(
     scope: Scope<'_>,
-    arena: &'a Bump,
+    texts: &mut KeptTexts<'a>,
     gathered: &mut Vec<Token<'a>, &'a Bump>,
     begun: Begun<'a>,
 ) -> Result<LineTokens<'a>, LineFault>
@@ -153,11 +169,11 @@ pub(crate) fn tokens<'a>(
     ensures { ReadsBy (λ v. v) result (line_tokens (names_in scope.entry.variables.now) (texts_in scope.entry.outside.now) begun.entry.line.now) }
 {
     let mut rest = begun.rest;
-    while let Some((token, after)) = first_token(scope, arena, rest)? {
+    while let Some((token, after)) = first_token(scope, texts, rest)? {
         gathered.push(token)?;
         rest = after;
     }
-    let mut kept = Vec::with_capacity(arena, gathered.len())?;
+    let mut kept = Vec::with_capacity(texts.arena(), gathered.len())?;
     kept.append(gathered)?;
     Ok(LineTokens::new(into_bump_slice(kept)))
 }

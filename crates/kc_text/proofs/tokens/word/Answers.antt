@@ -14,12 +14,12 @@ pub returns-then-any : goal.returns-then-any
 returns-then-any c =
     let any = any_from_yields_List (λ (part : Part). list_any is_reference (piece_of part)) _ _ _ c.any.ensures.ran (YieldsList-from_slice c.args.pieces.now cc) (λ x b q k. search (rules, tests)) in
     let text = c.in_ok-text.text in
-    word_is (names_in c.args.scope.variables.now) (texts_in c.args.scope.outside.now) (pieces_of c.args.pieces.now) (Ok text) (c.in_ok-expanded_text.ensures ∙ ap Ok (sym (c.in_ok-text.ensures ∙ c.as_str.ensures.value)))
+    word_is (names_in c.args.scope.variables.now) (texts_in c.args.scope.outside.now) (pieces_of c.args.pieces.now) (Ok text) c.in_ok-text.ensures
     ∙ ap (λ b. Ok (cond b (Expanded text) (Word text))) (sym (any_reference c.args.pieces.now) ∙ sym any ∙ c.if-any.true)
 
 pub returns : goal.returns
 returns c =
     let any = any_from_yields_List (λ (part : Part). list_any is_reference (piece_of part)) _ _ _ c.any.ensures.ran (YieldsList-from_slice c.args.pieces.now cc) (λ x b q k. search (rules, tests)) in
     let text = c.in_ok-text.text in
-    word_is (names_in c.args.scope.variables.now) (texts_in c.args.scope.outside.now) (pieces_of c.args.pieces.now) (Ok text) (c.in_ok-expanded_text.ensures ∙ ap Ok (sym (c.in_ok-text.ensures ∙ c.as_str.ensures.value)))
+    word_is (names_in c.args.scope.variables.now) (texts_in c.args.scope.outside.now) (pieces_of c.args.pieces.now) (Ok text) c.in_ok-text.ensures
     ∙ ap (λ b. Ok (cond b (Expanded text) (Word text))) (sym (any_reference c.args.pieces.now) ∙ sym any ∙ c.if-any.false)
