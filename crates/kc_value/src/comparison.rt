@@ -1,14 +1,12 @@
 //! Comparisons of terms.
 
 ghost use Rattle.std.specs.Prelude.{◌≡◌, Some, option_map};
-ghost use Rattle.std.specs.Cmp.Lexicographic.{slice_cmp};
-ghost use Rattle.std.specs.Ordering.{nat_cmp};
 ghost use Rattle.std.specs.Option.{option_or};
 ghost use Rattle.kc_statement.specs.declared.tri.Tri.TheVariants.{No};
 ghost use Rattle.kc_value.specs.declared.value.Value.TheVariants.{Tri as Level};
-ghost use Rattle.kc_value.specs.Assignment.{assignment_of, as_text, tri_letter};
+ghost use Rattle.kc_value.specs.Assignment.{assignment_of};
 ghost use Rattle.kc_value.specs.Numerals.{number_of_text};
-ghost use Rattle.kc_value.specs.ExprValue.{constant_of, tri_number, number_in_type, symbol_text, symbol_number, term_text, term_number, is_string_term, number_or_text_order, term_order, is_related, yes_if};
+ghost use Rattle.kc_value.specs.ExprValue.{constant_of, tri_number, number_in_type, symbol_text, symbol_number, term_text, term_number, is_string_term, text_order, term_order, is_related, yes_if};
 
 use crate::expr_value::value_of;
 use crate::node_values::NodeValues;
@@ -40,115 +38,84 @@ fn tri_number(tri: Tri) -> i128
     }
 }
 
-/// A term in a comparison.
-#[derive(Clone, Copy)]
-pub(crate) struct Operand<'a> {
-    text: &'a str,
-    /// What it counts, if it counts.
-    number: Option<i128>,
+/// What a text in quotes counts: the constant that it is, else the number that it spells, if any.
+fn number_of_quoted(text: &str) -> Option<i128>
+    ensures { result ≡ option_or (option_map tri_number (constant_of text.now)) (number_of_text text.now) }
+{
+    match constant_of(text) {
+        Some(tri) => Some(tri_number(tri)),
+        None => number_of_text(text),
+    }
 }
 
-impl<'a> Operand<'a> {
-    /// A constant, or the value of a symbol.
-    pub(crate) fn of_tri(tri: Tri) -> Operand<'static>
-        ensures text { result.text.now ≡ tri_letter tri }
-        ensures number { result.number ≡ Some (tri_number tri) }
-    {
-        Operand {
-            text: tri.letter(),
-            number: Some(tri_number(tri)),
-        }
+/// What the value of a symbol of a type counts, if it counts.
+fn number_in_type(kind: SymbolType, value: &Value) -> Option<i128>
+    ensures { result ≡ number_in_type kind value.now }
+{
+    match kind {
+        SymbolType::Bool | SymbolType::Tristate => Some(tri_number(value.as_tri())),
+        SymbolType::String => number_of_text(value.as_text()),
+        SymbolType::Int | SymbolType::Hex => numeral(kind, value.as_text()),
     }
+}
 
-    /// A text, which counts where it spells a number.
-    pub(crate) fn of_text(text: &'a str) -> Operand<'a>
-        ensures text { result.text.now ≡ text.now }
-        ensures number { result.number ≡ number_of_text text.now }
-    {
-        Operand {
-            text,
-            number: number_of_text(text),
-        }
+/// What a symbol of a type counts that has no value: it is n, which counts for a bool and a tristate.
+fn number_without_value(kind: SymbolType) -> Option<i128>
+    ensures { result ≡ number_in_type kind (Level No) }
+{
+    match kind {
+        SymbolType::Bool | SymbolType::Tristate => Some(tri_number(Tri::No)),
+        SymbolType::String | SymbolType::Int | SymbolType::Hex => None,
     }
+}
 
-    /// A text in quotes, which is a constant where it is that of one.
-    pub(crate) fn of_quoted(text: &'a str) -> Operand<'a>
-        ensures text { result.text.now ≡ text.now }
-        ensures number { result.number ≡ option_or (option_map tri_number (constant_of text.now)) (number_of_text text.now) }
-    {
-        match constant_of(text) {
-            Some(tri) => Operand {
-                text,
-                number: Some(tri_number(tri)),
-            },
-            None => Operand::of_text(text),
-        }
+/// What the value of a symbol counts, if it counts.
+fn symbol_number(tree: &Tree, env: &NodeValues, symbol: SymId) -> Option<i128>
+    ensures { result ≡ symbol_number tree.now (assignment_of tree.now env.now) symbol }
+{
+    let Some(found) = tree.symbols().get(symbol.0 as usize) else {
+        return Some(tri_number(Tri::No));
+    };
+    match value_of(tree, env, Node::Val(symbol)) {
+        Some(value) => number_in_type(found.kind(), value),
+        None => number_without_value(found.kind()),
     }
+}
 
-    /// The value of a symbol of a type.
-    fn of_value(kind: SymbolType, value: &'a Value) -> Operand<'a>
-        ensures text { result.text.now ≡ as_text value.now }
-        ensures number { result.number ≡ number_in_type kind value.now }
-    {
-        let text = value.as_text();
-        let number = match kind {
-            SymbolType::Bool | SymbolType::Tristate => Some(tri_number(value.as_tri())),
-            SymbolType::String => number_of_text(text),
-            SymbolType::Int | SymbolType::Hex => numeral(kind, text),
-        };
-        Operand { text, number }
+/// What a term counts, if it counts: a symbol by its value, and a word that names none as a text.
+fn term_number(tree: &Tree, env: &NodeValues, term: &Term) -> Option<i128>
+    ensures { result ≡ term_number tree.now (assignment_of tree.now env.now) term.now }
+{
+    match term {
+        Term::Tri(tri) => Some(tri_number(*tri)),
+        Term::Text(text) => number_of_quoted(text.as_str()),
+        Term::Symbol(symbol) => symbol_number(tree, env, *symbol),
+        Term::Undefined(name) => number_of_text(name.as_str()),
     }
+}
 
-    /// A symbol of a type that has no value: n, which counts for a bool and a tristate.
-    fn without_value(kind: SymbolType) -> Operand<'static>
-        ensures text { result.text.now ≡ as_text (Level No) }
-        ensures number { result.number ≡ number_in_type kind (Level No) }
-    {
-        match kind {
-            SymbolType::Bool | SymbolType::Tristate => Operand::of_tri(Tri::No),
-            SymbolType::String | SymbolType::Int | SymbolType::Hex => Operand {
-                text: Tri::No.letter(),
-                number: None,
-            },
-        }
+/// The text of a symbol: its value, n where it has none.
+fn symbol_text<'a>(tree: &Tree, env: &'a NodeValues, symbol: SymId) -> &'a str
+    ensures { result.now ≡ symbol_text tree.now (assignment_of tree.now env.now) symbol }
+{
+    if tree.symbols().get(symbol.0 as usize).is_none() {
+        return Tri::No.letter();
     }
-
-    /// The value of a symbol, n where it has none.
-    fn of_symbol(tree: &Tree, env: &'a NodeValues, symbol: SymId) -> Operand<'a>
-        ensures text { result.text.now ≡ symbol_text tree.now (assignment_of tree.now env.now) symbol }
-        ensures number { result.number ≡ symbol_number tree.now (assignment_of tree.now env.now) symbol }
-    {
-        let Some(found) = tree.symbols().get(symbol.0 as usize) else {
-            return Operand::of_tri(Tri::No);
-        };
-        match value_of(tree, env, Node::Val(symbol)) {
-            Some(value) => Operand::of_value(found.kind(), value),
-            None => Operand::without_value(found.kind()),
-        }
+    match value_of(tree, env, Node::Val(symbol)) {
+        Some(value) => value.as_text(),
+        None => Tri::No.letter(),
     }
+}
 
-    /// A term: a symbol stands for its value, and a word that names none for itself.
-    fn of_term(tree: &Tree, env: &'a NodeValues, term: &'a Term) -> Operand<'a>
-        ensures text { result.text.now ≡ term_text tree.now (assignment_of tree.now env.now) term.now }
-        ensures number { result.number ≡ term_number tree.now (assignment_of tree.now env.now) term.now }
-    {
-        match term {
-            Term::Tri(tri) => Operand::of_tri(*tri),
-            Term::Text(text) => Operand::of_quoted(text.as_str()),
-            Term::Symbol(symbol) => Operand::of_symbol(tree, env, *symbol),
-            Term::Undefined(name) => Operand::of_text(name.as_str()),
-        }
-    }
-
-    /// How two terms are ordered: as numbers where both count, else as texts, byte by byte.
-    pub(crate) fn order(self, other: Operand<'_>) -> Ordering
-        ensures { result ≡ number_or_text_order self.entry.number other.entry.number
-            (slice_cmp nat_cmp self.entry.text.now other.entry.text.now) }
-    {
-        match (self.number, other.number) {
-            (Some(left), Some(right)) => left.cmp(&right),
-            (Some(_), None) | (None, _) => self.text.cmp(other.text),
-        }
+/// The text of a term: a symbol stands for its value, and a word that names none for itself.
+pub(crate) fn term_text<'a>(tree: &Tree, env: &'a NodeValues, term: &'a Term) -> &'a str
+    ensures { result.now ≡ term_text tree.now (assignment_of tree.now env.now) term.now }
+{
+    match term {
+        Term::Tri(tri) => tri.letter(),
+        Term::Text(text) => text.as_str(),
+        Term::Symbol(symbol) => symbol_text(tree, env, *symbol),
+        Term::Undefined(name) => name.as_str(),
     }
 }
 
@@ -179,16 +146,25 @@ fn is_string(tree: &Tree, term: &Term) -> bool
     }
 }
 
-/// How two terms are ordered: two symbols of type string as texts, else as numbers where both count, else as texts.
+/// How the texts of two terms are ordered, byte by byte.
+fn text_order(tree: &Tree, env: &NodeValues, left: &Term, right: &Term) -> Ordering
+    ensures { result ≡ text_order tree.now (assignment_of tree.now env.now) left.now right.now }
+{
+    term_text(tree, env, left).cmp(term_text(tree, env, right))
+}
+
+/// How two terms are ordered: two symbols of type string as texts, else as numbers where both count, else as texts. A
+/// long text is not tried as a number where it is not to be compared as one.
 fn term_order(tree: &Tree, env: &NodeValues, operands: &Operands) -> Ordering
     ensures { result ≡ term_order tree.now (assignment_of tree.now env.now) operands.now.left operands.now.right }
 {
-    let left = Operand::of_term(tree, env, &operands.left);
-    let right = Operand::of_term(tree, env, &operands.right);
-    if is_string(tree, &operands.left) && is_string(tree, &operands.right) {
-        left.text.cmp(right.text)
-    } else {
-        left.order(right)
+    let (left, right) = (&operands.left, &operands.right);
+    if is_string(tree, left) && is_string(tree, right) {
+        return text_order(tree, env, left, right);
+    }
+    match (term_number(tree, env, left), term_number(tree, env, right)) {
+        (Some(first), Some(second)) => first.cmp(&second),
+        (Some(_), None) | (None, _) => text_order(tree, env, left, right),
     }
 }
 
