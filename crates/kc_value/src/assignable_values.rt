@@ -30,16 +30,6 @@ use crate::symbol_value::{LineValues, line_values, shown_tri};
 use kc_tree::{Node, SymId, Symbol, SymbolType, Tree, Tri, UserVal};
 use std::alloc::{AllocError, Global};
 
-/// Whether two values are the same.
-pub(crate) fn is_same(left: Tri, right: Tri) -> bool
-    ensures { result ≡ same_tri left right }
-{
-    match (left, right) {
-        (Tri::No, Tri::No) | (Tri::Module, Tri::Module) | (Tri::Yes, Tri::Yes) => true,
-        _ => false,
-    }
-}
-
 /// What a symbol of this visibility shows with a user value; `lines` is what its lines give.
 fn shown_with(lines: LineValues, visibility: Tri, value: Tri) -> Tri
     ensures { result ≡ in_type lines.has_modules (greatest (unwrap_or (user_part visibility (Some (TriVal value)))
@@ -56,10 +46,10 @@ fn is_shown(kind: SymbolType, with_no: Tri, with_module: Tri, with_yes: Tri, val
 {
     let is_module_shown = match kind {
         SymbolType::Bool => false,
-        SymbolType::Tristate => is_same(with_module, value),
+        SymbolType::Tristate => with_module == value,
         SymbolType::String | SymbolType::Int | SymbolType::Hex => return false,
     };
-    is_same(with_no, value) || is_module_shown || is_same(with_yes, value)
+    with_no == value || is_module_shown || with_yes == value
 }
 
 /// Appends a value where it is wanted.

@@ -4,18 +4,17 @@ ghost use Rattle.std.specs.Prelude.{◌≡◌, ◌↔◌, true, IfOk};
 ghost use Rattle.kc_tree.specs.Accepted.{IsAccepted};
 ghost use Rattle.kc_tree.specs.Nodes.{IsNodeOf};
 ghost use Rattle.kc_value.specs.Assignment.{assignment_of};
-ghost use Rattle.kc_value.specs.ChangedValue.{same_user_value, same_member, same_value, changed_value, ChangesAreJustEnough};
+ghost use Rattle.kc_value.specs.ChangedValue.{same_user_value, same_value, changed_value, ChangesAreJustEnough};
 ghost use Rattle.kc_value.specs.KnownConditions.{AreSharedBy};
 ghost use Rattle.kc_value.specs.Solution.{solution, AreSolved, IsOnlySolution};
 ghost use Rattle.kc_value.specs.UserValues.{UserValues};
 ghost use Rattle.kc_value.specs.Without.{value_without, IsOwned};
 
-use crate::assignable_values::is_same;
 use crate::node_values::NodeValues;
 use crate::shared_conditions::SharedConditions;
 use crate::value::{Value, copy_of};
 use crate::without::{selection_alone, selects_none, value_alone};
-use kc_tree::{Node, SymId, Tree, Tri, UserVal};
+use kc_tree::{Node, Tree, Tri, UserVal};
 use std::alloc::{AllocError, Global};
 
 /// Whether two user values are the same; texts are so as they are spelt.
@@ -23,20 +22,9 @@ pub(crate) fn is_same_user_value(left: &UserVal, right: &UserVal) -> bool
     ensures { result ≡ same_user_value left.now right.now }
 {
     match (left, right) {
-        (UserVal::Tri(left), UserVal::Tri(right)) => is_same(*left, *right),
+        (UserVal::Tri(left), UserVal::Tri(right)) => *left == *right,
         (UserVal::Text(left), UserVal::Text(right)) => left.as_str() == right.as_str(),
         (UserVal::Tri(_), UserVal::Text(_)) | (UserVal::Text(_), UserVal::Tri(_)) => false,
-    }
-}
-
-/// Whether the same member, or none, is selected.
-pub(crate) fn is_same_member(left: Option<SymId>, right: Option<SymId>) -> bool
-    ensures { result ≡ same_member left right }
-{
-    match (left, right) {
-        (None, None) => true,
-        (Some(left), Some(right)) => left == right,
-        (None, Some(_)) | (Some(_), None) => false,
     }
 }
 
@@ -47,11 +35,11 @@ fn is_same_value(left: &Value, right: &Value) -> bool
     ensures exact { (result ≡ true) ↔ (left.now ≡ right.now) }
 {
     match (left, right) {
-        (Value::Tri(left), Value::Tri(right)) => is_same(*left, *right),
+        (Value::Tri(left), Value::Tri(right)) => *left == *right,
         (Value::Shown(left, left_mark), Value::Shown(right, right_mark)) => {
             is_same_user_value(left, right) && *left_mark == *right_mark
         }
-        (Value::Member(left), Value::Member(right)) => is_same_member(*left, *right),
+        (Value::Member(left), Value::Member(right)) => *left == *right,
         _ => false,
     }
 }

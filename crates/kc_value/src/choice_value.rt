@@ -46,22 +46,12 @@ fn is_visible(tree: &Tree, symbol: SymId, env: &NodeValues) -> bool
     }
 }
 
-/// Whether a symbol is this one.
-fn is_symbol(wanted: Option<SymId>, symbol: SymId) -> bool
-    ensures { result ≡ is_symbol wanted symbol }
-{
-    match wanted {
-        Some(wanted) => wanted == symbol,
-        None => false,
-    }
-}
-
 /// Whether a symbol is the chosen one and visible.
 fn is_chosen(tree: &Tree, symbol: SymId, chosen: Option<SymId>, env: &NodeValues) -> bool
     ensures { result
         ≡ is_symbol chosen symbol && is_visible tree.now (assignment_of tree.now env.now) symbol }
 {
-    is_symbol(chosen, symbol) && is_visible(tree, symbol, env)
+    chosen == Some(symbol) && is_visible(tree, symbol, env)
 }
 
 /// The member that is the chosen one and visible.
@@ -169,6 +159,6 @@ pub(crate) fn member_value(
 ) -> Value
     ensures { result ≡ member_rule tree.now (assignment_of tree.now env.now) choice member visibility }
 {
-    let is_selected = is_symbol(selected(tree, choice, env), member);
+    let is_selected = selected(tree, choice, env) == Some(member);
     Value::Shown(UserVal::Tri(yes_if(is_selected)), !visibility.is_no())
 }

@@ -7,7 +7,7 @@ ghost use Rattle.kc_tree.specs.declared.node.Node.TheVariants.{Val, Sel};
 ghost use Rattle.kc_tree.specs.Accepted.{IsAccepted};
 ghost use Rattle.kc_tree.specs.Nodes.{IsNodeOf, node_count, node_at};
 ghost use Rattle.kc_tree.specs.Uses.{nodes_if};
-ghost use Rattle.kc_value.specs.ChangedValue.{same_mark};
+ghost use Rattle.kc_value.specs.ChangedValue.{same_mark, same_member};
 ghost use Rattle.kc_value.specs.Dirty.{same_given, is_changed, changed_nodes, Drops, Edits};
 ghost use Rattle.kc_value.specs.DropWalk.{DropsAll};
 ghost use Rattle.kc_value.specs.Kept.{AreKept, IsClosed, kept_count};
@@ -15,7 +15,7 @@ ghost use Rattle.kc_value.specs.Solution.{solution, IsOnlySolution};
 ghost use Rattle.kc_value.specs.UserValues.{UserValues, IsUserFor, with_value, with_chosen};
 ghost use Rattle.kc_value.specs.Without.{is_optional_choice};
 
-use crate::changed::{is_same_member, is_same_user_value};
+use crate::changed::is_same_user_value;
 use crate::dropping::{drop_one, walk};
 use crate::kept_values::KeptValues;
 use crate::marks::clear_marks;
@@ -65,6 +65,13 @@ fn is_mode_changed(tree: &Tree, choice: ChoiceId, from: Option<SymId>, to: Optio
     is_optional && from.is_some() != to.is_some()
 }
 
+/// Whether the selection of a choice changes where its chosen member becomes another.
+fn is_selection_changed(from: Option<SymId>, to: Option<SymId>) -> bool
+    ensures { result ≡ not (same_member from to) }
+{
+    from != to
+}
+
 /// Whether a node changes where the user values become others.
 fn is_node_changed(tree: &Tree, user: &User, next: &User, node: Node) -> bool
     ensures { result ≡ is_changed tree.now user.now next.now node }
@@ -75,7 +82,7 @@ fn is_node_changed(tree: &Tree, user: &User, next: &User, node: Node) -> bool
         Node::Mode(choice) => {
             is_mode_changed(tree, choice, user.chosen(choice), next.chosen(choice))
         }
-        Node::Sel(choice) => !is_same_member(user.chosen(choice), next.chosen(choice)),
+        Node::Sel(choice) => is_selection_changed(user.chosen(choice), next.chosen(choice)),
     }
 }
 
@@ -158,7 +165,7 @@ impl KeptValues {
         let chosen = user.chosen(choice);
         let mode_changes = is_mode_changed(tree, choice, chosen, member);
         self.drop_if(tree, mode_changes, Node::Mode(choice));
-        let selection_changes = !is_same_member(chosen, member);
+        let selection_changes = is_selection_changed(chosen, member);
         self.drop_if(tree, selection_changes, Node::Sel(choice));
     }
 

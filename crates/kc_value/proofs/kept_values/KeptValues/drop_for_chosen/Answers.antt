@@ -13,10 +13,10 @@ returns-clause-edits c =
     let u = c.args.user.now in
     let d = c.args.choice in
     let m = c.args.member in
-    chosen_edits t u d m c.args.self.now c.drop_if.new.self c.drop_if-2.new.self c.is_mode_changed-mode_changes.result (not c.is_same_member-selection_changes.result)
+    chosen_edits t u d m c.args.self.now c.drop_if.new.self c.drop_if-2.new.self c.is_mode_changed-mode_changes.result c.is_selection_changed-selection_changes.result
     c.requires.inside c.requires.user
     (c.is_mode_changed-mode_changes.ensures.change ∙ ap (λ x. is_optional_choice t d && not (same_mark (is_some x) (is_some m))) c.chosen-chosen.ensures)
-    (ap not (c.is_same_member-selection_changes.ensures ∙ ap (λ x. same_member x m) c.chosen-chosen.ensures))
+    (c.is_selection_changed-selection_changes.ensures ∙ ap (λ x. not (same_member x m)) c.chosen-chosen.ensures)
     c.drop_if.ensures.drops c.drop_if-2.ensures.drops c.drop_if.ensures.evals c.drop_if-2.ensures.evals
 
 pub returns-clause-kept : goal.returns-clause-kept
