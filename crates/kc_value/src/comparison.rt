@@ -6,11 +6,12 @@ ghost use Rattle.kc_statement.specs.declared.tri.Tri.TheVariants.{No};
 ghost use Rattle.kc_value.specs.declared.value.Value.TheVariants.{Tri as Level};
 ghost use Rattle.kc_value.specs.Assignment.{assignment_of};
 ghost use Rattle.kc_value.specs.Numerals.{number_of_text};
-ghost use Rattle.kc_value.specs.ExprValue.{constant_of, tri_number, number_in_type, symbol_text, symbol_number, term_text, term_number, is_string_term, text_order, term_order, is_related, yes_if};
+ghost use Rattle.kc_value.specs.ExprValue.{constant_of, tri_number, number_in_type, symbol_number, term_number, is_string_term, text_order, term_order, is_related, yes_if};
 
 use crate::expr_value::value_of;
 use crate::node_values::NodeValues;
 use crate::numeral::number_of_text;
+use crate::term_text::term_text;
 use crate::value::Value;
 use kc_tree::{Comparison, Node, Operands, SymId, SymbolType, Term, Tree, Tri, numeral};
 use std::cmp::Ordering;
@@ -94,31 +95,6 @@ fn term_number(tree: &Tree, env: &NodeValues, term: &Term) -> Option<i128>
     }
 }
 
-/// The text of a symbol: its value, n where it has none.
-fn symbol_text<'a>(tree: &Tree, env: &'a NodeValues, symbol: SymId) -> &'a str
-    ensures { result.now ≡ symbol_text tree.now (assignment_of tree.now env.now) symbol }
-{
-    if tree.symbols().get(symbol.0 as usize).is_none() {
-        return Tri::No.letter();
-    }
-    match value_of(tree, env, Node::Val(symbol)) {
-        Some(value) => value.as_text(),
-        None => Tri::No.letter(),
-    }
-}
-
-/// The text of a term: a symbol stands for its value, and a word that names none for itself.
-pub(crate) fn term_text<'a>(tree: &Tree, env: &'a NodeValues, term: &'a Term) -> &'a str
-    ensures { result.now ≡ term_text tree.now (assignment_of tree.now env.now) term.now }
-{
-    match term {
-        Term::Tri(tri) => tri.letter(),
-        Term::Text(text) => text.as_str(),
-        Term::Symbol(symbol) => symbol_text(tree, env, *symbol),
-        Term::Undefined(name) => name.as_str(),
-    }
-}
-
 /// Whether a comparison holds of two terms of this order.
 pub(crate) fn is_related(comparison: Comparison, order: Ordering) -> bool
     ensures { result ≡ is_related comparison order }
@@ -150,7 +126,8 @@ fn is_string(tree: &Tree, term: &Term) -> bool
 fn text_order(tree: &Tree, env: &NodeValues, left: &Term, right: &Term) -> Ordering
     ensures { result ≡ text_order tree.now (assignment_of tree.now env.now) left.now right.now }
 {
-    term_text(tree, env, left).cmp(term_text(tree, env, right))
+    let left = term_text(tree, env, left).as_str();
+    left.cmp(term_text(tree, env, right).as_str())
 }
 
 /// How two terms are ordered: two symbols of type string as texts, else as numbers where both count, else as texts. A
