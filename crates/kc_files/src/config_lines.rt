@@ -4,12 +4,14 @@ ghost use Rattle.std.specs.Prelude.{◌≡◌, ◌<◌, ◌≤◌, ◌∷◌, le
 ghost use Rattle.std.specs.List.{position_or_len, suffix_len};
 ghost use Rattle.kc_files.specs.ConfigLines.{is_feed, is_trailing, lines_in, trimmed};
 
+use memchr::memchr;
+
 /// How many bytes stand before the first line feed of a text: all of them where there is none.
 fn line_len(text: &[u8]) -> usize
     ensures len { result ≡ position_or_len is_feed text.now }
     ensures within { result ≤ length text.now }
 {
-    match text.iter().position(|byte| *byte == b'\n') {
+    match memchr(b'\n', text) {
         Some(len) => len,
         None => text.len(),
     }
