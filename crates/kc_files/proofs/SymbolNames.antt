@@ -10,6 +10,8 @@ use Rattle.std.proofs.lemmas.Slice.Eq.{bytes_eq-Decides}
 use Rattle.kc_statement.specs.Names.{is_name_byte, is_reserved, is_name, symbol_among}
 use Rattle.kc_statement.specs.declared.id.SymId.{SymId}
 use Rattle.kc_outline.specs.NameList.{AreNames}
+use Rattle.kc_outline.specs.TreeValue.{TreeValue, name_of, symbol_named}
+use Rattle.kc_tree.specs.Accepted.{IsAccepted}
 use Rattle.kc_files.specs.LineForm.{is_word}
 
 -- a name is a word
@@ -43,3 +45,8 @@ named_back names h s inside =
 
 pub name_formed : (names : List (List ℕ)) → AreNames names → (k : ℕ) → k < length names → is_word (get_or names k []) ≡ true
 name_formed names h k inside = name_word (get_or names k []) (h.formed k [] inside)
+
+-- the symbol that has this name
+pub named_so : (t : TreeValue) → IsAccepted t → (s : SymId) (name : List ℕ) → s.0 < length t.symbols → name_of t s ≡ name → symbol_named t name ≡ Some s
+named_so t accepted s name inside same =
+    ap (symbol_named t) (sym same) ∙ named_back t.names accepted.names s (omega (arith, inside, accepted.named))

@@ -46,6 +46,9 @@ struct Pass {
     warnings: Vec<Warning>,
     /// Whether a symbol has a usable line so far, by its number.
     named: Vec<bool>,
+    /// The symbol after that of the last usable line. Lines mostly stand in the order of the tree, so the next line is
+    /// likely to name it.
+    likely: SymId,
 }
 
 impl Model for Pass {
@@ -65,6 +68,7 @@ impl Pass {
             assigns: Vec::new(alloc),
             warnings: Vec::new(alloc),
             named: no_marks(alloc, symbols)?,
+            likely: SymId(0),
         })
     }
 
@@ -91,6 +95,7 @@ impl Pass {
         ensures { OnOk result (self.new ≡ with_assign self.old assign) }
     {
         self.named[assign.symbol.0 as usize] = true;
+        self.likely = SymId(assign.symbol.0.saturating_add(1));
         self.assigns.push(assign)?;
         Ok(())
     }
@@ -122,7 +127,7 @@ fn pass_over(alloc: Global, tree: &Tree, prefix: &str, bytes: &[u8]) -> Result<P
     while !rest.is_empty() {
         let (line, behind) = first_line(rest);
         number += 1;
-        let reading = read_line(alloc, tree, prefix, line)?;
+        let reading = read_line(alloc, tree, prefix, line, pass.likely)?;
         pass.take(number, reading)?;
         rest = behind;
     }
@@ -160,6 +165,7 @@ pub fn read_config(
         assigns,
         warnings,
         named: _,
+        likely: _,
     } = pass_over(alloc, tree, prefix.as_str(), bytes)?;
     let counting = counting(alloc, tree.symbols().len(), assigns)?;
     Ok((counting, warnings))

@@ -1,6 +1,7 @@
 //! What a line of a `.config` gives a tree.
 
-ghost use Rattle.std.specs.Prelude.{◌≡◌, ◌<◌, ℕ, length, IfOk};
+ghost use Rattle.std.specs.Prelude.{◌≡◌, ◌<◌, ℕ, length, IfOk, IfSome};
+ghost use Rattle.kc_outline.specs.TreeValue.{symbol_named};
 ghost use Rattle.kc_files.specs.LineReading.{bad_value};
 ghost use Rattle.kc_files.specs.LineSteps.{said, assigned_reading, unset_reading, reading_of, IsInside};
 
@@ -47,6 +48,17 @@ fn said(symbol: SymId, given: Option<UserVal>, bad: WarningKind) -> Reading
     }
 }
 
+/// The symbol of a name, which is likely to be this one. Where it is, no table is asked.
+fn find_likely(tree: &Tree, name: &str, likely: SymId) -> Option<SymId>
+    ensures symbol { result ≡ symbol_named tree.now name.now }
+    ensures inside { IfSome result (λ s. s.0 < length tree.now.symbols) }
+{
+    if (likely.0 as usize) < tree.symbols().len() && tree.name(likely) == name {
+        return Some(likely);
+    }
+    tree.find(name)
+}
+
 /// What a line gives that has a value for a name.
 ///
 /// The error comes where memory is refused for a copy of the value.
@@ -55,11 +67,12 @@ fn assigned_reading(
     tree: &Tree,
     name: &str,
     value: &str,
+    likely: SymId,
 ) -> Result<Reading, AllocError>
     ensures reading { IfOk result (λ r. r ≡ assigned_reading tree.now name.now value.now) }
     ensures inside { IfOk result (IsInside (length tree.now.symbols)) }
 {
-    let Some(symbol) = tree.find(name) else {
+    let Some(symbol) = find_likely(tree, name, likely) else {
         return Ok(Reading::Warned(WarningKind::UndefinedSymbol));
     };
     let kind = type_of(tree, symbol);
@@ -68,11 +81,11 @@ fn assigned_reading(
 }
 
 /// What a line gives that says that a name is not set.
-fn unset_reading(tree: &Tree, name: &str) -> Reading
+fn unset_reading(tree: &Tree, name: &str, likely: SymId) -> Reading
     ensures reading { result ≡ unset_reading tree.now name.now }
     ensures inside { IsInside (length tree.now.symbols) result }
 {
-    match tree.find(name) {
+    match find_likely(tree, name, likely) {
         Some(symbol) => said(
             symbol,
             no_given(type_of(tree, symbol)),
@@ -82,7 +95,7 @@ fn unset_reading(tree: &Tree, name: &str) -> Reading
     }
 }
 
-/// What a line gives, which stands without its line feed.
+/// What a line gives, which stands without its line feed, and whose name is likely to be that of this symbol.
 ///
 /// The error comes where memory is refused for a copy of its value.
 pub(crate) fn read_line(
@@ -90,15 +103,16 @@ pub(crate) fn read_line(
     tree: &Tree,
     prefix: &str,
     line: &[u8],
+    likely: SymId,
 ) -> Result<Reading, AllocError>
     ensures reading { IfOk result (λ r. r ≡ reading_of tree.now prefix.now line.now) }
     ensures inside { IfOk result (IsInside (length tree.now.symbols)) }
 {
     match line_form(prefix, trimmed(line)) {
         LineForm::Assigned(name, value) => {
-            assigned_reading(alloc, tree, name.as_str(), value.as_str())
+            assigned_reading(alloc, tree, name.as_str(), value.as_str(), likely)
         }
-        LineForm::Unset(name) => Ok(unset_reading(tree, name.as_str())),
+        LineForm::Unset(name) => Ok(unset_reading(tree, name.as_str(), likely)),
         LineForm::Nothing => Ok(Reading::Nothing),
         LineForm::Malformed => Ok(Reading::Warned(WarningKind::Malformed)),
     }
