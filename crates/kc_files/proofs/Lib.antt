@@ -23,6 +23,7 @@ pub mod PassLaws
 pub mod ReadingExamples
 pub mod ReadingLaws
 pub mod SelectedMember
+pub mod SingleLines
 pub mod SymbolNames
 pub mod UnfedLoading
 pub mod UnfedReading

@@ -83,6 +83,17 @@ with_reading p line (reading.Usable a) = with_assign (with_repeat p line a.symbo
 with_reading p line (reading.Warned k) = with_warning p line k
 with_reading p line reading.Nothing = p
 
+-- the warning of a symbol that has a usable line before
+abbrev pub is_repeated : WarningKind → Bool
+is_repeated warning.UndefinedSymbol = false
+is_repeated warning.BadValue = false
+is_repeated warning.BadString = false
+is_repeated warning.Malformed = false
+is_repeated warning.Repeated = true
+
+abbrev pub is_repeat : Warning → Bool
+is_repeat w = is_repeated w.kind
+
 -- what holds of a pass before the line of this number: `rest` are the readings that are left, of all
 pub record IsPass (t : TreeValue) (all : List Reading) (number : ℕ) (rest : List Reading) (p : PassValue) : Type 0 where
   pub size : length p.named ≡ length t.symbols

@@ -1,10 +1,11 @@
 //! A `.config` in: what its lines give a tree.
 
-ghost use Rattle.std.specs.Prelude.{◌≡◌, ◌≤◌, ◌<◌, ◌↔◌, ℕ, List, [], All, Err, IfOk, OnOk, length};
-ghost use Rattle.kc_files.specs.ConfigReading.{IsConfigReading};
+ghost use Rattle.std.specs.Prelude.{◌≡◌, ◌≤◌, ◌<◌, ◌↔◌, ℕ, List, [], false, All, Err, IfOk, OnOk, length};
+ghost use Rattle.std.specs.List.{list_any};
+ghost use Rattle.kc_files.specs.ConfigReading.{IsConfigReading, counting};
 ghost use Rattle.kc_files.specs.LineReading.{IsAssignFor, IsUnfed};
 ghost use Rattle.kc_files.specs.OneReading.{assigns_in, warnings_in};
-ghost use Rattle.kc_files.specs.LineSteps.{empty_pass, with_warning, with_repeat, with_assign, with_reading, readings_in, IsInside, IsPass};
+ghost use Rattle.kc_files.specs.LineSteps.{empty_pass, with_warning, with_repeat, with_assign, with_reading, readings_in, is_repeat, IsInside, IsPass};
 
 use crate::assign::Assign;
 use crate::config_lines::first_line;
@@ -134,6 +135,40 @@ fn pass_over(alloc: Global, tree: &Tree, prefix: &str, bytes: &[u8]) -> Result<P
     Ok(pass)
 }
 
+/// Whether a warning is that its symbol has a usable line before.
+fn is_repeat(warning: Warning) -> bool
+    ensures { result ≡ is_repeat warning }
+{
+    matches!(warning.kind, WarningKind::Repeated)
+}
+
+/// Whether a symbol has more than one usable line.
+fn has_repeat(warnings: &[Warning]) -> bool
+    ensures { result ≡ list_any is_repeat warnings.now }
+{
+    warnings.iter().any(|warning| is_repeat(*warning))
+}
+
+/// The assignments that count, in their order: all, where no symbol has more than one usable line.
+///
+/// The error comes where memory is refused.
+fn counting_of(
+    alloc: Global,
+    symbols: usize,
+    assigns: Vec<Assign>,
+    warnings: &[Warning],
+) -> Result<Vec<Assign>, AllocError>
+    requires inside { All (λ a. a.symbol.0 < symbols) assigns.items }
+    requires single { list_any is_repeat warnings.now ≡ false → counting assigns.items ≡ assigns.items }
+    ensures { IfOk result (λ kept. kept.items ≡ counting assigns.items) }
+{
+    if has_repeat(warnings) {
+        counting(alloc, symbols, assigns)
+    } else {
+        Ok(assigns)
+    }
+}
+
 /// Reads a `.config`: the assignments that count, in the order of their lines, and the warnings, in the order of theirs
 /// (docs/FILES.md). A line that gives a symbol of the tree a value of its type is usable, and of a symbol's usable lines
 /// the last counts; members of choices are symbols like others here. No value that is read has a line feed.
@@ -167,6 +202,6 @@ pub fn read_config(
         named: _,
         likely: _,
     } = pass_over(alloc, tree, prefix.as_str(), bytes)?;
-    let counting = counting(alloc, tree.symbols().len(), assigns)?;
+    let counting = counting_of(alloc, tree.symbols().len(), assigns, warnings.as_slice())?;
     Ok((counting, warnings))
 }

@@ -1,12 +1,25 @@
-use Rattle.std.proofs.Common.{◌≡◌, sym, ◌∙◌}
+use Rattle.std.proofs.Common.{◌≡◌, sym, ap, ◌∙◌}
+use Rattle.std.specs.List.{list_any}
 use Rattle.std.proofs.lemmas.List.Elements.{All-same}
 use Rattle.kc_files.specs.ConfigReading.{counting}
 use Rattle.kc_files.specs.LineReading.{IsAssignFor}
-use Rattle.kc_files.specs.LineSteps.{PassValue}
+use Rattle.kc_files.specs.LineSteps.{PassValue, readings_in, is_repeat}
 use Rattle.kc_files.proofs.CountingLaws.{All-counting}
 use Rattle.kc_files.proofs.PassLaws.{passed_as, reads}
+use Rattle.kc_files.proofs.SingleLines.{pass_counts}
 use Rattle.kc_files.proofs.UnfedReading.{config_unfed}
 use Rattle.kc_files.proofs.config_reading.read_config.Goals as goal
+
+pub counting_of-requires-clause-single : goal.counting_of-requires-clause-single
+counting_of-requires-clause-single c = λ none.
+    let t = c.args.tree.now in
+    let prefix = c.args.prefix.now in
+    let text = c.args.bytes.now in
+    let pass : PassValue = record { assigns = c.assigns.inside.assigns.items; warnings = c.assigns.inside.warnings.items; named = c.assigns.inside.named.items } in
+    let same : c.in_ok-assigns.field-0 ≡ pass = cc in
+    let n = c.in_ok-assigns.ensures.0 in
+    let passed = passed_as t c.as_str.result.now prefix text n c.in_ok-assigns.field-0 pass c.as_str.ensures.text same c.in_ok-assigns.ensures.1 in
+    pass_counts t (readings_in t prefix text) n pass passed (ap (list_any is_repeat) (sym c.as_slice.ensures.value) ∙ none)
 
 pub returns-clause-reading : goal.returns-clause-reading
 returns-clause-reading c =
