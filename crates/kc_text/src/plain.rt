@@ -56,6 +56,8 @@ fn sign(text: &str) -> Option<(Token<'_>, &str)>
 
 /// The first token of a line and the text after it, where it stands there as it is: without references or
 /// backslashes. Most do.
+// a call for each token costs more than its code at both places
+#[inline(always)]
 pub(crate) fn plain_token(line: &str) -> Option<(Token<'_>, &str)>
     ensures shows { IfSome result (λ found. (names : Names) (outside : Environment) → line_tokens names outside line.now ≡ before found.0 (line_tokens names outside found.1.now)) }
     ensures defines { IfSome result (λ found. may_assign (behind_blanks found.1.now) ≡ false → definition_of line.now ≡ None) }
