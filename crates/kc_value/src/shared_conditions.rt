@@ -7,11 +7,11 @@ ghost use Rattle.kc_value.specs.declared.value.Value.{Value};
 ghost use Rattle.kc_value.specs.Assignment.{assignment_of};
 ghost use Rattle.kc_value.specs.KnownConditions.{AreSharedBy, IsRightOfOwn, all_depends, all_visible};
 
-use crate::expr_value::conditions_tri;
+use crate::expr_value::{conditions_tri, symbol_tri};
 use crate::known_conditions::{KnownConditions, find_own};
 use crate::node_values::NodeValues;
-use crate::slots::empty_slots;
-use kc_tree::{Reverse, Tree, Tri};
+use crate::slots::no_tris;
+use kc_tree::{Reverse, SymId, Tree, Tri};
 use std::alloc::{AllocError, Global};
 use std::marker::Model;
 
@@ -46,7 +46,8 @@ impl SharedConditions {
     }
 
     /// What the values of nodes, by number, give all blocks of the tree, and the definitions with a `select` or `imply`
-    /// line. A node without a value counts as n. The error comes where memory is refused.
+    /// line that has an effect: the symbol of the line is not n. A node without a value counts as n. The error comes where
+    /// memory is refused.
     pub fn of(
         alloc: Global,
         tree: &Tree,
@@ -86,6 +87,37 @@ impl SharedConditions {
         })
     }
 
+    /// What the values of nodes, by number, give all blocks of the tree, and a place for each definition: for who asks for
+    /// some symbols, each with a call of `find_for` before. A node without a value counts as n. The error comes where memory
+    /// is refused.
+    pub fn of_blocks_and_asked(
+        alloc: Global,
+        tree: &Tree,
+        values: &NodeValues,
+    ) -> Result<SharedConditions, AllocError>
+        ensures depends { IfOk result (λ c. c.depends ≡ all_depends tree.now (assignment_of tree.now values.now)) }
+        ensures visible { IfOk result (λ c. c.visible ≡ all_visible tree.now (assignment_of tree.now values.now)) }
+        ensures right { IfOk result (λ c. AreSharedBy tree.now values.now c) }
+    {
+        let mut conditions = SharedConditions::of_blocks(alloc, tree, values)?;
+        conditions.own = places_of_own(alloc, tree)?;
+        Ok(conditions)
+    }
+
+    /// Finds what is asked for with a symbol: what the own `depends on` lines of the definitions say that select or imply
+    /// it. Those of a definition are evaluated once, however many symbols it selects.
+    pub fn find_for(&mut self, tree: &Tree, values: &NodeValues, symbol: SymId)
+        requires { AreSharedBy tree.now values.now self.old }
+        ensures right { AreSharedBy tree.now values.now self.new }
+        ensures depends { self.new.depends ≡ self.old.depends }
+        ensures visible { self.new.visible ≡ self.old.visible }
+    {
+        if let Some(symbol) = tree.symbols().get(symbol.0 as usize) {
+            find_all_own(tree, &mut self.own, symbol.selected(), values);
+            find_all_own(tree, &mut self.own, symbol.implied(), values);
+        }
+    }
+
     /// What is known.
     pub(crate) fn known(&self) -> KnownConditions<'_>
         ensures depends { result.depends.now ≡ self.now.depends }
@@ -100,18 +132,29 @@ impl SharedConditions {
     }
 }
 
-/// What the own `depends on` lines of the definitions say in which some `select` or `imply` lines stand.
+/// What the own `depends on` lines of the definitions say in which some `select` or `imply` lines stand; a line whose
+/// symbol is n asks for nothing.
 fn find_all_own(tree: &Tree, own: &mut Vec<Option<Tri>>, reverses: &[Reverse], values: &NodeValues)
     requires { IsRightOfOwn tree.now values.now own.old.items }
     ensures { IsRightOfOwn tree.now values.now own.new.items }
 {
     for reverse in reverses {
-        find_own(tree, own, reverse.definition, values);
+        if !symbol_tri(tree, values, reverse.by).is_no() {
+            find_own(tree, own, reverse.definition, values);
+        }
     }
 }
 
-/// What the own `depends on` lines of each definition say in which a `select` or `imply` line stands. The error comes
-/// where memory is refused.
+/// A place for each definition, with nothing in it. The error comes where memory is refused.
+#[tactic(auto, using(crate::proofs::KnownLaws::no_own))]
+fn places_of_own(alloc: Global, tree: &Tree) -> Result<Vec<Option<Tri>>, AllocError>
+    ensures { (values : List (Option Value)) → IfOk result (λ own. IsRightOfOwn tree.now values own.items) }
+{
+    no_tris(alloc, tree.definitions().len())
+}
+
+/// What the own `depends on` lines of each definition say in which a `select` or `imply` line stands whose symbol is not
+/// n. The error comes where memory is refused.
 fn own_conditions(
     alloc: Global,
     tree: &Tree,
@@ -119,7 +162,7 @@ fn own_conditions(
 ) -> Result<Vec<Option<Tri>>, AllocError>
     ensures { IfOk result (λ own. IsRightOfOwn tree.now values.now own.items) }
 {
-    let mut own = empty_slots(alloc, tree.definitions().len())?;
+    let mut own = places_of_own(alloc, tree)?;
     for symbol in tree.symbols() {
         find_all_own(tree, &mut own, symbol.selected(), values);
         find_all_own(tree, &mut own, symbol.implied(), values);
