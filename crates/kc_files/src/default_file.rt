@@ -10,13 +10,13 @@ ghost use Rattle.kc_value.specs.ChangedValue.{changed_value, ChangesAreJustEnoug
 ghost use Rattle.kc_value.specs.KnownConditions.{AreSharedBy};
 ghost use Rattle.kc_value.specs.Replay.{shown_in};
 ghost use Rattle.kc_value.specs.Solution.{solution, AreSolved, IsOnlySolution};
-ghost use Rattle.kc_value.specs.UserValues.{UserValues};
+ghost use Rattle.kc_value.specs.UserValues.{UserValues, IsUserFor};
 ghost use Rattle.kc_files.specs.DefaultLoading.{HasNoFeeds, KeepsChanges};
 ghost use Rattle.kc_files.specs.DefaultText.{is_changed_member, default_value, default_line, default_entry, default_text_of};
 
 use crate::prefix::Prefix;
 use crate::symbol_line::push_symbol_line;
-use crate::symbols::{choice_of, is_symbol, selected_member, type_of};
+use crate::symbols::{choice_of, selected_member, type_of};
 use kc_tree::{ChoiceId, Entry, Node, SymId, Tree, Tri, UserVal};
 use kc_value::{NodeValues, Resolver, SharedConditions, User, Value, all_values, changed_value};
 use std::alloc::{AllocError, Global};
@@ -27,19 +27,21 @@ fn changed_symbol(
     alloc: Global,
     tree: &Tree,
     user: &User,
-    conditions: &SharedConditions,
+    conditions: &mut SharedConditions,
     values: &NodeValues,
     symbol: SymId,
 ) -> Result<Option<Value>, AllocError>
     requires node { IsNodeOf tree.now (Val symbol) }
     requires changes { ChangesAreJustEnough tree.now user.now }
-    requires conditions { AreSharedBy tree.now values.now conditions.now }
-    ensures { AreSolved tree.now user.now values.now
+    requires conditions { AreSharedBy tree.now values.now conditions.old }
+    ensures value { AreSolved tree.now user.now values.now
         → IfOk result (λ v. v ≡ changed_value tree.now user.now (Val symbol)) }
+    ensures conditions { AreSharedBy tree.now values.now conditions.new }
 {
     if user.get(symbol).is_none() {
         return Ok(None);
     }
+    conditions.find_for(tree, values, symbol);
     changed_value(alloc, tree, conditions, values, Node::Val(symbol))
 }
 
@@ -83,7 +85,7 @@ fn is_changed_member(
     if tree.choices().get(choice.0 as usize).is_none() {
         return Ok(false);
     }
-    if !is_symbol(selected_member(tree, values, choice), member) {
+    if selected_member(tree, values, choice) != Some(member) {
         return Ok(false);
     }
     let changed = changed_selection(alloc, tree, user, conditions, values, choice)?;
@@ -95,15 +97,16 @@ fn default_value(
     alloc: Global,
     tree: &Tree,
     user: &User,
-    conditions: &SharedConditions,
+    conditions: &mut SharedConditions,
     values: &NodeValues,
     symbol: SymId,
 ) -> Result<Option<UserVal>, AllocError>
     requires node { IsNodeOf tree.now (Vis symbol) }
     requires changes { ChangesAreJustEnough tree.now user.now }
-    requires conditions { AreSharedBy tree.now values.now conditions.now }
-    ensures { AreSolved tree.now user.now values.now
+    requires conditions { AreSharedBy tree.now values.now conditions.old }
+    ensures value { AreSolved tree.now user.now values.now
         → IfOk result (λ v. v ≡ default_value tree.now user.now symbol) }
+    ensures conditions { AreSharedBy tree.now values.now conditions.new }
 {
     let Some(choice) = choice_of(tree, symbol) else {
         let changed = changed_symbol(alloc, tree, user, conditions, values, symbol)?;
@@ -133,15 +136,16 @@ fn push_symbol(
     tree: &Tree,
     user: &User,
     prefix: &str,
-    conditions: &SharedConditions,
+    conditions: &mut SharedConditions,
     values: &NodeValues,
     symbol: SymId,
 ) -> Result<(), AllocError>
     requires node { IsNodeOf tree.now (Vis symbol) }
     requires changes { ChangesAreJustEnough tree.now user.now }
-    requires conditions { AreSharedBy tree.now values.now conditions.now }
-    ensures { AreSolved tree.now user.now values.now
+    requires conditions { AreSharedBy tree.now values.now conditions.old }
+    ensures text { AreSolved tree.now user.now values.now
         → OnOk result (string_bytes out.new ≡ string_bytes out.old ++ default_line tree.now user.now prefix.now symbol) }
+    ensures conditions { AreSharedBy tree.now values.now conditions.new }
 {
     if let Some(value) = default_value(alloc, tree, user, conditions, values, symbol)? {
         push_symbol_line(
@@ -162,15 +166,16 @@ fn push_entry(
     tree: &Tree,
     user: &User,
     prefix: &str,
-    conditions: &SharedConditions,
+    conditions: &mut SharedConditions,
     values: &NodeValues,
     entry: Entry,
 ) -> Result<(), AllocError>
     requires entry { IsEntryOf tree.now entry }
     requires changes { ChangesAreJustEnough tree.now user.now }
-    requires conditions { AreSharedBy tree.now values.now conditions.now }
-    ensures { AreSolved tree.now user.now values.now
+    requires conditions { AreSharedBy tree.now values.now conditions.old }
+    ensures text { AreSolved tree.now user.now values.now
         → OnOk result (string_bytes out.new ≡ string_bytes out.old ++ default_entry tree.now user.now prefix.now entry) }
+    ensures conditions { AreSharedBy tree.now values.now conditions.new }
 {
     match entry {
         Entry::Symbol(symbol) => push_symbol(
@@ -185,17 +190,17 @@ fn push_entry(
 }
 
 /// Appends what the entries of the tree give.
+#[tactic(auto, using(kc_value::proofs::ChangedLaws::just_enough))]
 fn push_entries(
     alloc: Global,
     out: &mut String,
     tree: &Tree,
     user: &User,
     prefix: &str,
-    conditions: &SharedConditions,
+    conditions: &mut SharedConditions,
     values: &NodeValues,
 ) -> Result<(), AllocError>
-    requires changes { ChangesAreJustEnough tree.now user.now }
-    requires conditions { AreSharedBy tree.now values.now conditions.now }
+    requires conditions { AreSharedBy tree.now values.now conditions.old }
     ensures accepted { IsAccepted tree.now }
     ensures text { AreSolved tree.now user.now values.now
         → OnOk result (string_bytes out.new ≡ string_bytes out.old ++ default_text_of tree.now user.now prefix.now) }
@@ -204,6 +209,36 @@ fn push_entries(
         push_entry(alloc, out, tree, user, prefix, conditions, values, *entry)?;
     }
     Ok(())
+}
+
+/// The text of the default file, over the values of all nodes, which stand in `values` by number: what `defconfig_text`
+/// gives where they are those of the solution for the user values, with what is said there. The error comes where memory is
+/// refused.
+pub fn defconfig_text_over(
+    alloc: Global,
+    tree: &Tree,
+    user: &User,
+    values: &NodeValues,
+    prefix: &Prefix,
+) -> Result<String, AllocError>
+    requires sized { IsUserFor tree.now user.now }
+    requires solved { AreSolved tree.now user.now values.now }
+    ensures text { IfOk result (λ text. string_bytes text ≡ default_text_of tree.now user.now prefix.now) }
+    ensures keeps { HasNoFeeds user.now
+        → IfOk result (λ text. KeepsChanges tree.now user.now prefix.now (string_bytes text)) }
+{
+    let mut conditions = SharedConditions::of_blocks_and_asked(alloc, tree, values)?;
+    let mut text = String::new(alloc);
+    push_entries(
+        alloc,
+        &mut text,
+        tree,
+        user,
+        prefix.as_str(),
+        &mut conditions,
+        values,
+    )?;
+    Ok(text)
 }
 
 /// The text of the default file (`savedefconfig` of the kernel's scripts/kconfig/conf.c and `write_min_config` of
@@ -232,17 +267,6 @@ pub fn defconfig_text<R: Resolver>(
     ensures grew { R.grew resolver.old resolver.new (all_nodes (R.tree_of resolver.old)) }
 {
     let values = all_values(alloc, resolver)?;
-    let tree = resolver.tree();
-    let conditions = SharedConditions::of(alloc, tree, &values)?;
-    let mut text = String::new(alloc);
-    push_entries(
-        alloc,
-        &mut text,
-        tree,
-        resolver.user(),
-        prefix.as_str(),
-        &conditions,
-        &values,
-    )?;
+    let text = defconfig_text_over(alloc, resolver.tree(), resolver.user(), &values, prefix)?;
     Ok(text)
 }

@@ -14,7 +14,7 @@ ghost use Rattle.kc_files.specs.NewText.{has_another_value, is_new_symbol, visib
 
 use crate::prefix::Prefix;
 use crate::symbol_line::push_text_line;
-use crate::symbols::{choice_of, is_symbol, selected_member, shown_text, type_of, visibility};
+use crate::symbols::{choice_of, selected_member, shown_text, type_of, visibility};
 use kc_tree::{ChoiceId, Entry, SymId, Tree};
 use kc_value::{NodeValues, Resolver, SharedConditions, User, all_values, assignable_among};
 use std::alloc::{AllocError, Global};
@@ -24,19 +24,21 @@ fn has_another_value(
     alloc: Global,
     tree: &Tree,
     user: &User,
-    conditions: &SharedConditions,
+    conditions: &mut SharedConditions,
     values: &NodeValues,
     symbol: SymId,
 ) -> Result<bool, AllocError>
     requires inside { IsNodeOf tree.now (Vis symbol) }
     requires sized { IsUserFor tree.now user.now }
-    requires conditions { AreSharedBy tree.now values.now conditions.now }
+    requires conditions { AreSharedBy tree.now values.now conditions.old }
     requires solved { AreSolved tree.now user.now values.now }
-    ensures { IfOk result (λ b. b ≡ has_another_value tree.now user.now symbol) }
+    ensures answer { IfOk result (λ b. b ≡ has_another_value tree.now user.now symbol) }
+    ensures conditions { AreSharedBy tree.now values.now conditions.new }
 {
     if !type_of(tree, symbol).is_tri() {
         return Ok(true);
     }
+    conditions.find_for(tree, values, symbol);
     let assignable = assignable_among(alloc, tree, conditions, values, symbol)?;
     Ok(assignable.len() >= 2)
 }
@@ -46,15 +48,16 @@ fn is_new_symbol(
     alloc: Global,
     tree: &Tree,
     user: &User,
-    conditions: &SharedConditions,
+    conditions: &mut SharedConditions,
     values: &NodeValues,
     symbol: SymId,
 ) -> Result<bool, AllocError>
     requires inside { IsNodeOf tree.now (Vis symbol) }
     requires sized { IsUserFor tree.now user.now }
-    requires conditions { AreSharedBy tree.now values.now conditions.now }
+    requires conditions { AreSharedBy tree.now values.now conditions.old }
     requires solved { AreSolved tree.now user.now values.now }
-    ensures { IfOk result (λ b. b ≡ is_new_symbol tree.now user.now symbol) }
+    ensures answer { IfOk result (λ b. b ≡ is_new_symbol tree.now user.now symbol) }
+    ensures conditions { AreSharedBy tree.now values.now conditions.new }
 {
     if visibility(tree, values, symbol).is_no() || user.get(symbol).is_some() {
         return Ok(false);
@@ -103,7 +106,7 @@ fn is_new_member(
     requires { AreSolved tree.now user.now values.now }
     ensures { result ≡ is_new_member tree.now user.now choice member }
 {
-    is_symbol(selected_member(tree, values, choice), member)
+    selected_member(tree, values, choice) == Some(member)
         && user.chosen(choice).is_none()
         && has_another_member(tree, values, choice)
 }
@@ -113,15 +116,16 @@ fn is_new(
     alloc: Global,
     tree: &Tree,
     user: &User,
-    conditions: &SharedConditions,
+    conditions: &mut SharedConditions,
     values: &NodeValues,
     symbol: SymId,
 ) -> Result<bool, AllocError>
     requires inside { IsNodeOf tree.now (Vis symbol) }
     requires sized { IsUserFor tree.now user.now }
-    requires conditions { AreSharedBy tree.now values.now conditions.now }
+    requires conditions { AreSharedBy tree.now values.now conditions.old }
     requires solved { AreSolved tree.now user.now values.now }
-    ensures { IfOk result (λ b. b ≡ is_new tree.now user.now symbol) }
+    ensures answer { IfOk result (λ b. b ≡ is_new tree.now user.now symbol) }
+    ensures conditions { AreSharedBy tree.now values.now conditions.new }
 {
     match choice_of(tree, symbol) {
         Some(choice) => Ok(is_new_member(tree, user, values, choice, symbol)),
@@ -136,16 +140,17 @@ fn push_symbol(
     tree: &Tree,
     user: &User,
     prefix: &Prefix,
-    conditions: &SharedConditions,
+    conditions: &mut SharedConditions,
     values: &NodeValues,
     symbol: SymId,
 ) -> Result<(), AllocError>
     requires inside { IsNodeOf tree.now (Vis symbol) }
     requires sized { IsUserFor tree.now user.now }
-    requires conditions { AreSharedBy tree.now values.now conditions.now }
+    requires conditions { AreSharedBy tree.now values.now conditions.old }
     requires solved { AreSolved tree.now user.now values.now }
-    ensures { OnOk result (string_bytes out.new
+    ensures text { OnOk result (string_bytes out.new
         ≡ string_bytes out.old ++ new_line tree.now user.now prefix.now symbol) }
+    ensures conditions { AreSharedBy tree.now values.now conditions.new }
 {
     if is_new(alloc, tree, user, conditions, values, symbol)? {
         let value = shown_text(tree, values, symbol);
@@ -167,16 +172,17 @@ fn push_entry(
     tree: &Tree,
     user: &User,
     prefix: &Prefix,
-    conditions: &SharedConditions,
+    conditions: &mut SharedConditions,
     values: &NodeValues,
     entry: Entry,
 ) -> Result<(), AllocError>
     requires inside { IsEntryOf tree.now entry }
     requires sized { IsUserFor tree.now user.now }
-    requires conditions { AreSharedBy tree.now values.now conditions.now }
+    requires conditions { AreSharedBy tree.now values.now conditions.old }
     requires solved { AreSolved tree.now user.now values.now }
-    ensures { OnOk result (string_bytes out.new
+    ensures text { OnOk result (string_bytes out.new
         ≡ string_bytes out.old ++ new_entry tree.now user.now prefix.now entry) }
+    ensures conditions { AreSharedBy tree.now values.now conditions.new }
 {
     match entry {
         Entry::Symbol(symbol) => push_symbol(
@@ -197,11 +203,11 @@ fn push_entries(
     tree: &Tree,
     user: &User,
     prefix: &Prefix,
-    conditions: &SharedConditions,
+    conditions: &mut SharedConditions,
     values: &NodeValues,
 ) -> Result<(), AllocError>
     requires sized { IsUserFor tree.now user.now }
-    requires conditions { AreSharedBy tree.now values.now conditions.now }
+    requires conditions { AreSharedBy tree.now values.now conditions.old }
     requires solved { AreSolved tree.now user.now values.now }
     ensures { OnOk result (string_bytes out.new
         ≡ string_bytes out.old ++ new_text_of tree.now user.now prefix.now) }
@@ -210,6 +216,34 @@ fn push_entries(
         push_entry(alloc, out, tree, user, prefix, conditions, values, *entry)?;
     }
     Ok(())
+}
+
+/// The list of symbols that the user can still decide on, over the values of all nodes, which stand in `values` by number:
+/// what `new_text` gives where they are those of the solution for the user values. The error comes where memory is
+/// refused.
+pub fn new_text_over(
+    alloc: Global,
+    tree: &Tree,
+    user: &User,
+    values: &NodeValues,
+    prefix: &Prefix,
+) -> Result<String, AllocError>
+    requires sized { IsUserFor tree.now user.now }
+    requires solved { AreSolved tree.now user.now values.now }
+    ensures { IfOk result (λ text. string_bytes text ≡ new_text_of tree.now user.now prefix.now) }
+{
+    let mut conditions = SharedConditions::of_blocks_and_asked(alloc, tree, values)?;
+    let mut text = String::new(alloc);
+    push_entries(
+        alloc,
+        &mut text,
+        tree,
+        user,
+        prefix,
+        &mut conditions,
+        values,
+    )?;
+    Ok(text)
 }
 
 /// The list of symbols that the user can still decide on, each with the value that it has (`listnewconfig` of the
@@ -231,17 +265,6 @@ pub fn new_text<R: Resolver>(
     ensures grew { R.grew resolver.old resolver.new (all_nodes (R.tree_of resolver.old)) }
 {
     let values = all_values(alloc, resolver)?;
-    let tree = resolver.tree();
-    let conditions = SharedConditions::of(alloc, tree, &values)?;
-    let mut text = String::new(alloc);
-    push_entries(
-        alloc,
-        &mut text,
-        tree,
-        resolver.user(),
-        prefix,
-        &conditions,
-        &values,
-    )?;
+    let text = new_text_over(alloc, resolver.tree(), resolver.user(), &values, prefix)?;
     Ok(text)
 }

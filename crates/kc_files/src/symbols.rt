@@ -5,7 +5,7 @@ ghost use Rattle.std.specs.Option.{option_copied};
 ghost use Rattle.kc_outline.specs.TreeValue.{choice_of};
 ghost use Rattle.kc_tree.specs.declared.node.Node.TheVariants.{Vis, Val};
 ghost use Rattle.kc_value.specs.Assignment.{as_tri, as_text, assignment_of, value_at};
-ghost use Rattle.kc_value.specs.ChoiceRule.{is_symbol, selected_in};
+ghost use Rattle.kc_value.specs.ChoiceRule.{selected_in};
 ghost use Rattle.kc_files.specs.ConfigText.{type_of, written_value};
 
 use kc_tree::{ChoiceId, Node, SymId, SymbolType, Tree, Tri, UserVal};
@@ -72,14 +72,4 @@ pub(crate) fn selected_member(tree: &Tree, values: &NodeValues, choice: ChoiceId
 {
     tree.choices().get(choice.0 as usize)?;
     value_at(tree, values, Node::Sel(choice))?.as_member()
-}
-
-/// Whether a symbol is this one.
-pub(crate) fn is_symbol(wanted: Option<SymId>, symbol: SymId) -> bool
-    ensures { result ≡ is_symbol wanted symbol }
-{
-    match wanted {
-        Some(wanted) => wanted.0 == symbol.0,
-        None => false,
-    }
 }
