@@ -48,7 +48,9 @@ fn is_name_byte(byte: u8) -> bool
     CLASSES[byte as usize] == b'n'
 }
 
-/// Whether each byte may stand in a name.
+/// Whether each byte may stand in a name. It is kept out of line: where it is a part of the reader of a line, each byte
+/// clears the room of what that reader has.
+#[inline(never)]
 fn are_name_bytes(bytes: &[u8]) -> bool
     ensures { result ≡ list_all is_name_byte bytes.now }
 {
