@@ -157,6 +157,39 @@ pub(crate) fn begin<'a>(
     })
 }
 
+/// Two tokens that were gathered, which the arena keeps.
+fn kept_pair<'a>(
+    arena: &'a Bump,
+    gathered: &mut Vec<Token<'a>, &'a Bump>,
+) -> Result<&'a [Token<'a>], AllocError>
+    requires two { length gathered.old.items ≡ 2 }
+    ensures { IfOk result (λ kept. kept.now ≡ gathered.old.items) }
+{
+    let (Some(second), Some(first)) = (gathered.pop(), gathered.pop()) else {
+        return Ok(&[]);
+    };
+    match arena.try_alloc([first, second]) {
+        Ok(pair) => Ok(pair),
+        Err(_) => Err(AllocError),
+    }
+}
+
+/// The tokens that were gathered, which the arena keeps. Most lines have two, and an array of two takes its room at less
+/// cost than a vector.
+fn kept_tokens<'a>(
+    arena: &'a Bump,
+    gathered: &mut Vec<Token<'a>, &'a Bump>,
+) -> Result<&'a [Token<'a>], AllocError>
+    ensures { IfOk result (λ kept. kept.now ≡ gathered.old.items) }
+{
+    if gathered.len() == 2 {
+        return kept_pair(arena, gathered);
+    }
+    let mut kept = Vec::with_capacity(arena, gathered.len())?;
+    kept.append(gathered)?;
+    Ok(into_bump_slice(kept))
+}
+
 /// The tokens of a line, which the arena keeps, or its first fault from the left. They are gathered in a vector that
 /// serves line after line, so the arena has no room for more of them than there are.
 pub(crate) fn tokens<'a>(
@@ -173,7 +206,5 @@ pub(crate) fn tokens<'a>(
         gathered.push(token)?;
         rest = after;
     }
-    let mut kept = Vec::with_capacity(texts.arena(), gathered.len())?;
-    kept.append(gathered)?;
-    Ok(LineTokens::new(into_bump_slice(kept)))
+    Ok(LineTokens::new(kept_tokens(texts.arena(), gathered)?))
 }

@@ -1,4 +1,4 @@
-use Rattle.std.proofs.Common.{List, ◌++◌, Ok, ap, sym, ◌∙◌, rules}
+use Rattle.std.proofs.Common.{List, Ok, ap, sym, ◌∙◌, rules}
 use Rattle.std.proofs.lemmas.Result.{err_from_is_err_and}
 use Rattle.kc_text.specs.declared.line.Token.{Token}
 use Rattle.kc_text.specs.Expansion.{names_in, texts_in}
@@ -33,7 +33,5 @@ returns c =
     c.loop-token.invariant.found
     ∙ ap (ahead gathered) (shows_none found c.loop-token.rest.now c.in_ok-token.field-0 c.in_default.is c.in_ok-token.ensures.none)
     ∙ ahead-none gathered
-    ∙ ap Ok (sym {A = List Token} (ap (λ ts. ts ++ gathered) c.in_ok-kept.ensures.items))
-    ∙ ap Ok (sym {A = List Token} c.in_ok-append.ensures.items)
-    ∙ ap Ok (sym {A = List Token} c.into_bump_slice.ensures)
+    ∙ ap Ok (sym {A = List Token} c.in_ok-kept_tokens.ensures)
     ∙ ap Ok (sym {A = List Token} c.new.ensures)
