@@ -11,10 +11,10 @@ use Rattle.kc_outline.specs.TreeValue.{TreeValue, symbol_named, name_of}
 use Rattle.kc_tree.specs.declared.user_value.UserVal.{UserVal}
 use Rattle.kc_tree.specs.declared.user_value.UserVal.TheVariants.{Tri as TriVal, Text}
 use Rattle.kc_tree.specs.Accepted.{IsAccepted}
-use Rattle.kc_tree.specs.Fits.{fits_type}
+use Rattle.kc_tree.specs.Fits.{fits_type, type_of}
 use Rattle.kc_files.specs.declared.assign.Assign.{Assign}
 use Rattle.kc_files.specs.declared.line_reading.Reading.TheVariants.{Usable}
-use Rattle.kc_files.specs.ConfigText.{text_in, type_of}
+use Rattle.kc_files.specs.ConfigText.{text_in}
 use Rattle.kc_files.specs.ConfigLines.{is_feed, trimmed}
 use Rattle.kc_files.specs.LineForm.{is_word}
 use Rattle.kc_files.specs.LineReading.{HasReading}

@@ -18,12 +18,12 @@ use Rattle.kc_tree.specs.declared.node.Node.TheVariants.{Val}
 use Rattle.kc_tree.specs.declared.user_value.UserVal.{UserVal}
 use Rattle.kc_tree.specs.declared.user_value.UserVal.TheVariants.{Tri as TriVal, Text}
 use Rattle.kc_tree.specs.Accepted.{IsAccepted}
-use Rattle.kc_tree.specs.Fits.{fits, fits_type}
+use Rattle.kc_tree.specs.Fits.{fits, fits_type, type_of}
 use Rattle.kc_value.specs.ChangedValue.{changed_value, ChangesAreJustEnough}
 use Rattle.kc_value.specs.Replay.{shown_in}
 use Rattle.kc_value.specs.UserValues.{UserValues, IsUserFor}
 use Rattle.kc_files.specs.declared.assign.Assign.{Assign}
-use Rattle.kc_files.specs.ConfigText.{type_of, symbol_line}
+use Rattle.kc_files.specs.ConfigText.{symbol_line}
 use Rattle.kc_files.specs.DefaultLoading.{default_assigns, HasNoFeeds}
 use Rattle.kc_files.specs.DefaultText.{is_changed_member, default_value, default_line, default_entry, default_text_of}
 use Rattle.kc_files.specs.LineReading.{has_feed}

@@ -14,7 +14,7 @@ use Rattle.kc_files.specs.declared.line_form.LineForm.{LineForm}
 use Rattle.kc_files.specs.declared.line_form.LineForm.TheVariants as form
 use Rattle.kc_files.specs.declared.line_reading.Reading.{Reading}
 use Rattle.kc_files.specs.declared.line_reading.Reading.TheVariants as reading
-use Rattle.kc_files.specs.ConfigText.{type_of}
+use Rattle.kc_tree.specs.Fits.{type_of}
 use Rattle.kc_files.specs.ConfigLines.{trimmed}
 use Rattle.kc_files.specs.ValueForm.{Gives, GivesNo}
 use Rattle.kc_files.specs.ReadingSteps.{line_form, value_given, no_given}

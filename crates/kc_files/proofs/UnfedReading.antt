@@ -20,7 +20,7 @@ use Rattle.kc_files.specs.declared.line_reading.Reading.{Reading}
 use Rattle.kc_files.specs.declared.line_reading.Reading.TheVariants.{Usable, Warned, Nothing}
 use Rattle.kc_files.specs.ConfigLines.{is_feed, lines_in, trimmed}
 use Rattle.kc_files.specs.ConfigReading.{usable, counting, IsConfigReading}
-use Rattle.kc_files.specs.ConfigText.{type_of}
+use Rattle.kc_tree.specs.Fits.{type_of}
 use Rattle.kc_files.specs.LineForm.{HasForm}
 use Rattle.kc_files.specs.LineReading.{has_feed, IsUnfed, IsMeant, HasReading}
 use Rattle.kc_files.specs.Quoting.{is_special}

@@ -12,11 +12,11 @@ use Rattle.kc_statement.specs.declared.symbol_type.SymbolType.TheVariants as kin
 use Rattle.kc_outline.specs.TreeValue.{TreeValue, symbol_named}
 use Rattle.kc_tree.specs.declared.user_value.UserVal.{UserVal}
 use Rattle.kc_tree.specs.declared.user_value.UserVal.TheVariants.{Tri as TriVal, Text}
-use Rattle.kc_tree.specs.Fits.{fits_type}
+use Rattle.kc_tree.specs.Fits.{fits_type, type_of}
 use Rattle.kc_files.specs.declared.line_form.LineForm.{LineForm}
 use Rattle.kc_files.specs.declared.line_form.LineForm.TheVariants.{Assigned, Unset}
 use Rattle.kc_files.specs.declared.line_reading.Reading.TheVariants.{Usable}
-use Rattle.kc_files.specs.ConfigText.{tri_line, text_in, text_line, symbol_line, type_of}
+use Rattle.kc_files.specs.ConfigText.{tri_line, text_in, text_line, symbol_line}
 use Rattle.kc_files.specs.ConfigLines.{is_trailing, trimmed}
 use Rattle.kc_files.specs.Quoting.{is_special, escaped, quoted}
 use Rattle.kc_files.specs.Unquoting.{Spells}

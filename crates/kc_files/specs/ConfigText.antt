@@ -12,6 +12,7 @@ use Rattle.kc_outline.specs.declared.block.BlockKind.TheVariants as block_kind
 use Rattle.kc_tree.specs.declared.node.Node.TheVariants.{Val}
 use Rattle.kc_outline.specs.declared.entry.Entry.{Entry}
 use Rattle.kc_outline.specs.declared.entry.Entry.TheVariants.{Symbol, Again, Menu, EndMenu, Choice, Comment}
+use Rattle.kc_tree.specs.Fits.{type_of}
 use Rattle.kc_outline.specs.TreeValue.{TreeValue, name_of, kind_of}
 use Rattle.kc_statement.specs.declared.symbol_type.SymbolType.{SymbolType}
 use Rattle.kc_statement.specs.declared.symbol_type.SymbolType.TheVariants as kind
@@ -51,10 +52,6 @@ text_line prefix name k w = prefix ++ name ++ codes "=" ++ text_in k w ++ codes 
 abbrev pub symbol_line : List ℕ → List ℕ → SymbolType → UserVal → List ℕ
 symbol_line prefix name k (TriVal v) = tri_line prefix name v
 symbol_line prefix name k (Text w) = text_line prefix name k w
-
--- the declared type of a symbol, bool for a number that the tree doesn't have
-abbrev pub type_of : TreeValue → SymId → SymbolType
-type_of t s = option_map_or kind_of (slice_get t.symbols s.0) kind.Bool
 
 -- the value of a symbol that has a line
 abbrev pub written_in : Value → Option UserVal

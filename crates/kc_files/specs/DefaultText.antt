@@ -17,7 +17,8 @@ use Rattle.kc_value.specs.UserValues.{UserValues}
 use Rattle.kc_value.specs.Solution.{solution}
 use Rattle.kc_value.specs.ChangedValue.{changed_value}
 use Rattle.kc_value.specs.Replay.{shown_in}
-use Rattle.kc_files.specs.ConfigText.{type_of, symbol_line}
+use Rattle.kc_tree.specs.Fits.{type_of}
+use Rattle.kc_files.specs.ConfigText.{symbol_line}
 
 -- the selected member of a choice whose selection is another than without a chosen member
 abbrev pub is_changed_member : TreeValue → UserValues → ChoiceId → SymId → Bool

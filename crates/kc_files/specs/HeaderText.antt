@@ -15,7 +15,8 @@ use Rattle.kc_tree.specs.declared.user_value.UserVal.{UserVal}
 use Rattle.kc_tree.specs.declared.user_value.UserVal.TheVariants.{Tri as TriVal, Text}
 use Rattle.kc_value.specs.Assignment.{Assignment}
 use Rattle.kc_files.specs.Quoting.{quoted}
-use Rattle.kc_files.specs.ConfigText.{type_of, written_value}
+use Rattle.kc_tree.specs.Fits.{type_of}
+use Rattle.kc_files.specs.ConfigText.{written_value}
 
 -- ---- macros
 -- the macro of a name, with what follows the name

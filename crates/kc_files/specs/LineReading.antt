@@ -7,7 +7,7 @@ use Rattle.kc_statement.specs.declared.symbol_type.SymbolType.TheVariants as kin
 use Rattle.kc_outline.specs.TreeValue.{TreeValue, symbol_named}
 use Rattle.kc_tree.specs.declared.user_value.UserVal.{UserVal}
 use Rattle.kc_tree.specs.declared.user_value.UserVal.TheVariants.{Tri, Text}
-use Rattle.kc_tree.specs.Fits.{fits_type}
+use Rattle.kc_tree.specs.Fits.{fits_type, type_of}
 use Rattle.kc_files.specs.declared.assign.Assign.{Assign}
 use Rattle.kc_files.specs.declared.warning.WarningKind.{WarningKind}
 use Rattle.kc_files.specs.declared.warning.WarningKind.TheVariants as warning
@@ -15,7 +15,6 @@ use Rattle.kc_files.specs.declared.line_form.LineForm.{LineForm}
 use Rattle.kc_files.specs.declared.line_form.LineForm.TheVariants as form
 use Rattle.kc_files.specs.declared.line_reading.Reading.{Reading}
 use Rattle.kc_files.specs.declared.line_reading.Reading.TheVariants as reading
-use Rattle.kc_files.specs.ConfigText.{type_of}
 use Rattle.kc_files.specs.ConfigLines.{is_feed, trimmed}
 use Rattle.kc_files.specs.LineForm.{HasForm}
 use Rattle.kc_files.specs.ValueForm.{Gives, GivesNo}

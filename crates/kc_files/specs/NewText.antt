@@ -16,7 +16,8 @@ use Rattle.kc_value.specs.Assignment.{Assignment, as_tri, as_text}
 use Rattle.kc_value.specs.ChoiceRule.{is_symbol, is_visible, selected_in}
 use Rattle.kc_value.specs.UserValues.{UserValues, user_value, chosen_in}
 use Rattle.kc_value.specs.Solution.{solution}
-use Rattle.kc_files.specs.ConfigText.{type_of, text_line}
+use Rattle.kc_tree.specs.Fits.{type_of}
+use Rattle.kc_files.specs.ConfigText.{text_line}
 
 -- whether a user can give the symbol another value than it has: a text, or one of two or more that it can show
 abbrev pub has_another_value : TreeValue → UserValues → SymId → Bool

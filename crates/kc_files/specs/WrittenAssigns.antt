@@ -2,10 +2,10 @@
 use Rattle.std.specs.Prelude.{◌≡◌, ◌<◌, true, false, ℕ, List, [], ◌∷◌, length}
 use Rattle.std.specs.List.{flat_map, list_any}
 use Rattle.kc_outline.specs.TreeValue.{TreeValue, name_of}
-use Rattle.kc_tree.specs.Fits.{fits_type}
+use Rattle.kc_tree.specs.Fits.{fits_type, type_of}
 use Rattle.kc_files.specs.declared.assign.Assign.{Assign}
 use Rattle.kc_files.specs.ConfigReading.{names_symbol}
-use Rattle.kc_files.specs.ConfigText.{symbol_line, type_of}
+use Rattle.kc_files.specs.ConfigText.{symbol_line}
 use Rattle.kc_files.specs.LineReading.{IsUnfed}
 
 abbrev pub assign_line : TreeValue → List ℕ → Assign → List ℕ

@@ -8,12 +8,13 @@ ghost use Rattle.kc_value.specs.Assignment.{Assignment, assignment_of};
 ghost use Rattle.kc_value.specs.Conditions.{menu_condition, comment_condition};
 ghost use Rattle.kc_value.specs.KnownConditions.{AreSharedBy};
 ghost use Rattle.kc_value.specs.Solution.{solution, IsOnlySolution};
-ghost use Rattle.kc_files.specs.ConfigText.{type_of, symbol_line, written_value, title_block, end_line, menu_title, comment_title, line_of_symbol, title_of, end_of, piece_if, piece_of, config_text_of};
+ghost use Rattle.kc_tree.specs.Fits.{type_of};
+ghost use Rattle.kc_files.specs.ConfigText.{symbol_line, written_value, title_block, end_line, menu_title, comment_title, line_of_symbol, title_of, end_of, piece_if, piece_of, config_text_of};
 ghost use Rattle.kc_files.specs.DraftValue.{with_option, with_pieces, opens_menu, piece_after, Agrees};
 
 use crate::draft::Draft;
 use crate::prefix::Prefix;
-use crate::symbols::{type_of, written_value};
+use crate::symbols::written_value;
 use crate::titles::{comment_title, menu_title};
 use kc_tree::{BlockId, CommentId, Entry, SymId, Tree};
 use kc_value::{
@@ -72,7 +73,7 @@ fn push_symbol(
         (written_value (assignment_of tree.now values.now) symbol))) }
 {
     if let Some(value) = written_value(tree, values, symbol) {
-        draft.push_symbol(prefix, tree.name(symbol), type_of(tree, symbol), value)?;
+        draft.push_symbol(prefix, tree.name(symbol), tree.symbol_type(symbol), value)?;
     }
     Ok(())
 }

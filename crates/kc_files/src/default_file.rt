@@ -16,7 +16,7 @@ ghost use Rattle.kc_files.specs.DefaultText.{is_changed_member, default_value, d
 
 use crate::prefix::Prefix;
 use crate::symbol_line::push_symbol_line;
-use crate::symbols::{choice_of, selected_member, type_of};
+use crate::symbols::selected_member;
 use kc_tree::{ChoiceId, Entry, Node, SymId, Tree, Tri, UserVal};
 use kc_value::{NodeValues, Resolver, SharedConditions, User, Value, all_values, changed_value};
 use std::alloc::{AllocError, Global};
@@ -108,7 +108,7 @@ fn default_value(
         → IfOk result (λ v. v ≡ default_value tree.now user.now symbol) }
     ensures conditions { AreSharedBy tree.now values.now conditions.new }
 {
-    let Some(choice) = choice_of(tree, symbol) else {
+    let Some(choice) = tree.choice_of(symbol) else {
         let changed = changed_symbol(alloc, tree, user, conditions, values, symbol)?;
         return Ok(shown_value(changed));
     };
@@ -152,7 +152,7 @@ fn push_symbol(
             out,
             prefix,
             tree.name(symbol),
-            type_of(tree, symbol),
+            tree.symbol_type(symbol),
             &value,
         )?;
     }

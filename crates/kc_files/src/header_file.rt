@@ -12,7 +12,7 @@ ghost use Rattle.kc_files.specs.HeaderText.{has_hex_sign, missing_hex_sign, text
 
 use crate::prefix::Prefix;
 use crate::quoting::push_quoted;
-use crate::symbols::{type_of, written_value};
+use crate::symbols::written_value;
 use kc_tree::{Entry, SymId, SymbolType, Tree, Tri, UserVal};
 use kc_value::{NodeValues, Resolver, all_values};
 use std::alloc::{AllocError, Global};
@@ -151,7 +151,7 @@ fn push_symbol(
         ≡ string_bytes out.old ++ macro_of tree.now prefix.now (assignment_of tree.now values.now) symbol) }
 {
     if let Some(value) = written_value(tree, values, symbol) {
-        push_symbol_macro(out, prefix, tree.name(symbol), type_of(tree, symbol), value)?;
+        push_symbol_macro(out, prefix, tree.name(symbol), tree.symbol_type(symbol), value)?;
     }
     Ok(())
 }

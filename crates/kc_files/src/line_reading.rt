@@ -8,7 +8,6 @@ ghost use Rattle.kc_files.specs.LineSteps.{said, assigned_reading, unset_reading
 use crate::assign::Assign;
 use crate::config_lines::trimmed;
 use crate::line_form::{LineForm, line_form};
-use crate::symbols::type_of;
 use crate::value_form::{no_given, value_given};
 use crate::warning::WarningKind;
 use kc_tree::{SymId, SymbolType, Tree, UserVal};
@@ -75,7 +74,7 @@ fn assigned_reading(
     let Some(symbol) = find_likely(tree, name, likely) else {
         return Ok(Reading::Warned(WarningKind::UndefinedSymbol));
     };
-    let kind = type_of(tree, symbol);
+    let kind = tree.symbol_type(symbol);
     let given = value_given(alloc, kind, value)?;
     Ok(said(symbol, given, bad_value(kind)))
 }
@@ -88,7 +87,7 @@ fn unset_reading(tree: &Tree, name: &str, likely: SymId) -> Reading
     match find_likely(tree, name, likely) {
         Some(symbol) => said(
             symbol,
-            no_given(type_of(tree, symbol)),
+            no_given(tree.symbol_type(symbol)),
             WarningKind::BadValue,
         ),
         None => Reading::Warned(WarningKind::UndefinedSymbol),

@@ -9,7 +9,6 @@ ghost use Rattle.kc_files.specs.Loading.{is_yes, user_after};
 ghost use Rattle.kc_files.specs.LoadingSteps.{with_loaded, left_by};
 
 use crate::assign::Assign;
-use crate::symbols::choice_of;
 use kc_tree::{ChoiceId, SymId, Tree, Tri, UserVal};
 use kc_value::User;
 
@@ -49,7 +48,7 @@ fn apply_one(tree: &Tree, user: &mut User, assign: Assign)
     ensures values { user.new ≡ with_loaded tree.now user.old assign }
     ensures user { IsUserFor tree.now user.new }
 {
-    match choice_of(tree, assign.symbol) {
+    match tree.choice_of(assign.symbol) {
         Some(choice) => {
             if is_yes(&assign.value) {
                 choose(tree, user, choice, Some(assign.symbol));

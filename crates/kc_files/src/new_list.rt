@@ -14,7 +14,7 @@ ghost use Rattle.kc_files.specs.NewText.{has_another_value, is_new_symbol, visib
 
 use crate::prefix::Prefix;
 use crate::symbol_line::push_text_line;
-use crate::symbols::{choice_of, selected_member, shown_text, type_of, visibility};
+use crate::symbols::{selected_member, shown_text, visibility};
 use kc_tree::{ChoiceId, Entry, SymId, Tree};
 use kc_value::{NodeValues, Resolver, SharedConditions, User, all_values, assignable_among};
 use std::alloc::{AllocError, Global};
@@ -35,7 +35,7 @@ fn has_another_value(
     ensures answer { IfOk result (λ b. b ≡ has_another_value tree.now user.now symbol) }
     ensures conditions { AreSharedBy tree.now values.now conditions.new }
 {
-    if !type_of(tree, symbol).is_tri() {
+    if !tree.symbol_type(symbol).is_tri() {
         return Ok(true);
     }
     conditions.find_for(tree, values, symbol);
@@ -127,7 +127,7 @@ fn is_new(
     ensures answer { IfOk result (λ b. b ≡ is_new tree.now user.now symbol) }
     ensures conditions { AreSharedBy tree.now values.now conditions.new }
 {
-    match choice_of(tree, symbol) {
+    match tree.choice_of(symbol) {
         Some(choice) => Ok(is_new_member(tree, user, values, choice, symbol)),
         None => is_new_symbol(alloc, tree, user, conditions, values, symbol),
     }
@@ -158,7 +158,7 @@ fn push_symbol(
             out,
             prefix.as_str(),
             tree.name(symbol),
-            type_of(tree, symbol),
+            tree.symbol_type(symbol),
             value,
         )?;
     }

@@ -1,32 +1,14 @@
-//! What is written of a symbol of a tree: its type, its choice and its value.
+//! What is written of a symbol of a tree, and what its choice selects.
 
 ghost use Rattle.std.specs.Prelude.{◌≡◌};
 ghost use Rattle.std.specs.Option.{option_copied};
-ghost use Rattle.kc_outline.specs.TreeValue.{choice_of};
 ghost use Rattle.kc_tree.specs.declared.node.Node.TheVariants.{Vis, Val};
 ghost use Rattle.kc_value.specs.Assignment.{as_tri, as_text, assignment_of, value_at};
 ghost use Rattle.kc_value.specs.ChoiceRule.{selected_in};
-ghost use Rattle.kc_files.specs.ConfigText.{type_of, written_value};
+ghost use Rattle.kc_files.specs.ConfigText.{written_value};
 
-use kc_tree::{ChoiceId, Node, SymId, SymbolType, Tree, Tri, UserVal};
+use kc_tree::{ChoiceId, Node, SymId, Tree, Tri, UserVal};
 use kc_value::{NodeValues, Value};
-
-/// The declared type of a symbol, bool for a number that the tree doesn't have.
-pub(crate) fn type_of(tree: &Tree, symbol: SymId) -> SymbolType
-    ensures { result ≡ type_of tree.now symbol }
-{
-    match tree.symbols().get(symbol.0 as usize) {
-        Some(symbol) => symbol.kind(),
-        None => SymbolType::Bool,
-    }
-}
-
-/// The choice that a symbol is a member of.
-pub(crate) fn choice_of(tree: &Tree, symbol: SymId) -> Option<ChoiceId>
-    ensures { result ≡ choice_of tree.now symbol }
-{
-    tree.symbols().get(symbol.0 as usize)?.choice()
-}
 
 /// The value of a symbol that is written.
 pub(crate) fn written_value<'a>(

@@ -20,7 +20,7 @@ use Rattle.kc_tree.specs.declared.user_value.UserVal.TheVariants.{Tri as TriVal,
 use Rattle.kc_value.specs.ChoiceRule.{is_symbol}
 use Rattle.kc_value.specs.UserValues.{UserValues, chosen_in, with_value, with_chosen, no_values}
 use Rattle.kc_files.specs.ConfigLines.{is_feed}
-use Rattle.kc_files.specs.ConfigText.{type_of}
+use Rattle.kc_tree.specs.Fits.{type_of}
 use Rattle.kc_files.specs.DefaultLoading.{HasNoFeeds, KeepsChanges}
 use Rattle.kc_session.specs.declared.all_values.AllValue.{AllValue}
 use Rattle.kc_session.specs.declared.all_values.AllValue.TheVariants as all

@@ -10,7 +10,7 @@ use Rattle.kc_tree.specs.declared.user_value.UserVal.TheVariants.{Text}
 use Rattle.kc_statement.specs.SymbolTypes.{is_tri_type}
 use Rattle.kc_outline.specs.TreeValue.{TreeValue, symbol_named, choice_of}
 use Rattle.kc_value.specs.UserValues.{UserValues, IsUserFor, with_value, with_chosen, no_values}
-use Rattle.kc_files.specs.ConfigText.{type_of}
+use Rattle.kc_tree.specs.Fits.{type_of}
 use Rattle.kc_session.specs.declared.command.Command.TheVariants.{Set}
 use Rattle.kc_session.specs.declared.command.Refusal.{Refusal}
 use Rattle.kc_session.specs.declared.command.Refusal.TheVariants.{UnknownCommand, UndefinedSymbol, BadValue, BadMemberValue, BadLineCount, TooLong, NoMemory}

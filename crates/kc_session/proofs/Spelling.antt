@@ -12,9 +12,8 @@ use Rattle.kc_statement.specs.declared.tri.Tri.TheVariants.{No, Module, Yes}
 use Rattle.kc_statement.specs.Numerals.{numeral_in}
 use Rattle.kc_tree.specs.declared.user_value.UserVal.{UserVal}
 use Rattle.kc_tree.specs.declared.user_value.UserVal.TheVariants.{Tri as TriVal, Text}
-use Rattle.kc_tree.specs.Fits.{fits, fits_type}
+use Rattle.kc_tree.specs.Fits.{fits, fits_type, type_of}
 use Rattle.kc_outline.specs.TreeValue.{TreeValue, SymbolValue, kind_of, choice_of}
-use Rattle.kc_files.specs.ConfigText.{type_of}
 use Rattle.kc_session.specs.Values.{value_of}
 
 -- a value that is spelt, if there is one, is of the type

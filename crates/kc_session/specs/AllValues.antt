@@ -11,7 +11,7 @@ use Rattle.kc_tree.specs.declared.user_value.UserVal.TheVariants.{Tri as TriVal}
 use Rattle.kc_statement.specs.SymbolTypes.{is_tri_type}
 use Rattle.kc_outline.specs.TreeValue.{TreeValue, choice_of}
 use Rattle.kc_value.specs.UserValues.{UserValues}
-use Rattle.kc_files.specs.ConfigText.{type_of}
+use Rattle.kc_tree.specs.Fits.{type_of}
 use Rattle.kc_session.specs.declared.all_values.AllValue.{AllValue}
 use Rattle.kc_session.specs.declared.all_values.AllValue.TheVariants.{No, Yes}
 

@@ -10,7 +10,8 @@ use Rattle.kc_outline.specs.TreeValue.{symbol_named, choice_of}
 use Rattle.kc_value.specs.UserValues.{UserValues, with_value, with_chosen, chosen_in, no_values}
 use Rattle.kc_value.specs.ChoiceRule.{is_symbol}
 use Rattle.kc_value.specs.Solution.{solution}
-use Rattle.kc_files.specs.ConfigText.{config_text_of, type_of}
+use Rattle.kc_tree.specs.Fits.{type_of}
+use Rattle.kc_files.specs.ConfigText.{config_text_of}
 use Rattle.kc_files.specs.DefaultText.{default_text_of}
 use Rattle.kc_files.specs.HeaderText.{header_text_of}
 use Rattle.kc_files.specs.NewText.{new_text_of}

@@ -17,7 +17,8 @@ use Rattle.kc_value.specs.ChoiceRule.{is_symbol}
 use Rattle.kc_value.specs.UserValues.{UserValues, user_value, chosen_in}
 use Rattle.kc_value.specs.Solution.{solution}
 use Rattle.kc_value.specs.Assignable.{assignable_values}
-use Rattle.kc_files.specs.ConfigText.{type_of, text_in}
+use Rattle.kc_tree.specs.Fits.{type_of}
+use Rattle.kc_files.specs.ConfigText.{text_in}
 
 abbrev pub type_text : SymbolType → List ℕ
 type_text BoolType = codes "bool"

@@ -7,7 +7,6 @@ ghost use Rattle.kc_session.specs.AllValues.{all_given, is_free_tri, is_yes_in_a
 ghost use Rattle.kc_session.specs.AllValueSteps.{with_given};
 
 use crate::show::symbol_count;
-use crate::values::{choice_of, type_of};
 use kc_tree::{SymId, SymbolType, Tree, Tri, UserVal};
 use kc_value::User;
 
@@ -25,9 +24,9 @@ fn is_free_tri(tree: &Tree, symbol: SymId) -> bool
     requires inside { IsNodeOf tree.now (Vis symbol) }
     ensures { result ≡ is_free_tri tree.now symbol }
 {
-    choice_of(tree, symbol).is_none()
+    tree.choice_of(symbol).is_none()
         && matches!(
-            type_of(tree, symbol),
+            tree.symbol_type(symbol),
             SymbolType::Bool | SymbolType::Tristate
         )
 }

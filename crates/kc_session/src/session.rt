@@ -10,7 +10,7 @@ use crate::all_values::AllValue;
 use crate::command::{Command, Refusal, Reply};
 use crate::kept_resolver::KeptResolver;
 use crate::load::{read_body, warnings_text};
-use crate::values::{choice_of, type_of, value_of};
+use crate::values::value_of;
 use kc_files::{Assign, Load, Prefix};
 use kc_text::Text;
 use kc_tree::{ChoiceId, Node, SymId, Tree};
@@ -47,7 +47,7 @@ impl Session {
     ghost use Rattle.kc_outline.specs.TreeValue.{symbol_named, choice_of};
     ghost use Rattle.kc_value.specs.Kept.{is_kept};
     ghost use Rattle.kc_value.specs.UserValues.{with_chosen};
-    ghost use Rattle.kc_files.specs.ConfigText.{type_of};
+    ghost use Rattle.kc_tree.specs.Fits.{type_of};
     ghost use Rattle.kc_files.specs.DefaultLoading.{HasNoFeeds};
     ghost use Rattle.kc_files.specs.LineReading.{IsAssignFor, IsUnfed};
     ghost use Rattle.kc_files.specs.Loading.{user_after};
@@ -212,7 +212,7 @@ impl Session {
         ensures outcome { IsOutcome self.old.session (set_symbol self.old.session value.now symbol) result self.new.session }
         ensures edits { EditsKept self.old self.new }
     {
-        match choice_of(self.resolver.tree(), symbol) {
+        match self.resolver.tree().choice_of(symbol) {
             Some(choice) => self.set_member(symbol, choice, value),
             None => self.set_value(symbol, value),
         }
@@ -240,7 +240,7 @@ impl Session {
         ensures outcome { IsOutcome self.old.session (set_value self.old.session symbol value.now) result self.new.session }
         ensures edits { EditsKept self.old self.new }
     {
-        match value_of(self.alloc, type_of(self.resolver.tree(), symbol), value) {
+        match value_of(self.alloc, self.resolver.tree().symbol_type(symbol), value) {
             Ok(Some(value)) => {
                 self.resolver.set(symbol, value);
                 done(self.alloc)
@@ -268,7 +268,7 @@ impl Session {
         ensures session { self.new.session ≡ with_user self.old.session (unset_symbol self.old.session symbol).user }
         ensures edits { EditsKept self.old self.new }
     {
-        match choice_of(self.resolver.tree(), symbol) {
+        match self.resolver.tree().choice_of(symbol) {
             Some(choice) => self.unset_member(symbol, choice),
             None => {
                 self.resolver.unset(symbol);

@@ -10,11 +10,10 @@ ghost use Rattle.kc_value.specs.Kept.{IsKept, AreKept};
 ghost use Rattle.kc_value.specs.KeptLaws.{KeptLaws};
 ghost use Rattle.kc_value.specs.KnownConditions.{AreSharedBy};
 ghost use Rattle.kc_value.specs.UserValues.{IsUserFor};
-ghost use Rattle.kc_files.specs.ConfigText.{type_of};
+ghost use Rattle.kc_tree.specs.Fits.{type_of};
 ghost use Rattle.kc_session.specs.ShowLine.{show_line_of, list_text_of, line_text, type_text, tri_text, values_text, user_part, given_text};
 
 use crate::kept::kept_value;
-use crate::values::{choice_of, type_of};
 use kc_files::push_text_in;
 use kc_tree::{Node, SymId, SymbolType, Tree, Tri, UserVal};
 use kc_value::{NodeValues, SharedConditions, User, Value, assignable_among};
@@ -71,7 +70,7 @@ fn line_of(
         value.now visibility values.now (user_part tree.now user.now symbol)) }
 {
     let user = user_part(alloc, tree, user, symbol)?;
-    let kind = type_of(tree, symbol);
+    let kind = tree.symbol_type(symbol);
     let mut line = line_start(alloc, tree.name(symbol), kind)?;
     push_text_in(&mut line, kind, value.as_text())?;
     push_rest(&mut line, visibility, values, user.as_str())?;
@@ -83,8 +82,8 @@ fn user_part(alloc: Global, tree: &Tree, user: &User, symbol: SymId) -> Result<S
     requires { IsNodeOf tree.now (Vis symbol) }
     ensures { IfOk result (λ text. string_bytes text ≡ user_part tree.now user.now symbol) }
 {
-    let Some(choice) = choice_of(tree, symbol) else {
-        return given_text(alloc, type_of(tree, symbol), user.get(symbol));
+    let Some(choice) = tree.choice_of(symbol) else {
+        return given_text(alloc, tree.symbol_type(symbol), user.get(symbol));
     };
     let is_chosen = user.chosen(choice).is_some_and(|chosen| chosen == symbol);
     String::from_str(alloc, if is_chosen { "y" } else { "-" })

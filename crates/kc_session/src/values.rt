@@ -1,31 +1,11 @@
-//! The types of symbols, and the values that texts spell.
+//! The values that texts spell.
 ghost use Rattle.std.specs.Prelude.{◌≡◌, IfOk, OnErr, IsTrue, is_some, not};
-ghost use Rattle.kc_tree.specs.declared.node.Node.TheVariants.{Vis};
-ghost use Rattle.kc_tree.specs.Nodes.{IsNodeOf};
 ghost use Rattle.kc_statement.specs.SymbolTypes.{is_tri_type};
-ghost use Rattle.kc_outline.specs.TreeValue.{choice_of};
-ghost use Rattle.kc_files.specs.ConfigText.{type_of};
 ghost use Rattle.kc_session.specs.Values.{bool_of, tristate_of, value_of};
 
 use kc_statement::SharedText;
-use kc_tree::{ChoiceId, SymId, SymbolType, Tree, Tri, UserVal, numeral};
+use kc_tree::{SymbolType, Tri, UserVal, numeral};
 use std::alloc::{AllocError, Global};
-
-/// The declared type of a symbol.
-pub(crate) fn type_of(tree: &Tree, symbol: SymId) -> SymbolType
-    requires { IsNodeOf tree.now (Vis symbol) }
-    ensures { result ≡ type_of tree.now symbol }
-{
-    tree.symbols()[symbol.0 as usize].kind()
-}
-
-/// The choice that a symbol is a member of.
-pub(crate) fn choice_of(tree: &Tree, symbol: SymId) -> Option<ChoiceId>
-    requires { IsNodeOf tree.now (Vis symbol) }
-    ensures { result ≡ choice_of tree.now symbol }
-{
-    tree.symbols()[symbol.0 as usize].choice()
-}
 
 /// The value of a bool that a text spells.
 fn bool_of(text: &str) -> Option<Tri>

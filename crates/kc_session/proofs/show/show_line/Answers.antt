@@ -6,7 +6,7 @@ use Rattle.kc_tree.specs.declared.node.Node.TheVariants.{Vis, Val}
 use Rattle.kc_value.specs.Assignable.{assignable_values}
 use Rattle.kc_value.specs.Assignment.{as_tri}
 use Rattle.kc_value.specs.Solution.{solution}
-use Rattle.kc_files.specs.ConfigText.{type_of}
+use Rattle.kc_tree.specs.Fits.{type_of}
 use Rattle.kc_session.specs.ShowLine.{show_line_of, line_text, user_part}
 use Rattle.kc_session.proofs.show.show_line.Goals as goal
 
