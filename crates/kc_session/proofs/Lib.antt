@@ -13,7 +13,8 @@ pub mod Holding
 pub mod KeepingRequests
 pub mod LineLists
 pub mod Lines
-pub mod OneOpening
+pub mod MergeLaws
+mod OneOpening
 pub mod OpenLaws
 pub mod PlainLines
 pub mod Outcomes

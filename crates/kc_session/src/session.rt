@@ -423,7 +423,7 @@ impl Session {
 fn is_chosen(user: &User, member: SymId, choice: ChoiceId) -> bool
     ensures { result ≡ is_symbol (chosen_in user.now choice) member }
 {
-    user.chosen(choice).is_some_and(|chosen| chosen == member)
+    user.chosen(choice) == Some(member)
 }
 
 /// The reply to an edit that was done: no text.

@@ -68,6 +68,17 @@ impl User {
         self.values[symbol.0 as usize] = None;
     }
 
+    /// Takes the value of a symbol of the tree away, and gives it, if it has one; those of all others stay.
+    #[tactic(auto, using(crate::proofs::UserLemmas::none_kept))]
+    pub fn take(&mut self, symbol: SymId) -> Option<UserVal>
+        requires { symbol.0 < length self.old.values }
+        ensures value { result ≡ user_value self.old symbol }
+        ensures values { self.new ≡ with_value self.old symbol None }
+        ensures user { (t : TreeValue) → IsUserFor t self.old → IsUserFor t self.new }
+    {
+        self.values[symbol.0 as usize].take()
+    }
+
     /// Takes all values and chosen members away.
     #[tactic(auto, using(crate::proofs::UserLemmas::all_removed, crate::proofs::UserLemmas::empty_fits))]
     pub fn reset(&mut self)
