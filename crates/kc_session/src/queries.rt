@@ -18,7 +18,7 @@ ghost use Rattle.kc_value.specs.Solution.{solution};
 use crate::choices::choices_text;
 use crate::kept_resolver::KeptResolver;
 use crate::show::{list_text, show_line};
-use kc_files::{Prefix, config_text_over, defconfig_text, header_text_over, new_text};
+use kc_files::{Prefix, config_text_over, defconfig_text_over, header_text_over, new_text_over};
 use kc_tree::{Node, SymId};
 use kc_value::{Resolver, SharedConditions};
 use std::alloc::{AllocError, Global};
@@ -98,7 +98,8 @@ impl KeptResolver {
         ensures done { OnOk result (AreAllKept (all_nodes self.old.tree) self.new) }
     {
         self.fill_all()?;
-        defconfig_text(alloc, self, prefix)
+        let text = defconfig_text_over(alloc, self.tree(), self.user(), self.values(), prefix)?;
+        Ok(text)
     }
 
     /// The list of new symbols.
@@ -109,6 +110,7 @@ impl KeptResolver {
         ensures done { OnOk result (AreAllKept (all_nodes self.old.tree) self.new) }
     {
         self.fill_all()?;
-        new_text(alloc, self, prefix)
+        let text = new_text_over(alloc, self.tree(), self.user(), self.values(), prefix)?;
+        Ok(text)
     }
 }

@@ -1,10 +1,22 @@
-use Rattle.kc_session.proofs.AskedLaws.{all_stay, all_twice, ok_always}
+use Rattle.std.proofs.Common.{◌≡◌, sym, ◌∙◌, subst}
+use Rattle.kc_value.specs.Solution.{AreSolved}
+use Rattle.kc_value.specs.UserValues.{UserValues}
+use Rattle.kc_files.specs.NewText.{new_text_of}
+use Rattle.kc_session.proofs.AskedLaws.{all_solved}
 use Rattle.kc_session.proofs.kept_resolver.KeptResolver.new_list.Goals as goal
 
-pub returns-clause-asked : goal.returns-clause-asked
-returns-clause-asked c = all_twice c.args.self.now c.fill_all.new.self c.new_text.new.resolver c.fill_all.ensures.asked c.new_text.ensures.grew
+pub returns-clause-text : goal.returns-clause-text
+returns-clause-text c =
+    let old = c.args.self.now in
+    let asked = c.fill_all.ensures.asked in
+    let same_tree : c.tree.result.now ≡ old.tree = c.tree.ensures ∙ asked.tree in
+    let same_user : c.user.result.now ≡ old.user = c.user.ensures.user ∙ asked.user in
+    c.in_ok-text.ensures ∙ (λ i. new_text_of (same_tree i) (same_user i) c.args.prefix.now)
 
-pub returns-clause-done : goal.returns-clause-done
-returns-clause-done c =
-    ok_always c.new_text.result
-    (all_stay c.args.self.now c.fill_all.new.self c.new_text.new.resolver c.fill_all.ensures.laws.numbered c.fill_all.ensures.asked c.in_ok-fill_all.ensures.done c.new_text.ensures.grew)
+pub new_text_over-requires-clause-solved : goal.new_text_over-requires-clause-solved
+new_text_over-requires-clause-solved c =
+    let old = c.args.self.now in
+    let asked = c.fill_all.ensures.asked in
+    let same_user : c.user.result.now ≡ old.user = c.user.ensures.user ∙ asked.user in
+    subst (λ (u : UserValues). AreSolved c.tree.result.now u c.values.result.now) (sym same_user)
+    (all_solved old c.fill_all.new.self c.tree.result.now c.values.result.now c.tree.ensures c.values.ensures.values asked c.in_ok-fill_all.ensures.done c.values.ensures.sound)
