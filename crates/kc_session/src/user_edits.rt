@@ -17,7 +17,6 @@ ghost use Rattle.kc_value.specs.UserValues.{IsUserFor, chosen_in, no_values, use
 
 use crate::all_values::{AllValue, give_all};
 use crate::kept_resolver::KeptResolver;
-use crate::values::choice_of;
 use kc_files::{Assign, Load, apply};
 use kc_tree::{ChoiceId, SymId, Tree, UserVal};
 use kc_value::{KeptValues, User};
@@ -212,7 +211,7 @@ fn take_one(tree: &Tree, kept: &mut KeptValues, user: &mut User, next: &mut User
     ensures taking { IsTaking tree.now user.old next.old kept.old user.new next.new kept.new }
     ensures taken { IsTaken tree.now next.new symbol }
 {
-    match choice_of(tree, symbol) {
+    match tree.choice_of(symbol) {
         Some(choice) => take_member(tree, kept, user, next, choice),
         None => take_value(tree, kept, user, next, symbol),
     }
