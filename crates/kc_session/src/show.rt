@@ -19,11 +19,9 @@ use kc_tree::{Node, SymId, SymbolType, Tree, Tri, UserVal};
 use kc_value::{NodeValues, SharedConditions, User, Value, assignable_among};
 use std::alloc::{AllocError, Global};
 
-/// The line of `show` about a symbol whose value is kept. What it is computed from, as its visibility, is kept with it.
-/// `conditions` is what the values give many nodes, as far as it is known.
+/// The line of `show` about a symbol whose value is kept, as [`push_show_line`] appends it.
 ///
 /// The error comes where memory is refused.
-#[tactic(auto, unfolding(crate::specs::ShowLine::show_line_of))]
 pub(crate) fn show_line(
     alloc: Global,
     tree: &Tree,
@@ -40,11 +38,38 @@ pub(crate) fn show_line(
     requires asked { IsKept tree.now values.now (Val symbol) }
     ensures { IfOk result (λ text. string_bytes text ≡ show_line_of tree.now user.now symbol) }
 {
+    let mut text = String::new(alloc);
+    push_show_line(&mut text, alloc, tree, user, conditions, values, symbol)?;
+    Ok(text)
+}
+
+/// Appends the line of `show` about a symbol whose value is kept. What it is computed from, as its visibility, is kept
+/// with it. `conditions` is what the values give many nodes, as far as it is known.
+///
+/// The error comes where memory is refused.
+#[tactic(auto, unfolding(crate::specs::ShowLine::show_line_of))]
+pub(crate) fn push_show_line(
+    text: &mut String,
+    alloc: Global,
+    tree: &Tree,
+    user: &User,
+    conditions: &SharedConditions,
+    values: &NodeValues,
+    symbol: SymId,
+) -> Result<(), AllocError>
+    requires inside { IsNodeOf tree.now (Vis symbol) }
+    requires user { IsUserFor tree.now user.now }
+    requires conditions { AreSharedBy tree.now values.now conditions.now }
+    requires kept { AreKept tree.now user.now values.now }
+    requires laws { KeptLaws tree.now }
+    requires asked { IsKept tree.now values.now (Val symbol) }
+    ensures { OnOk result (string_bytes text.new ≡ string_bytes text.old ++ show_line_of tree.now user.now symbol) }
+{
     let value = kept_value(tree, values, Node::Val(symbol));
     let visibility = kept_value(tree, values, Node::Vis(symbol)).as_tri();
     let assignable = assignable_among(alloc, tree, conditions, values, symbol)?;
-    line_of(
-        alloc,
+    push_line(
+        text,
         tree,
         user,
         symbol,
@@ -54,89 +79,63 @@ pub(crate) fn show_line(
     )
 }
 
-/// The line about a symbol of a tree, from its value, its visibility and the values that it can be given.
+/// Appends the line about a symbol of a tree, from its value, its visibility and the values that it can be given.
 #[tactic(auto, unfolding(crate::specs::ShowLine::line_text))]
-fn line_of(
-    alloc: Global,
+fn push_line(
+    text: &mut String,
     tree: &Tree,
     user: &User,
     symbol: SymId,
     value: &Value,
     visibility: Tri,
     values: &[Tri],
-) -> Result<String, AllocError>
-    requires { IsNodeOf tree.now (Vis symbol) }
-    ensures { IfOk result (λ text. string_bytes text ≡ line_text (name_of tree.now symbol) (type_of tree.now symbol)
-        value.now visibility values.now (user_part tree.now user.now symbol)) }
-{
-    let user = user_part(alloc, tree, user, symbol)?;
-    let kind = tree.symbol_type(symbol);
-    let mut line = line_start(alloc, tree.name(symbol), kind)?;
-    push_text_in(&mut line, kind, value.as_text())?;
-    push_rest(&mut line, visibility, values, user.as_str())?;
-    Ok(line)
-}
-
-/// What the user gave a symbol: of a member of a choice y where he chose it, and a dash where he gave nothing.
-fn user_part(alloc: Global, tree: &Tree, user: &User, symbol: SymId) -> Result<String, AllocError>
-    requires { IsNodeOf tree.now (Vis symbol) }
-    ensures { IfOk result (λ text. string_bytes text ≡ user_part tree.now user.now symbol) }
-{
-    let Some(choice) = tree.choice_of(symbol) else {
-        return given_text(alloc, tree.symbol_type(symbol), user.get(symbol));
-    };
-    let is_chosen = user.chosen(choice).is_some_and(|chosen| chosen == symbol);
-    String::from_str(alloc, if is_chosen { "y" } else { "-" })
-}
-
-/// What the user gave a symbol of a type, a dash where he gave nothing.
-fn given_text(
-    alloc: Global,
-    kind: SymbolType,
-    value: Option<&UserVal>,
-) -> Result<String, AllocError>
-    ensures { IfOk result (λ text. string_bytes text ≡ given_text kind (option_copied value.entry)) }
-{
-    match value {
-        None => String::from_str(alloc, "-"),
-        Some(UserVal::Tri(tri)) => String::from_str(alloc, tri.letter()),
-        Some(UserVal::Text(text)) => {
-            let mut given = String::new(alloc);
-            push_text_in(&mut given, kind, text.as_str())?;
-            Ok(given)
-        }
-    }
-}
-
-/// The line up to the value.
-fn line_start(alloc: Global, name: &str, kind: SymbolType) -> Result<String, AllocError>
-    ensures { IfOk result (λ text. string_bytes text
-        ≡ name.now ++ codes " type=" ++ type_text kind ++ codes " value=") }
-{
-    let mut text = String::from_str(alloc, name)?;
-    text.push_str(" type=")?;
-    text.push_str(type_word(kind))?;
-    text.push_str(" value=")?;
-    Ok(text)
-}
-
-/// What stands behind the value.
-fn push_rest(
-    text: &mut String,
-    visibility: Tri,
-    values: &[Tri],
-    user: &str,
 ) -> Result<(), AllocError>
-    ensures { OnOk result (string_bytes text.new ≡ string_bytes text.old ++ codes " vis=" ++ tri_text visibility
-        ++ codes " can=" ++ values_text values.now ++ codes " user=" ++ user.now ++ codes "\n") }
+    requires { IsNodeOf tree.now (Vis symbol) }
+    ensures { OnOk result (string_bytes text.new ≡ string_bytes text.old
+        ++ line_text (name_of tree.now symbol) (type_of tree.now symbol) value.now visibility values.now
+        (user_part tree.now user.now symbol)) }
 {
-    text.push_str(" vis=")?;
-    text.push_str(visibility.letter())?;
-    text.push_str(" can=")?;
+    let kind = tree.symbol_type(symbol);
+    text.push_str(tree.name(symbol))?;
+    text.push_str(type_part(kind))?;
+    push_text_in(text, kind, value.as_text())?;
+    text.push_str(visibility_part(visibility))?;
     push_values(text, values)?;
     text.push_str(" user=")?;
-    text.push_str(user)?;
+    push_user_part(text, tree, user, symbol)?;
     text.push_str("\n")
+}
+
+/// Appends what the user gave a symbol: of a member of a choice y where he chose it, and a dash where he gave nothing.
+fn push_user_part(
+    text: &mut String,
+    tree: &Tree,
+    user: &User,
+    symbol: SymId,
+) -> Result<(), AllocError>
+    requires { IsNodeOf tree.now (Vis symbol) }
+    ensures { OnOk result (string_bytes text.new ≡ string_bytes text.old ++ user_part tree.now user.now symbol) }
+{
+    let Some(choice) = tree.choice_of(symbol) else {
+        return push_given(text, tree.symbol_type(symbol), user.get(symbol));
+    };
+    let is_chosen = user.chosen(choice).is_some_and(|chosen| chosen == symbol);
+    text.push_str(if is_chosen { "y" } else { "-" })
+}
+
+/// Appends what the user gave a symbol of a type, a dash where he gave nothing.
+fn push_given(
+    text: &mut String,
+    kind: SymbolType,
+    value: Option<&UserVal>,
+) -> Result<(), AllocError>
+    ensures { OnOk result (string_bytes text.new ≡ string_bytes text.old ++ given_text kind (option_copied value.entry)) }
+{
+    match value {
+        None => text.push_str("-"),
+        Some(UserVal::Tri(tri)) => text.push_str(tri.letter()),
+        Some(UserVal::Text(given)) => push_text_in(text, kind, given.as_str()),
+    }
 }
 
 /// How many symbols there are.
@@ -165,25 +164,44 @@ pub(crate) fn list_text(
     let conditions = SharedConditions::of(alloc, tree, values)?;
     let mut text = String::new(alloc);
     for number in 0..symbol_count(tree) {
-        let line = show_line(alloc, tree, user, &conditions, values, SymId(number))?;
-        text.push_str(line.as_str())?;
+        push_show_line(
+            &mut text,
+            alloc,
+            tree,
+            user,
+            &conditions,
+            values,
+            SymId(number),
+        )?;
     }
     Ok(text)
 }
 
-fn type_word(kind: SymbolType) -> &'static str
-    ensures { result.now ≡ type_text kind }
+/// The part of a line between the name and the value.
+fn type_part(kind: SymbolType) -> &'static str
+    ensures { result.now ≡ codes " type=" ++ type_text kind ++ codes " value=" }
 {
     match kind {
-        SymbolType::Bool => "bool",
-        SymbolType::Tristate => "tristate",
-        SymbolType::String => "string",
-        SymbolType::Int => "int",
-        SymbolType::Hex => "hex",
+        SymbolType::Bool => " type=bool value=",
+        SymbolType::Tristate => " type=tristate value=",
+        SymbolType::String => " type=string value=",
+        SymbolType::Int => " type=int value=",
+        SymbolType::Hex => " type=hex value=",
     }
 }
 
-/// Puts the values behind the text with commas between them, a dash where there is none.
+/// The part of a line between the value and those that the user can give.
+fn visibility_part(visibility: Tri) -> &'static str
+    ensures { result.now ≡ codes " vis=" ++ tri_text visibility ++ codes " can=" }
+{
+    match visibility {
+        Tri::No => " vis=n can=",
+        Tri::Module => " vis=m can=",
+        Tri::Yes => " vis=y can=",
+    }
+}
+
+/// Appends values with commas between them, a dash where there is none.
 fn push_values(text: &mut String, values: &[Tri]) -> Result<(), AllocError>
     ensures { OnOk result (string_bytes text.new ≡ string_bytes text.old ++ values_text values.now) }
 {

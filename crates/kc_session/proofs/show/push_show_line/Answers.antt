@@ -1,6 +1,6 @@
-use Rattle.std.proofs.Common.{◌≡◌, ap, ◌∙◌}
+use Rattle.std.proofs.Common.{◌≡◌, ap, ◌∙◌, ◌++◌}
 use Rattle.std.specs.String.{string_bytes}
-use Rattle.std.proofs.lemmas.Result.{IfOk-weaker}
+use Rattle.std.proofs.lemmas.Result.{on_ok_weaker}
 use Rattle.kc_outline.specs.TreeValue.{name_of}
 use Rattle.kc_tree.specs.declared.node.Node.TheVariants.{Vis, Val}
 use Rattle.kc_value.specs.Assignable.{assignable_values}
@@ -8,7 +8,7 @@ use Rattle.kc_value.specs.Assignment.{as_tri}
 use Rattle.kc_value.specs.Solution.{solution}
 use Rattle.kc_tree.specs.Fits.{type_of}
 use Rattle.kc_session.specs.ShowLine.{show_line_of, line_text, user_part}
-use Rattle.kc_session.proofs.show.show_line.Goals as goal
+use Rattle.kc_session.proofs.show.push_show_line.Goals as goal
 
 pub kept_value-requires-clause-kept : goal.kept_value-requires-clause-kept
 kept_value-requires-clause-kept c =
@@ -29,11 +29,9 @@ returns c =
     let can : c.as_slice.result.now ≡ assignable_values t u s = c.as_slice.ensures.value ∙ c.in_ok-assignable.ensures.used u c.requires.user right in
     let line = line_text (name_of t s) (type_of t s) in
     let user = user_part t u s in
-    IfOk-weaker c.line_of.result
-    (λ text. string_bytes text ≡ line c.kept_value-value.result.now c.as_tri-visibility.result c.as_slice.result.now user)
-    (λ text. string_bytes text ≡ show_line_of t u s)
-    (λ text is. is
-    ∙ ap (λ v. line v c.as_tri-visibility.result c.as_slice.result.now user) value
-    ∙ ap (λ v. line (solution t u (Val s)) v c.as_slice.result.now user) visibility
-    ∙ ap (λ vs. line (solution t u (Val s)) (as_tri (solution t u (Vis s))) vs user) can)
-    c.line_of.ensures
+    on_ok_weaker c.push_line.result
+    (λ is. is
+    ∙ ap (λ v. string_bytes c.args.text.now ++ line v c.as_tri-visibility.result c.as_slice.result.now user) value
+    ∙ ap (λ v. string_bytes c.args.text.now ++ line (solution t u (Val s)) v c.as_slice.result.now user) visibility
+    ∙ ap (λ vs. string_bytes c.args.text.now ++ line (solution t u (Val s)) (as_tri (solution t u (Vis s))) vs user) can)
+    c.push_line.ensures
