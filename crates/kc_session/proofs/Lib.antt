@@ -4,7 +4,6 @@ pub mod AskedLaws
 pub mod BodyHolding
 pub mod BodyLines
 pub mod Cutting
-pub mod DecimalDigits
 pub mod EvaluationLaws
 mod Examples
 mod ReplyExamples

@@ -1,14 +1,12 @@
 //! From the text of a line to what it asks for.
-ghost use Rattle.std.specs.Prelude.{◌≡◌, ◌&&◌, ◌-◌, ◌^◌, IfNone, IfSome, false, true, length, nat_le};
-ghost use Rattle.std.specs.Char.{is_ascii_digit};
-ghost use Rattle.std.specs.List.{list_all};
+ghost use Rattle.std.specs.Prelude.{◌≡◌, IfNone, IfSome, false, true};
 ghost use Rattle.std.specs.Option.{option_copied};
-ghost use Rattle.kc_statement.specs.Numerals.{digits_up_to};
 ghost use Rattle.kc_session.specs.Commands.{request_of, request_in, request_word, request_with, request_with_argument, load_request, line_count, lines_asked, load_command, request_of_text, command_word, is_parted, word_before, rest_after};
 
 use crate::body::Body;
 use crate::command::{Command, Refusal};
 use kc_files::Load;
+use kc_statement::digits_up_to;
 use kc_text::TextRef;
 use std::str;
 
@@ -158,33 +156,5 @@ fn line_count(text: &str) -> Option<u64>
     if text.len() > MOST_DIGITS {
         return None;
     }
-    let count = decimal(text)?;
-    if count > MOST_LINES {
-        return None;
-    }
-    Some(count)
-}
-
-/// Whether each byte is a decimal digit.
-fn are_digits(bytes: &[u8]) -> bool
-    ensures { result ≡ list_all is_ascii_digit bytes.now }
-{
-    bytes.iter().all(|byte| byte.is_ascii_digit())
-}
-
-/// Whether a text is one or more decimal digits.
-fn is_decimal(text: &str) -> bool
-    ensures { result ≡ (list_all is_ascii_digit text.now && nat_le 1 (length text.now)) }
-{
-    are_digits(text.as_bytes()) && text.len() >= 1
-}
-
-/// The number that one or more decimal digits spell, none past 64 bits.
-fn decimal(text: &str) -> Option<u64>
-    ensures { result ≡ digits_up_to (2 ^ 64 - 1) text.now }
-{
-    if !is_decimal(text) {
-        return None;
-    }
-    u64::from_str_radix(text, 10).ok()
+    digits_up_to(MOST_LINES, text)
 }
