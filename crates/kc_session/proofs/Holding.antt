@@ -1,7 +1,7 @@
--- What the line buffer keeps of a line, byte by byte, and that it keeps the text of each line that fits.
-use Rattle.std.proofs.Common.{◌≡◌, ℕ, ◌<◌, ◌≤◌, Bool, true, false, List, [], ◌∷◌, ◌++◌, length, take, refl, sym, ap, ◌∙◌, inl, inr, arith, None, Some, cond}
+-- What the line buffer keeps of a line, a part at a time, and that it keeps the text of each line that fits.
+use Rattle.std.proofs.Common.{◌≡◌, ℕ, zero, suc, ◌+◌, ◌-◌, ◌<◌, ◌≤◌, Bool, true, false, List, [], ◌∷◌, ◌++◌, length, take, refl, sym, ap, ◌∙◌, inl, inr, arith, None, Some, cond, append-nil}
 use Rattle.std.proofs.lemmas.Bool.{cases_lt, le-ltb, lt-ltb, lt-leb, cond-false}
-use Rattle.std.proofs.lemmas.List.{length_push, length-take, take_all, take-append-le}
+use Rattle.std.proofs.lemmas.List.{length-append, length-take, take_all}
 use Rattle.kc_session.specs.Stream.{line_limit, text_of_line, fits_line, text_if_fits}
 use Rattle.kc_session.specs.Held.{HeldLine, line_room, held_of, text_held, line_held}
 use Rattle.kc_session.proofs.Lines.{length-text_of_line}
@@ -29,24 +29,38 @@ kept-held_of line = refl
 pub held_of-nil : (held : HeldLine) → held.kept ≡ [] → held.is_cut ≡ false → held ≡ held_of []
 held_of-nil held none whole = held_line _ _ _ _ none whole ∙ sym (held_of-short [] (omega arith))
 
--- one more byte, where there is room
-pub held_of-push : (held pushed : HeldLine) (line : List ℕ) (b : ℕ) → held ≡ held_of line → length held.kept < line_room
-    → pushed.kept ≡ held.kept ++ b ∷ [] → pushed.is_cut ≡ held.is_cut → pushed ≡ held_of (line ++ b ∷ [])
-held_of-push held pushed line b e room grown whole =
+-- more bytes, where there is room
+pub held_of-push : (held pushed : HeldLine) (line more : List ℕ) → held ≡ held_of line → length held.kept + length more ≤ line_room
+    → pushed.kept ≡ held.kept ++ more → pushed.is_cut ≡ held.is_cut → pushed ≡ held_of (line ++ more)
+held_of-push held pushed line [] e room grown whole =
+    held_line _ _ _ _ (grown ∙ append-nil held.kept) whole ∙ e ∙ ap held_of (sym (append-nil line))
+held_of-push held pushed line (b ∷ bs) e room grown whole =
     let kept : held.kept ≡ take line_room line = ap (λ h. h.kept) e ∙ kept-held_of line in
-    let short : length line < line_room = omega (arith, ap length kept, length-take line_room line) in
+    let short : length line < line_room = omega (arith, room, ap length kept, length-take line_room line) in
     let same : held ≡ record { kept = line; is_cut = false } = e ∙ held_of-short line (omega arith) in
-    held_line _ _ _ _ (grown ∙ ap (λ h. h.kept ++ b ∷ []) same) (whole ∙ ap (λ h. h.is_cut) same)
-    ∙ sym (held_of-short (line ++ b ∷ []) (omega (arith, length_push line b)))
+    let all : length (line ++ b ∷ bs) ≤ line_room = omega (arith, room, ap (λ h. length h.kept) same, length-append line (b ∷ bs)) in
+    held_line _ _ _ _ (grown ∙ ap (λ h. h.kept ++ b ∷ bs) same) (whole ∙ ap (λ h. h.is_cut) same)
+    ∙ sym (held_of-short (line ++ b ∷ bs) all)
 
--- one more byte, where there is none
-pub held_of-full : (held cut : HeldLine) (line : List ℕ) (b : ℕ) → held ≡ held_of line → line_room ≤ length held.kept
-    → cut.kept ≡ held.kept → cut.is_cut ≡ true → cut ≡ held_of (line ++ b ∷ [])
-held_of-full held cut line b e full same is_cut =
+-- the first of two lists, and of the other what there is room for
+take-both : (n : ℕ) (xs ys : List ℕ) → take n (xs ++ ys) ≡ take n xs ++ take (n - length (take n xs)) ys
+take-both zero xs ys = refl
+take-both (suc n) [] ys = let whole : suc n ≡ suc n - 0 = omega arith in ap (λ k. take k ys) whole
+take-both (suc n) (x ∷ xs) ys =
+    let left : n - length (take n xs) ≡ suc n - length (x ∷ take n xs) = omega arith in
+    ap (λ zs. x ∷ zs) (take-both n xs ys ∙ ap (λ k. take n xs ++ take k ys) left)
+
+-- more bytes, where there is not room for all of them
+pub held_of-full : (held cut : HeldLine) (line more : List ℕ) (room : ℕ) → held ≡ held_of line → room ≡ line_room - length held.kept → room < length more
+    → cut.kept ≡ held.kept ++ take room more → cut.is_cut ≡ true → cut ≡ held_of (line ++ more)
+held_of-full held cut line more room e rest few grown is_cut =
     let kept : held.kept ≡ take line_room line = ap (λ h. h.kept) e ∙ kept-held_of line in
-    let long : line_room ≤ length line = omega (arith, ap length kept, length-take line_room line) in
-    held_line _ _ _ _ (same ∙ kept ∙ sym (take-append-le line_room line (b ∷ []) long)) is_cut
-    ∙ sym (held_of-long (line ++ b ∷ []) (omega (arith, length_push line b)))
+    let long : line_room < length (line ++ more) = omega (arith, rest, few, ap length kept, length-take line_room line, length-append line more) in
+    held_line _ _ _ _
+    (grown ∙ ap (λ n. held.kept ++ take n more) rest
+    ∙ ap (λ xs. xs ++ take (line_room - length xs) more) kept
+    ∙ sym (take-both line_room line more)) is_cut
+    ∙ sym (held_of-long (line ++ more) long)
 
 -- a buffer without a byte holds a line without a byte, and no other
 pub held_of-empty : (held : HeldLine) (line : List ℕ) → held ≡ held_of line → length held.kept ≡ 0 → line ≡ []

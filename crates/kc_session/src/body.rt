@@ -6,6 +6,7 @@ ghost use Rattle.kc_session.specs.Bodies.{fits_body};
 ghost use Rattle.kc_session.specs.Stream.{lines_of, fits_line};
 
 use crate::line::fits_line;
+use memchr::memchr;
 use std::marker::Model;
 
 /// The most bytes that a body has, with all line ends.
@@ -42,11 +43,11 @@ impl<'a> Body<'a> {
 }
 
 /// How many bytes stand before the first line feed of a text: all of them where there is none.
-fn line_len(text: &[u8]) -> usize
+pub(crate) fn line_len(text: &[u8]) -> usize
     ensures len { result ≡ position_or_len is_feed text.now }
     ensures within { result ≤ length text.now }
 {
-    match text.iter().position(|byte| *byte == b'\n') {
+    match memchr(b'\n', text) {
         Some(len) => len,
         None => text.len(),
     }

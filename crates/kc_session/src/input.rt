@@ -1,6 +1,6 @@
-//! The bytes of a stream, one at a time, read in chunks.
+//! The bytes of a stream, read in chunks.
 ghost use Rattle.kc_session.specs.Input.{read_limit};
-ghost use Rattle.std.specs.Prelude.{◌≡◌, ◌⊎◌, ◌+◌, ◌<◌, ◌≤◌, [], ◌++◌, option_to_list, IsSome, IsNone, IfOk, IfErr, OnErr, OnOk, OnSome};
+ghost use Rattle.std.specs.Prelude.{◌≡◌, ◌⊎◌, ◌+◌, ◌<◌, ◌≤◌, [], ◌++◌, true, false, length, take, IfOk, IfErr, OnErr, OnOk};
 ghost use Rattle.std.specs.Io.KnownBytes.{prepend_known, Consumes, IsAtEnd};
 
 use crate::fault::IoFault;
@@ -52,29 +52,40 @@ impl Input {
         }
     }
 
-    /// Takes the next byte of the stream, `None` at its end.
+    /// Whether the stream has a byte more, which is then among the unread ones: the next chunk is read where none is.
     ///
     /// # Errors
     ///
     /// `IoFault::Read` where the next chunk was wanted and could not be read, or would be past the last of 2^63 reads.
-    /// Nothing is taken then.
-    pub(crate) fn next_byte<R: Read>(&mut self, reader: &mut R) -> Result<Option<u8>, IoFault>
-        ensures taken { IfOk result (λ byte. Consumes
+    pub(crate) fn fill<R: Read>(&mut self, reader: &mut R) -> Result<bool, IoFault>
+        ensures kept { Consumes
             (prepend_known self.old.bytes (R.remaining reader.old))
             (prepend_known self.new.bytes (R.remaining reader.new))
-            (option_to_list byte)) }
-        ensures end { IfOk result (λ byte. IsNone byte → IsAtEnd (prepend_known self.new.bytes (R.remaining reader.new))) }
-        ensures err { OnErr result (Consumes
-            (prepend_known self.old.bytes (R.remaining reader.old))
-            (prepend_known self.new.bytes (R.remaining reader.new))
-            []) }
+            [] }
+        ensures more { IfOk result (λ more. more ≡ true → 0 < length self.new.bytes) }
+        ensures end { IfOk result (λ more. more ≡ false → IsAtEnd (prepend_known self.new.bytes (R.remaining reader.new))) }
         ensures used_up { OnErr result (self.new.bytes ≡ []) }
         ensures fault { IfErr result (λ fault. fault ≡ IoFault.Read) }
         ensures budget { self.new.budget ≤ self.old.budget }
-        ensures progress { IfOk result (λ byte. IsSome byte → self.new.budget < self.old.budget) }
     {
         self.refill(reader)?;
-        Ok(self.pop())
+        Ok(self.start < self.end)
+    }
+
+    /// The bytes that were read and not yet taken.
+    pub(crate) fn unread(&self) -> &[u8]
+        ensures { result.now ≡ self.now.bytes }
+    {
+        &self.chunk[self.start..self.end]
+    }
+
+    /// Takes the first of the unread bytes, as many as this.
+    pub(crate) fn take(&mut self, count: usize)
+        requires { count ≤ length self.old.bytes }
+        ensures taken { self.old.bytes ≡ take count self.old.bytes ++ self.new.bytes }
+        ensures budget { self.new.budget + count ≡ self.old.budget }
+    {
+        self.start += count;
     }
 
     // Reads the next chunk where the last one is used up. The error comes after a read, which is counted, or where as
@@ -105,22 +116,6 @@ impl Input {
                 Ok(())
             }
             Err(_) => Err(IoFault::Read),
-        }
-    }
-
-    // Takes the first byte of the chunk, where one is left.
-    fn pop(&mut self) -> Option<u8>
-        ensures taken { self.old.bytes ≡ option_to_list result ++ self.new.bytes }
-        ensures end { IsNone result → (self.old.bytes ≡ []) × (self.new.bytes ≡ []) }
-        ensures budget { self.new.budget ≤ self.old.budget }
-        ensures progress { OnSome result (self.new.budget < self.old.budget) }
-    {
-        if self.start < self.end {
-            let byte = self.chunk[self.start];
-            self.start += 1;
-            Some(byte)
-        } else {
-            None
         }
     }
 }

@@ -1,6 +1,6 @@
 //! The one buffer that holds a line.
-ghost use Rattle.std.specs.Prelude.{◌≡◌, ℕ, List, [], ◌∷◌, ◌++◌, IfOk, IfErr, option_copied, length, ◌==◌};
-ghost use Rattle.kc_session.specs.Held.{held_of, line_held, text_held};
+ghost use Rattle.std.specs.Prelude.{◌≡◌, ◌≤◌, ◌+◌, ℕ, List, [], ◌++◌, IfOk, IfErr, option_copied, length, ◌==◌};
+ghost use Rattle.kc_session.specs.Held.{held_of, line_held, line_room, text_held};
 ghost use Rattle.kc_session.specs.Stream.{fits_line, text_of_line, without_return};
 
 use crate::fault::IoFault;
@@ -65,14 +65,28 @@ impl LineBuffer {
         self.bytes.is_empty()
     }
 
-    /// Puts one more byte behind the line; past the room for it, only that there was one.
-    pub(crate) fn push(&mut self, byte: u8)
-        ensures { (line : List ℕ) → self.old ≡ held_of line → self.new ≡ held_of (line ++ byte ∷ []) }
+    /// Appends bytes to the line; past the room for them, only that there were some.
+    pub(crate) fn push(&mut self, bytes: &[u8])
+        ensures { (line : List ℕ) → self.old ≡ held_of line → self.new ≡ held_of (line ++ bytes.now) }
     {
-        if self.bytes.len() < LINE_ROOM {
-            self.bytes.push_reserved(byte);
+        let room = LINE_ROOM - self.bytes.len();
+        if bytes.len() <= room {
+            self.keep(bytes);
         } else {
+            self.keep(&bytes[..room]);
             self.is_cut = true;
+        }
+    }
+
+    // Appends bytes, for which there is room.
+    fn keep(&mut self, bytes: &[u8])
+        requires room { length self.old.kept + length bytes.now ≤ line_room }
+        ensures kept { self.new.kept ≡ self.old.kept ++ bytes.now }
+        ensures is_cut { self.new.is_cut ≡ self.old.is_cut }
+    {
+        match self.bytes.extend_from_slice(bytes) {
+            Ok(()) => {}
+            Err(_) => unreachable!(),
         }
     }
 

@@ -3,6 +3,7 @@ ghost use Rattle.std.specs.Prelude.{◌≡◌, ◌<◌, ◌≤◌, [], IfOk, IfE
 ghost use Rattle.std.specs.Io.KnownBytes.{prepend_known};
 ghost use Rattle.kc_session.specs.NextLine.{TakesLine, StopsInLine, is_line};
 
+use crate::body::line_len;
 use crate::fault::IoFault;
 use crate::input::Input;
 use crate::line::LineBuffer;
@@ -47,11 +48,16 @@ pub(crate) fn read_line<R: Read>(
     ensures progress { IfOk result (λ found. IsTrue (is_line found) → input.new.budget < input.old.budget) }
 {
     line.clear();
-    while let Some(byte) = input.next_byte(reader)? {
-        line.push(byte);
-        if byte == b'\n' {
+    while input.fill(reader)? {
+        let unread = input.unread();
+        let len = line_len(unread);
+        if len < unread.len() {
+            line.push(&unread[..len + 1]);
+            input.take(len + 1);
             return Ok(LineRead::Ended);
         }
+        line.push(unread);
+        input.take(len);
     }
     if line.is_empty() {
         Ok(LineRead::Nothing)
