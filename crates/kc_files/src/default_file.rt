@@ -190,7 +190,6 @@ fn push_entry(
 }
 
 /// Appends what the entries of the tree give.
-#[tactic(auto, using(kc_value::proofs::ChangedLaws::just_enough))]
 fn push_entries(
     alloc: Global,
     out: &mut String,
@@ -200,6 +199,7 @@ fn push_entries(
     conditions: &mut SharedConditions,
     values: &NodeValues,
 ) -> Result<(), AllocError>
+    requires changes { ChangesAreJustEnough tree.now user.now }
     requires conditions { AreSharedBy tree.now values.now conditions.old }
     ensures accepted { IsAccepted tree.now }
     ensures text { AreSolved tree.now user.now values.now

@@ -2,7 +2,7 @@
 
 ghost use Rattle.std.specs.Prelude.{◌≡◌, All};
 ghost use Rattle.kc_outline.specs.TreeValue.{TreeValue};
-ghost use Rattle.kc_value.specs.UserValues.{IsUserFor, with_chosen};
+ghost use Rattle.kc_value.specs.UserValues.{IsUserFor, UserValues, with_chosen};
 ghost use Rattle.kc_files.specs.DefaultLoading.{HasNoFeeds};
 ghost use Rattle.kc_files.specs.LineReading.{IsAssignFor, IsUnfed};
 ghost use Rattle.kc_files.specs.Loading.{is_yes, user_after};
@@ -78,6 +78,8 @@ pub fn apply(tree: &Tree, user: &mut User, assigns: Vec<Assign>, load: Load)
     ensures values { user.new ≡ user_after tree.now user.old load assigns.items }
     ensures user { IsUserFor tree.now user.new }
     ensures unfed { HasNoFeeds user.old → All IsUnfed assigns.items → HasNoFeeds user.new }
+    ensures any_unfed { (u : UserValues) → HasNoFeeds u → All IsUnfed assigns.items
+        → HasNoFeeds (user_after tree.now u load assigns.items) }
 {
     begin(user, load);
     for assign in assigns {

@@ -26,3 +26,4 @@ pub mod Taking
 pub mod Texts
 pub mod UnfedRequests
 pub mod Unread
+pub mod UnchangedLaws

@@ -13,20 +13,18 @@ use Rattle.kc_tree.specs.declared.node.Node.{Node}
 use Rattle.kc_tree.specs.declared.node.Node.TheVariants.{Vis, Val, Mode, Sel}
 use Rattle.kc_tree.specs.declared.user_value.UserVal.{UserVal}
 use Rattle.kc_tree.specs.Nodes.{IsNodeOf}
-use Rattle.kc_tree.proofs.NodeNumbers.{Contains-from_map}
 use Rattle.kc_value.specs.ChangedValue.{same_mark, same_member}
 use Rattle.kc_value.specs.Dirty.{same_given, is_changed, IsDirty, Edits}
 use Rattle.kc_value.specs.Kept.{AreKept, KeptValue}
 use Rattle.kc_value.specs.UserValues.{UserValues, IsUserFor, no_values, user_value, chosen_in, with_value, with_chosen}
 use Rattle.kc_value.specs.Without.{is_optional_choice}
-use Rattle.kc_value.proofs.KeptLaws.{edits_nothing, unchanged}
-use Rattle.kc_value.proofs.UserLemmas.{none_in}
 use Rattle.kc_files.specs.declared.assign.Assign.{Assign}
 use Rattle.kc_files.specs.declared.loading.Load.TheVariants.{Merge, Replace}
 use Rattle.kc_files.specs.LineReading.{IsAssignFor}
 use Rattle.kc_files.specs.Loading.{last_of, value_for, is_yes, is_member_of, member_for, value_after, chosen_after, user_after}
 use Rattle.kc_session.specs.KeptResolver.{Edited, ResolverState}
 use Rattle.kc_session.specs.Merging.{Takes, AreTaking, IsTaken, IsTaking}
+use Rattle.kc_session.proofs.UnchangedLaws.{unchanged, edits_nothing, none_in, Contains-from_map}
 
 -- ---- one place
 takes_then : {X : Type 0} (u n v m w l : Option X) → Takes u n v m → Takes v m w l → Takes u n w l

@@ -99,7 +99,8 @@ impl KeptResolver {
     /// Makes assignments the only user values. This takes no memory.
     fn replace(&mut self, assigns: Vec<Assign>)
         requires { All (IsAssignFor self.old.tree) assigns.items }
-        ensures { Edited self.old (user_after self.old.tree self.old.user Load.Replace assigns.items) self.new }
+        ensures edited { Edited self.old (user_after self.old.tree self.old.user Load.Replace assigns.items) self.new }
+        ensures unfed { All IsUnfed assigns.items → HasNoFeeds self.old.user → HasNoFeeds self.new.user }
     {
         apply(&self.tree, &mut self.next, assigns, Load::Replace);
         replace_user(&self.tree, &mut self.kept, &mut self.user, &mut self.next);
@@ -112,6 +113,7 @@ impl KeptResolver {
         requires { All (IsAssignFor self.old.tree) assigns.items }
         ensures ok { OnOk result (Edited self.old (user_after self.old.tree self.old.user Load.Merge assigns.items) self.new) }
         ensures err { OnErr result (self.new ≡ self.old) }
+        ensures unfed { All IsUnfed assigns.items → HasNoFeeds self.old.user → HasNoFeeds self.new.user }
     {
         if assigns.len() > MOST_SINGLE_EDITS {
             return self.merge_many(assigns);
@@ -128,6 +130,7 @@ impl KeptResolver {
         requires { All (IsAssignFor self.old.tree) assigns.items }
         ensures ok { OnOk result (Edited self.old (user_after self.old.tree self.old.user Load.Merge assigns.items) self.new) }
         ensures err { OnErr result (self.new ≡ self.old) }
+        ensures unfed { All IsUnfed assigns.items → HasNoFeeds self.old.user → HasNoFeeds self.new.user }
     {
         let mut next = self.user.copy(self.alloc)?;
         apply(&self.tree, &mut next, assigns, Load::Merge);
@@ -141,7 +144,8 @@ impl KeptResolver {
     fn merge_few(&mut self, assigns: Vec<Assign>, symbols: &[SymId])
         requires fitting { All (IsAssignFor self.old.tree) assigns.items }
         requires symbols { symbols.now ≡ map (λ a. a.symbol) assigns.items }
-        ensures { Edited self.old (user_after self.old.tree self.old.user Load.Merge assigns.items) self.new }
+        ensures edited { Edited self.old (user_after self.old.tree self.old.user Load.Merge assigns.items) self.new }
+        ensures unfed { All IsUnfed assigns.items → HasNoFeeds self.old.user → HasNoFeeds self.new.user }
     {
         apply(&self.tree, &mut self.next, assigns, Load::Merge);
         take_next(

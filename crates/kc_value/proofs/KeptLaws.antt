@@ -41,13 +41,13 @@ none_changed : (a b : Bool) → b ≡ true → (a && not b) ≡ false
 none_changed true b e = ap not e
 none_changed false b e = refl
 
-pub unchanged : (t : TreeValue) (u : UserValues) (n : Node) → is_changed t u u n ≡ false
+unchanged : (t : TreeValue) (u : UserValues) (n : Node) → is_changed t u u n ≡ false
 unchanged t u (Vis s) = refl
 unchanged t u (Val s) = none_changed (not (is_some (choice_of t s))) (same_given (user_value u s) (user_value u s)) (given_refl (user_value u s))
 unchanged t u (Mode c) = none_changed (is_optional_choice t c) (same_mark (is_some (chosen_in u c)) (is_some (chosen_in u c))) (mark_refl (is_some (chosen_in u c)))
 unchanged t u (Sel c) = ap not (member_refl (chosen_in u c))
 
-pub edits_nothing : (t : TreeValue) (u : UserValues) (k : KeptValue) → Edits t u u k k
+edits_nothing : (t : TreeValue) (u : UserValues) (k : KeptValue) → Edits t u u k k
 edits_nothing t u k = record {
   dropped = λ n inside h. absurd (true≢false (sym h.2 ∙ unchanged t u h.0));
   each = λ n inside. inl refl;

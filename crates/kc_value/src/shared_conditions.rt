@@ -4,8 +4,11 @@
 ghost use Rattle.std.specs.Prelude.{◌≡◌, List, Option, IfOk};
 ghost use Rattle.kc_outline.specs.TreeValue.{TreeValue};
 ghost use Rattle.kc_value.specs.declared.value.Value.{Value};
+ghost use Rattle.kc_tree.specs.Accepted.{IsAccepted};
 ghost use Rattle.kc_value.specs.Assignment.{assignment_of};
+ghost use Rattle.kc_value.specs.ChangedValue.{ChangesAreJustEnough};
 ghost use Rattle.kc_value.specs.KnownConditions.{AreSharedBy, IsRightOfOwn, all_depends, all_visible};
+ghost use Rattle.kc_value.specs.UserValues.{UserValues};
 
 use crate::expr_value::{conditions_tri, symbol_tri};
 use crate::known_conditions::{KnownConditions, find_own};
@@ -88,8 +91,9 @@ impl SharedConditions {
     }
 
     /// What the values of nodes, by number, give all blocks of the tree, and a place for each definition: for who asks for
-    /// some symbols, each with a call of `find_for` before. A node without a value counts as n. The error comes where memory
-    /// is refused.
+    /// some symbols, each with a call of `find_for` before. A node without a value counts as n. What is said of the values
+    /// that a user changes holds whatever the call returns. The error comes where memory is refused.
+    #[tactic(auto, using(crate::proofs::ChangedLaws::just_enough))]
     pub fn of_blocks_and_asked(
         alloc: Global,
         tree: &Tree,
@@ -98,7 +102,9 @@ impl SharedConditions {
         ensures depends { IfOk result (λ c. c.depends ≡ all_depends tree.now (assignment_of tree.now values.now)) }
         ensures visible { IfOk result (λ c. c.visible ≡ all_visible tree.now (assignment_of tree.now values.now)) }
         ensures right { IfOk result (λ c. AreSharedBy tree.now values.now c) }
+        ensures laws { (u : UserValues) → ChangesAreJustEnough tree.now u }
     {
+        is_accepted(tree);
         let mut conditions = SharedConditions::of_blocks(alloc, tree, values)?;
         conditions.own = places_of_own(alloc, tree)?;
         Ok(conditions)
@@ -130,6 +136,13 @@ impl SharedConditions {
             own: self.own.as_slice(),
         }
     }
+}
+
+/// What is true of each tree: it is accepted.
+fn is_accepted(tree: &Tree)
+    ensures { IsAccepted tree.now }
+{
+    let _ = tree.symbols();
 }
 
 /// What the own `depends on` lines of the definitions say in which some `select` or `imply` lines stand; a line whose

@@ -2,7 +2,6 @@ use Rattle.std.proofs.Common.{◌≡◌, ◌++◌, sym, ap, ◌∙◌, subst}
 use Rattle.std.specs.String.{string_bytes}
 use Rattle.std.specs.Str.{IsUtf8}
 use Rattle.std.proofs.lemmas.Str.{IsUtf8-string_bytes}
-use Rattle.kc_value.proofs.ChangedLaws.{just_enough}
 use Rattle.kc_files.specs.DefaultLoading.{KeepsChanges}
 use Rattle.kc_files.specs.DefaultText.{default_text_of}
 use Rattle.kc_files.proofs.DefaultKept.{kept}
@@ -26,4 +25,4 @@ returns-clause-keeps c = λ unfed.
     let is : string_bytes c.push_entries.new.out ≡ default_text_of t u prefix = returns-clause-text c in
     let utf8 : IsUtf8 (default_text_of t u prefix) = subst IsUtf8 is (IsUtf8-string_bytes c.push_entries.new.out) in
     subst (KeepsChanges t u prefix) (sym is)
-    (kept t u prefix accepted (prefix_bytes prefix c.as_str.ensures.valid) (just_enough t u accepted) c.requires.sized unfed utf8)
+    (kept t u prefix accepted (prefix_bytes prefix c.as_str.ensures.valid) (c.of_blocks_and_asked.ensures.laws u) c.requires.sized unfed utf8)

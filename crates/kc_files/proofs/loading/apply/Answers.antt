@@ -33,3 +33,6 @@ returns-clause-values c =
 pub returns-clause-unfed : goal.returns-clause-unfed
 returns-clause-unfed c = λ user assigns.
     subst HasNoFeeds (sym (returns-clause-values c)) (after_unfed c.args.tree.now c.args.user.now c.args.load c.args.assigns.items user assigns)
+
+pub returns-clause-any_unfed : goal.returns-clause-any_unfed
+returns-clause-any_unfed c = λ u user assigns. after_unfed c.args.tree.now u c.args.load c.args.assigns.items user assigns
