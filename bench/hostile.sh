@@ -5,10 +5,16 @@
 #     bench/hostile.sh [PROGRAM [WORD..]]
 #
 # Without PROGRAM it builds kconf by rt. With words it measures only the shapes whose names have one of them. The shapes
-# are those of bench/make_hostile.py. For each of them it prints a row: user and system time and memory at its peak at
-# the greater size, the time for each symbol, line, byte or command there, how these grow for each of them from the
-# smaller size (wanted: at most 1.5 each), and what conf takes where it ends within 20 seconds. Medians of five runs, or
-# one run where that takes a second. The status is 0 where all are kept, else 1.
+# are those of bench/make_hostile.py. For each of them it prints a row, with medians of five runs, or of one run where
+# that takes a second:
+#
+# - user and system time and memory at its peak at the greater size, and the time for each symbol, line, byte or command;
+# - bytes of memory for a byte of input, without what one symbol takes (wanted: at most 100; 1,013 and 728 of texts that
+#   references put in place);
+# - how time and memory for each of them grow from the smaller size (at most 1.3 each);
+# - what conf takes, where it ends within 20 seconds, and the time as times of conf's (at most 2).
+#
+# The status is 0 where all are kept, else 1.
 set -euo pipefail
 shopt -s inherit_errexit
 

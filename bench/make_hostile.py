@@ -10,6 +10,9 @@ import sys
 
 MOST_TEXT = 16_777_216
 LINE = 65_000
+DIGITS = 60_000
+BIG = 15_000_000
+GUESSES = 4_200
 
 BOOL = 'config {0}\n\tbool "{0}"\n'
 
@@ -76,11 +79,16 @@ def menus_under_long_condition(size):
     return under_long_condition(size, "".join(menu.format(at) for at in range(size)))
 
 
-def nested(size):
-    """So many symbols in 64 open blocks, each with a condition of its own."""
-    conditions = [f"C{at}" for at in range(64)]
-    opened = "".join(f"if {name}\n" for name in conditions)
-    return "".join(BOOL.format(name) for name in conditions) + opened + bools(size) + "endif\n" * 64
+def nested(each):
+    """Some symbols in 64 open blocks, whose conditions each name some others."""
+
+    def tree(size):
+        names = [[f"C{block}_{at}" for at in range(each)] for block in range(64)]
+        named = "".join(BOOL.format(name) for block in names for name in block)
+        opened = "".join(f"if {' || '.join(block)}\n" for block in names)
+        return named + opened + bools(size) + "endif\n" * len(names)
+
+    return tree
 
 
 def stacks(size):
@@ -98,6 +106,43 @@ def long_texts(size):
     return f"V := {'a' * LINE}\n" + "".join(f'config S{at}\n\tstring "s"\n\tdefault "$(V)"\n' for at in range(size))
 
 
+def long_prompts(size):
+    """The same in prompts."""
+    return f"V := {'a' * LINE}\n" + "".join(f'config S{at}\n\tbool "$(V)"\n' for at in range(size))
+
+
+def long_default(size):
+    """Strings whose default is one string of 65,000 bytes."""
+    own = f'config L\n\tstring "l"\n\tdefault "{"a" * LINE}"\n'
+    return own + "".join(f'config S{at}\n\tstring "s"\n\tdefault L\n' for at in range(size))
+
+
+def long_ints():
+    """The ints L and H, each with a default of 60,000 digits, most of which are zeros."""
+    zeros = "0" * (DIGITS - 1)
+    return "".join(f'config {name}\n\tint\n\tdefault "{zeros}{digit}"\n' for name, digit in (("L", 1), ("H", 9)))
+
+
+def ranges_of_long_ints(size):
+    """Ints whose range is from one int of 60,000 digits to another."""
+    return long_ints() + "".join(f'config S{at}\n\tint "s"\n\trange L H\n\tdefault 5\n' for at in range(size))
+
+
+def comparisons_of_long_ints(size):
+    """A line of comparisons of these."""
+    return f'{long_ints()}config A\n\tbool "a"\n\tdefault y if {" && ".join(["L<H"] * size)}\n'
+
+
+def compared_strings(sign):
+    """Bools whose default compares two strings of 65,000 bytes, which differ in the last one."""
+
+    def tree(size):
+        texts = "".join(f'config {name}\n\tstring\n\tdefault "{"a" * LINE}{name}"\n' for name in ("K", "L"))
+        return texts + bools(size, f"\tdefault y if K {sign} L\n")
+
+    return tree
+
+
 def with_expression(term, joint):
     """A hundred symbols that depend on an expression of so many bytes."""
     return lambda size: BOOL.format("A") + bools(100, f"\tdepends on {repeated_term(term, joint, size)}\n")
@@ -106,6 +151,31 @@ def with_expression(term, joint):
 def parentheses(size):
     """The same with 64 parentheses in one another, again and again."""
     return with_expression("(" * 64 + "A" + ")" * 64, " && ")(size)
+
+
+def naming(paths):
+    """A symbol whose help text looks like `source` lines of some paths."""
+    return BOOL.format("A") + "\thelp\n" + "".join(f'\t  source "{path}"\n' for path in paths)
+
+
+def spelled(number):
+    """A path of the file `big`, another for each number."""
+    return "./" + "".join("./" if bit == "1" else "/" for bit in f"{number:b}") + "big"
+
+
+def spellings(size):
+    return naming(spelled(at) for at in range(size))
+
+
+def missing_files(size):
+    return naming(f"none{at}" for at in range(size))
+
+
+def guesses_before_comments(size):
+    """More files than there may be, named by comments that look like `source` lines, and after a long text some files
+    that are sourced."""
+    named = "".join(f'# c \\\nsource "guess{at}"\n' for at in range(GUESSES))
+    return named + comments(1_600_000) + sourced_files(size)
 
 
 def sourced(size):
@@ -176,6 +246,8 @@ ONE_SYMBOL = BOOL.format("A")
 
 KCONFIGS = {
     "all empty lines": filled("\n"),
+    "all blanks": filled("\t \t \t \t\n"),
+    "all `#`": filled("#\n"),
     "all `config A`": filled("config A\n"),
     "all `default y`": filled("\tdefault y\n"),
     "all `comment \"c\"`": filled('comment "c"\n'),
@@ -195,7 +267,8 @@ KCONFIGS = {
     "long condition, selects": selects_of_long_condition,
     "long condition, selects, list": selects_of_long_condition,
     "long condition, edits": long_condition,
-    "blocks in one another": nested,
+    "blocks in one another": nested(1),
+    "blocks of eight names": nested(8),
     "menus in one another": stacks,
     "selected": lambda size: BOOL.format("T") + bools(size, "\tselect T\n"),
     "implied": lambda size: BOOL.format("T") + bools(size, "\timply T\n"),
@@ -211,15 +284,27 @@ KCONFIGS = {
     "members, savedefconfig": members,
     "flat, savedefconfig": bools,
     "flat, list": bools,
+    "flat, loads": bools,
+    "flat, merges": bools,
+    "flat, edits of all": bools,
     "names that collide": named(4096),
     "names that do not": named(1),
     "help text": help_text,
+    "spellings of a file": spellings,
+    "missing files": missing_files,
     "comments": comments,
     "one file sourced": sourced,
     "files sourced": sourced_files,
     "files after comments": files_after_comments,
+    "guesses before comments": guesses_before_comments,
     "references": references,
     "long texts": long_texts,
+    "long prompts": long_prompts,
+    "long default": long_default,
+    "ranges of long ints": ranges_of_long_ints,
+    "comparisons of long ints": comparisons_of_long_ints,
+    "order of long strings": compared_strings("<"),
+    "equality of long strings": compared_strings("="),
     "A && A": with_expression("A", " && "),
     "A && !A": with_expression("A && !A", " || "),
     "! in a row": with_expression("!" * 64 + "A", " && "),
@@ -238,6 +323,9 @@ CONFIGS = {
 # The commands of a session over a shape of a Kconfig.
 QUERIES = {
     "flat, list": b"list\n",
+    "flat, loads": b"load 1\nCONFIG_S0=y\n" * 1_000,
+    "flat, merges": b"merge 1\nCONFIG_S0=y\nmerge 1\nCONFIG_S0=n\n" * 500,
+    "flat, edits of all": b"allyes\nallno\nreset\n" * 100,
     "long condition, list": b"list\n",
     "long condition, show": b"show T\n",
     "long condition, selects, list": b"list\n",
@@ -276,7 +364,11 @@ def write_all(shape, size):
         files["config"] = "".join(f"CONFIG_S{at}=y\n" for at in range(size)).encode()
     if shape == "one file sourced":
         files["part"] = b"comment \"c\"\n"
-    if shape in ("files sourced", "files after comments"):
+    if shape == "spellings of a file":
+        files["big"] = comments(BIG).encode()
+    if shape == "guesses before comments":
+        files.update({f"guess{at}": b"# c\n" for at in range(GUESSES)})
+    if shape in ("files sourced", "files after comments", "guesses before comments"):
         files.update({f"part{at}": f'config S{at}\n\tbool "s"\n'.encode() for at in range(size)})
     return files
 

@@ -11,6 +11,10 @@
 #   read value, visibility and assignable values (wanted: at most 0.2): of a stream in a file, which is what the program
 #   takes, and through pipes, with what the system and the reader of each reply take besides;
 # - an edit with the whole `config`, 100 of them, in the same two ways (at most 0.2);
+# - of a stream in a file, an edit with the `list` of all symbols, in Kconfiglib with what `show` says of each (at most
+#   0.45); with `new`, the visible symbols without a user value (at most 0.45); and with `defconfig` (at most 0.12);
+# - of a stream in a file, a `merge` of 10 lines (at most 0.3) and a `load` of 6,000 (at most 0.15), in Kconfiglib from a
+#   file;
 # - the first `config` of a session with the first evaluation of all in Kconfiglib (at most 0.2).
 #
 # It then times 10,000 `show` commands of one session, and `config` after an edit on trees of 1,000 and of 60,000 symbols

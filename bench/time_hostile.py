@@ -12,7 +12,11 @@ import subprocess
 import sys
 
 RUNS = 5
-MOST = 1.5
+MOST_GROWTH = 1.3
+MOST_TIMES = 2
+MOST_BYTES_EACH = 100
+# Where references put a long text in place again and again, each takes room.
+MOST_BYTES_PLACED = {"long texts": 1_013, "long prompts": 728}
 MOST_SECONDS = 20
 MOST_MEMORY = 3 << 30
 # Below these a cost is noise: a smaller one counts as this much.
@@ -36,6 +40,7 @@ SHAPES = [
     ("long condition, selects, list", "session", "select", 500, 5_000, 0),
     ("long condition, edits", "session", "symbol", 500, 5_000, 0),
     ("blocks in one another", "olddefconfig", "symbol", 6_000, 60_000, 0),
+    ("blocks of eight names", "olddefconfig", "symbol", 6_000, 60_000, 0),
     ("menus in one another", "olddefconfig", "64 menus", 60, 600, 0),
     ("selected", "olddefconfig", "symbol", 6_000, 60_000, 0),
     ("implied", "olddefconfig", "symbol", 6_000, 60_000, 0),
@@ -52,15 +57,27 @@ SHAPES = [
     ("members, savedefconfig", "savedefconfig", "symbol", 6_000, 60_000, 0),
     ("flat, savedefconfig", "savedefconfig", "symbol", 6_000, 60_000, 0),
     ("flat, list", "session", "symbol", 6_000, 60_000, 0),
+    ("flat, loads", "session", "symbol", 6_000, 60_000, 0),
+    ("flat, merges", "session", "symbol", 6_000, 60_000, 0),
+    ("flat, edits of all", "session", "symbol", 6_000, 60_000, 0),
     ("names that collide", "olddefconfig", "symbol", 4_000, 40_000, 0),
     ("names that do not", "olddefconfig", "symbol", 4_000, 40_000, 0),
     ("help text", "olddefconfig", "byte", MIB16 // 10, MIB16, 0),
     ("comments", "olddefconfig", "byte", MIB16 // 10, MIB16, 0),
+    ("spellings of a file", "olddefconfig", "line", 20, 200, 0),
+    ("missing files", "olddefconfig", "line", 60_000, 600_000, 0),
     ("one file sourced", "olddefconfig", "line", 409, 4_090, 0),
     ("files sourced", "olddefconfig", "file", 409, 4_090, 0),
     ("files after comments", "olddefconfig", "file", 40, 400, 0),
+    ("guesses before comments", "olddefconfig", "file", 20, 200, 0),
     ("references", "olddefconfig", "line", 10, 100, 0),
     ("long texts", "olddefconfig", "line", 100, 1_000, 0),
+    ("long prompts", "olddefconfig", "line", 100, 1_000, 0),
+    ("long default", "savedefconfig", "symbol", 500, 5_000, 0),
+    ("ranges of long ints", "olddefconfig", "symbol", 2_000, 20_000, 0),
+    ("comparisons of long ints", "olddefconfig", "term", 900, 9_000, 0),
+    ("order of long strings", "olddefconfig", "symbol", 600, 6_000, 0),
+    ("equality of long strings", "olddefconfig", "symbol", 600, 6_000, 0),
     ("A && A", "olddefconfig", "byte of 100 lines", 6_500, 65_000, 0),
     ("A && !A", "olddefconfig", "byte of 100 lines", 6_500, 65_000, 0),
     ("! in a row", "olddefconfig", "byte of 100 lines", 6_500, 65_000, 0),
@@ -77,10 +94,15 @@ SHAPES = [
     ("session: small loads", "session", "command", 10_000, 100_000, 0),
     ("session: a load", "session", "byte", MIB16 // 10, MIB16, 0),
 ]
-SHAPES += [
-    (f"all {what}", "olddefconfig", "byte", MIB16 // 10, MIB16, 0)
-    for what in ("empty lines", "`config A`", "`default y`", '`comment "c"`', "menus", "`if A`", "`A&&A`", "variables")
-]
+LINES = ("empty lines", "blanks", "`#`", "`config A`", "`default y`", '`comment "c"`', "menus", "`if A`", "`A&&A`", "variables")
+SHAPES += [(f"all {what}", "olddefconfig", "byte", MIB16 // 10, MIB16, 0) for what in LINES]
+
+# What makes conf do the same.
+CONF_OPTIONS = {
+    "olddefconfig": "--olddefconfig",
+    "listnewconfig": "--listnewconfig",
+    "savedefconfig": "--savedefconfig=saved",
+}
 
 program, conf, work = sys.argv[1:4]
 wanted = sys.argv[4:]
@@ -150,9 +172,10 @@ def kconf_cost(folder, target, status):
 
 
 def conf_cost(folder, target):
-    """What conf takes for the same, in words."""
-    if target != "olddefconfig":
-        return "-"
+    """What conf takes for the same: none where it has no such target, and why it failed where it did."""
+    option = CONF_OPTIONS.get(target)
+    if option is None:
+        return None, "-"
     out = os.path.join(work, "out.config")
     source = os.path.join(folder, "config")
     try:
@@ -160,15 +183,20 @@ def conf_cost(folder, target):
             shutil.copyfile(source, out)
         elif os.path.exists(out):
             os.remove(out)
-        seconds, memory = cost_of(folder, [conf, "--olddefconfig", "Kconfig"], {"KCONFIG_CONFIG": out})
-        return f"{seconds:.3f} s, {memory / 2**20:.0f} MiB"
+        seconds, memory = middle_cost(folder, [conf, option, "Kconfig"], {"KCONFIG_CONFIG": out})
+        return seconds, f"{seconds:.3f} s, {memory / 2**20:.0f} MiB"
     except Failed as failed:
-        return str(failed)
+        return None, str(failed)
 
 
 def growth(small, great, least, times):
     """What each unit costs in the greater tree, against the smaller."""
     return max(great, least) / max(small, least) / times
+
+
+def bytes_of(folder):
+    """How many bytes the files of a folder have."""
+    return sum(entry.stat().st_size for entry in os.scandir(folder))
 
 
 def measure(shape, target, unit, few, many, status, base):
@@ -179,19 +207,28 @@ def measure(shape, target, unit, few, many, status, base):
         try:
             seconds, memory = kconf_cost(folder, target, status)
         except Failed as failed:
-            beside = conf_cost(folder, target)
-            print(f"| {shape} | {few:,}, {many:,} | {size:,}: {failed} | | | {beside} | no |", flush=True)
+            beside = conf_cost(folder, target)[1]
+            print(f"| {shape} | {few:,}, {many:,} | {size:,}: {failed} | | | | {beside} | | no |", flush=True)
             return False
-        costs.append((seconds - base[0], memory - base[1], seconds, memory))
-    beside = conf_cost(folder, target)
-    time_growth = growth(costs[0][0], costs[1][0], LEAST_SECONDS, many / few)
-    memory_growth = growth(costs[0][1], costs[1][1], LEAST_MEMORY, many / few)
-    kept = time_growth <= MOST and memory_growth <= MOST
-    each = f"{max(costs[1][0], 0) / many * 1e6:.3f} us a {unit}"
-    greatest = f"{costs[1][2]:.3f} s, {costs[1][3] / 2**20:.0f} MiB"
+        costs.append((max(seconds - base[0], 0), max(memory - base[1], 0), seconds, memory))
+    (few_seconds, few_memory, _, _), (own_seconds, own_memory, seconds, memory) = costs
+    conf_seconds, beside = conf_cost(folder, target)
+    time_growth = growth(few_seconds, own_seconds, LEAST_SECONDS, many / few)
+    memory_growth = growth(few_memory, own_memory, LEAST_MEMORY, many / few)
+    bytes_each = own_memory / bytes_of(folder)
+    kept = time_growth <= MOST_GROWTH and memory_growth <= MOST_GROWTH
+    kept = kept and (own_memory <= LEAST_MEMORY or bytes_each <= MOST_BYTES_PLACED.get(shape, MOST_BYTES_EACH))
+    times = "-"
+    if conf_seconds is not None:
+        ratio = growth(conf_seconds, seconds, LEAST_SECONDS, 1)
+        kept = kept and ratio <= MOST_TIMES
+        times = f"{ratio:.2f}"
+    each = f"{own_seconds / many * 1e6:.3f} us a {unit}"
+    greatest = f"{seconds:.3f} s, {memory / 2**20:.0f} MiB"
     ratios = f"{time_growth:.2f}, {memory_growth:.2f}"
     verdict = "yes" if kept else "no"
-    print(f"| {shape} | {few:,}, {many:,} | {greatest} | {each} | {ratios} | {beside} | {verdict} |", flush=True)
+    cells = (shape, f"{few:,}, {many:,}", greatest, each, f"{bytes_each:.0f}", ratios, beside, times, verdict)
+    print(f"| {' | '.join(cells)} |", flush=True)
     return kept
 
 
@@ -208,8 +245,8 @@ def main():
     shapes = [shape for shape in SHAPES if not wanted or any(word in shape[0] for word in wanted)]
     base = base_cost()
     print(f"One symbol: {base[0] * 1000:.1f} ms, {base[1] / 2**20:.0f} MiB, which the growths leave out.")
-    print("| Shape | Sizes | The greater | Each | Growth: time, memory | `conf`, the greater | Kept |")
-    print("|---|---|---|---|---|---|---|", flush=True)
+    print("| Shape | Sizes | The greater | Each | Bytes a byte | Growth: time, memory | `conf`, the greater | Times conf | Kept |")
+    print("|---|---|---|---|---|---|---|---|---|", flush=True)
     kept = True
     for shape in shapes:
         kept = measure(*shape, base) and kept

@@ -18,6 +18,12 @@ EDITS = 400
 TURNS = 20
 CONFIGS = 100
 SHOWS = 10_000
+LISTS = 20
+QUERIES = 100
+MERGES = 400
+LOADS = 100
+MERGED_LINES = 10
+LOADED_LINES = 6_000
 program, work, *words = sys.argv[1:]
 
 
@@ -78,10 +84,33 @@ class Library:
         self.tree._config_contents("")
         return time.perf_counter() - begin
 
-    def edit_and_write(self, name, value):
+    def edit_and_ask(self, name, value, query):
         begin = time.perf_counter()
         self.tree.syms[name].set_value(value)
+        query()
+        return time.perf_counter() - begin
+
+    def config(self):
         self.tree._config_contents("")
+
+    def defconfig(self):
+        self.tree._min_config_contents("")
+
+    def list(self):
+        for symbol in self.tree.unique_defined_syms:
+            symbol.str_value, symbol.visibility, symbol.assignable, symbol.user_value
+
+    def new(self):
+        return [symbol for symbol in self.tree.unique_defined_syms if symbol.user_value is None and symbol.visibility]
+
+    def values(self):
+        """The names of the symbols that can be n and y, each with its value."""
+        symbols = self.tree.unique_defined_syms
+        return [(symbol.name, symbol.str_value) for symbol in symbols if symbol.type in (kconfiglib.BOOL, kconfiglib.TRISTATE)]
+
+    def read(self, path, replace):
+        begin = time.perf_counter()
+        self.tree.load_config(path, replace=replace)
         return time.perf_counter() - begin
 
 
@@ -108,15 +137,37 @@ def shows_of(names):
     return [edits_of(names, turn)[1] for turn in range(TURNS)]
 
 
-def config_edits(names):
-    """The names and the values of edits with `config`: each of some symbols twice, so that each edit is a change, also
-    where all are made again."""
-    return [(name, "ny"[(turn + at) % 2]) for turn in range(2) for at, name in enumerate(names[: CONFIGS // 2])]
+def single_edits(names, count):
+    """The names and the values of some edits: each of some symbols twice, so that each edit is a change, also where all
+    are made again."""
+    return [(name, "ny"[(turn + at) % 2]) for turn in range(2) for at, name in enumerate(names[: count // 2])]
 
 
-def configs_of(names):
-    """The commands of edits, each with `config`, by edits."""
-    return [[f"set {name} {value}", "config"] for name, value in config_edits(names)]
+def queries_of(names, count, query):
+    """The commands of some edits, each with a query, by edits."""
+    return [[f"set {name} {value}", query] for name, value in single_edits(names, count)]
+
+
+def assigned(name, value):
+    """The line of a .config that gives a symbol a value."""
+    return f"# CONFIG_{name} is not set" if value == "n" else f"CONFIG_{name}={value}"
+
+
+def merged_lines(names):
+    """Two bodies of a few lines, each of which changes what the other made."""
+    return [[assigned(name, value) for name in names[:MERGED_LINES]] for value in "yn"]
+
+
+def loaded_lines(library, names):
+    """Two bodies of many lines, in the order of the tree, that differ in those of some symbols."""
+    values = library.values()[:LOADED_LINES]
+    edited = set(names)
+    return [[assigned(name, other if name in edited else value) for name, value in values] for other in "yn"]
+
+
+def bodies_of(command, bodies, count):
+    """Commands that each take a body, by turns."""
+    return [[f"{command} {len(body)}", *body] for body in (bodies[at % 2] for at in range(count))]
 
 
 def time_in_stream(folder, steps):
@@ -137,10 +188,20 @@ def shows_of_library(library, names):
     return sum(library.edit_and_show(names, edits_of(names, turn)[0]) for turn in range(TURNS)) / TURNS
 
 
-def configs_of_library(library, names):
-    """The time of an edit in Kconfiglib with the text of all."""
+def queries_of_library(library, names, count, query):
+    """The time of an edit in Kconfiglib with a query."""
     library.write()
-    return sum(library.edit_and_write(name, value) for name, value in config_edits(names)) / CONFIGS
+    return sum(library.edit_and_ask(name, value, query) for name, value in single_edits(names, count)) / count
+
+
+def bodies_of_library(library, bodies, count, replace):
+    """The time of reading one of two files in Kconfiglib, by turns."""
+    paths = [os.path.join(work, f"body{at}") for at in range(2)]
+    for path, body in zip(paths, bodies):
+        with open(path, "w") as file:
+            file.writelines(f"{line}\n" for line in body)
+    library.write()
+    return sum(library.read(paths[at % 2], replace) for at in range(count)) / count
 
 
 def first_of_session(folder):
@@ -175,6 +236,49 @@ def compare(what, in_stream, through_pipes, in_library):
     return kept & report(f"{what}, through pipes", piped, called, 0.2)
 
 
+def compare_streams(what, folder, steps, in_library, most):
+    """Compares what steps of a session take, of a stream in a file, with the same in Kconfiglib."""
+    streamed, called = by_turns(lambda: time_in_stream(folder, steps), in_library)
+    return report(what, streamed, called, most)
+
+
+def compare_queries(folder, library, names):
+    """Compares edits that each have a query of all symbols."""
+    rows = [("list", LISTS, library.list, 0.45), ("new", QUERIES, library.new, 0.45), ("defconfig", QUERIES, library.defconfig, 0.12)]
+    return all(
+        [
+            compare_streams(
+                f"an edit with {word}",
+                folder,
+                queries_of(names, count, word),
+                lambda: queries_of_library(library, names, count, query),
+                most,
+            )
+            for word, count, query, most in rows
+        ]
+    )
+
+
+def compare_bodies(folder, library, names):
+    """Compares a merge of a few lines and a load of many."""
+    rows = [
+        ("merge", merged_lines(names), MERGES, False, 0.3),
+        ("load", loaded_lines(library, names), LOADS, True, 0.15),
+    ]
+    return all(
+        [
+            compare_streams(
+                f"a {command} of {len(bodies[0]):,} lines",
+                folder,
+                bodies_of(command, bodies, count),
+                lambda: bodies_of_library(library, bodies, count, replace),
+                most,
+            )
+            for command, bodies, count, replace, most in rows
+        ]
+    )
+
+
 def against_kconfiglib():
     folder = os.path.join(work, "tree")
     firsts, library_firsts = by_turns(lambda: first_of_session(folder), lambda: Library(folder).write())
@@ -182,7 +286,7 @@ def against_kconfiglib():
     session, library = Session(folder, words), Library(folder)
     library.write()
     names = library.names()
-    shows, configs = shows_of(names), configs_of(names)
+    shows, configs = shows_of(names), queries_of(names, CONFIGS, "config")
     kept &= compare(
         f"{EDITS} edits, each with show",
         lambda: time_in_stream(folder, shows),
@@ -193,8 +297,10 @@ def against_kconfiglib():
         "an edit with config",
         lambda: time_in_stream(folder, configs),
         lambda: time_in_session(session, configs),
-        lambda: configs_of_library(library, names),
+        lambda: queries_of_library(library, names, CONFIGS, library.config),
     )
+    kept &= compare_queries(folder, library, names)
+    kept &= compare_bodies(folder, library, names)
     shown = session.ask([f"show {names[at % EDITS]}" for at in range(SHOWS)])
     session.end()
     print(f"{SHOWS} show commands: {shown / SHOWS * 1e6:.1f} microseconds each")
