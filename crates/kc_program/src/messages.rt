@@ -9,8 +9,8 @@ use kc_files::Warning;
 use kc_session::IoFault;
 use kc_text::{Text, TextFault};
 use kc_tree::TreeFault;
-use std::alloc::{AllocError, AllocFailed};
-use std::io::{self, Write};
+use std::alloc::{AllocError, AllocFailed, Global};
+use std::io::{self, BufWriter, Write};
 
 /// How the program ended.
 #[derive(Clone, Copy, Debug, PartialEq, Eq)]
@@ -115,8 +115,40 @@ impl From<IoFault> for Fault {
 }
 
 /// Writes a line for each warning of the `.config` of a path, in their order, with what is said of each where that is
-/// known.
+/// known. The lines are written in pieces, and where memory for a piece is refused, each as it comes.
 pub fn write_warnings<E: Write>(
+    alloc: Global,
+    errors: &mut E,
+    path: &str,
+    warnings: &[Warning],
+    wording: Wording,
+    words: Option<&[String]>,
+) -> io::Result<()> {
+    if warnings.is_empty() {
+        return Ok(());
+    }
+    if let Ok(mut pieces) = BufWriter::new(alloc, &mut *errors) {
+        let written = write_warning_lines(&mut pieces, path, warnings, wording, words);
+        return end_pieces(pieces, written);
+    }
+    write_warning_lines(errors, path, warnings, wording, words)
+}
+
+/// Writes what is left of the last piece. Where a piece was not written, nothing more is.
+fn end_pieces<E: Write + Drop>(
+    mut pieces: BufWriter<E>,
+    written: io::Result<()>,
+) -> io::Result<()> {
+    match written {
+        Ok(()) => pieces.flush(),
+        Err(error) => {
+            let _ = pieces.into_parts();
+            Err(error)
+        }
+    }
+}
+
+fn write_warning_lines<E: Write>(
     errors: &mut E,
     path: &str,
     warnings: &[Warning],
@@ -132,6 +164,19 @@ pub fn write_warnings<E: Write>(
         }
     }
     Ok(())
+}
+
+/// Writes the report of a fault, as `write_report` does, in pieces.
+pub fn write_report_in_pieces<E: Write>(
+    alloc: Global,
+    errors: &mut E,
+    report: &Report,
+) -> io::Result<()> {
+    if let Ok(mut pieces) = BufWriter::new(alloc, &mut *errors) {
+        let written = write_report(&mut pieces, report);
+        return end_pieces(pieces, written);
+    }
+    write_report(errors, report)
 }
 
 /// Writes a fault as lines that each begin with `kconf: `, and the lines that explain it. A line of a file is named as

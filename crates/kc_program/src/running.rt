@@ -9,7 +9,7 @@ use crate::folder::Folder;
 use crate::folder_from::FolderFrom;
 use crate::listing::list_files;
 use crate::make_text::make_text;
-use crate::messages::{Fault, Report, Status, write_report, write_warnings};
+use crate::messages::{Fault, Report, Status, write_report_in_pieces, write_warnings};
 use crate::opening::{ConfigFile, Files, Kconfig, open_kconfig, read_config_file};
 use crate::refusals::ExplainedReplies;
 use crate::targets::Target;
@@ -51,7 +51,7 @@ pub fn program<S: AsStr, F: Folder, R: Read, W: Write, E: Write>(
             let folder = FolderFrom::new(folder, arguments.folder);
             answer(alloc, &arguments, &folder, input, output, errors)
         }
-        Err(words) => answer_words(&words, output, errors),
+        Err(words) => answer_words(alloc, &words, output, errors),
     };
     status.code()
 }
@@ -67,7 +67,7 @@ fn answer<F: Folder, R: Read, W: Write, E: Write>(
 ) -> Status {
     let text = match read_variables(alloc, folder, arguments.variables_file) {
         Ok(text) => text,
-        Err(fault) => return answer_variables(fault, arguments, errors),
+        Err(fault) => return answer_variables(alloc, fault, arguments, errors),
     };
     let served = match with_words(alloc, text.as_str(), arguments.variables.as_slice()) {
         Ok(variables) => serve(
@@ -83,18 +83,21 @@ fn answer<F: Folder, R: Read, W: Write, E: Write>(
     };
     match served {
         Ok(()) => Status::Done,
-        Err(fault) => report(&fault, errors),
+        Err(fault) => report(alloc, &fault, errors),
     }
 }
 
 /// Reports why the file of variables gives none. A malformed line is a mistake of usage.
 fn answer_variables<E: Write>(
+    alloc: Global,
     fault: VariablesFileFault,
     arguments: &Arguments<'_>,
     errors: &mut E,
 ) -> Status {
     match fault {
-        VariablesFileFault::Unread(fault) => report(&Report::of(fault, arguments.wording), errors),
+        VariablesFileFault::Unread(fault) => {
+            report(alloc, &Report::of(fault, arguments.wording), errors)
+        }
         VariablesFileFault::Malformed(line) => {
             let path = arguments.variables_file.unwrap_or("");
             let _ = writeln!(errors, "error: {path}:{line}: {MALFORMED_LINE}");
@@ -192,7 +195,8 @@ fn warn<F: Folder, E: Write>(
 ) {
     let words = words_of_warnings(alloc, wording, files, kconfig, warnings);
     let words = words.as_ref().map(|words| words.as_slice());
-    let _ = write_warnings(errors, kconfig.config.path(), warnings, wording, words);
+    let path = kconfig.config.path();
+    let _ = write_warnings(alloc, errors, path, warnings, wording, words);
 }
 
 /// Writes the output of a target: the text of its query after its edit, or the replies to the commands of the input.
@@ -242,6 +246,7 @@ fn flush<W: Write>(output: &mut W) -> Result<(), Fault> {
 /// Shows what a parse of the words gave in place of arguments: help or the version on `output`, and else the mistake on
 /// `errors`.
 fn answer_words<W: Write, E: Write>(
+    alloc: Global,
     words: &BadWords<'_>,
     output: &mut W,
     errors: &mut E,
@@ -251,11 +256,12 @@ fn answer_words<W: Write, E: Write>(
         Status::Done => match show_help(error, output) {
             Ok(()) => Status::Done,
             Err(_) => report(
+                alloc,
                 &Report::of(Fault::Stream(IoFault::Write), Wording::Number),
                 errors,
             ),
         },
-        Status::Fault => report(&Report::of(Fault::NoMemory, Wording::Number), errors),
+        Status::Fault => report(alloc, &Report::of(Fault::NoMemory, Wording::Number), errors),
         Status::Usage => {
             let _ = write!(errors, "{error}");
             if let Some(hint) = &words.hint {
@@ -283,7 +289,7 @@ fn ending_of(error: &Error) -> Status
 }
 
 /// Reports a fault.
-fn report<E: Write>(report: &Report, errors: &mut E) -> Status {
-    let _ = write_report(errors, report);
+fn report<E: Write>(alloc: Global, report: &Report, errors: &mut E) -> Status {
+    let _ = write_report_in_pieces(alloc, errors, report);
     Status::Fault
 }

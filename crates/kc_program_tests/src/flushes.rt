@@ -1,5 +1,5 @@
-//! What is written when: each reply is flushed before the next command is read, warnings come before the output, and all
-//! is flushed at the end.
+//! What is written when: each reply is flushed before the next command is read, warnings come before the output and in
+//! pieces, and all is flushed at the end.
 use crate::running::MemoryFolder;
 use kc_program::program;
 use std::alloc::{AllocError, Global};
@@ -209,5 +209,60 @@ fn each_text_is_flushed(rt: HostRuntime) -> Result<(), Fail> {
         assert_eq!(rt; watch.reported.get(), warnings, "at {words:?}");
         assert_eq!(rt; watch.early.get(), 0, "at {words:?}");
     }
+    Ok(())
+}
+
+/// Keeps what is reported, and counts the writes.
+#[derive(Drop)]
+struct CountingErrors {
+    writes: usize,
+    text: Vec<u8>,
+}
+
+impl Write for CountingErrors {
+    fn write(&mut self, buf: &[u8]) -> io::Result<usize> {
+        self.writes = self.writes.wrapping_add(1);
+        self.text.extend_from_slice(buf)?;
+        Ok(buf.len())
+    }
+
+    fn flush(&mut self) -> io::Result<()> {
+        Ok(())
+    }
+}
+
+#[test]
+fn warnings_are_written_in_pieces(rt: HostRuntime) -> Result<(), Fail> {
+    let alloc = rt.alloc();
+    let mut config = String::new(alloc);
+    let mut wanted = String::new(alloc);
+    for number in 1..=2_000 {
+        config.push_str("frob\n")?;
+        let line = format!(in alloc; "kconf: .config:{number}: warning 4\n")?;
+        wanted.push_str(line.as_str())?;
+    }
+    let files = [
+        ("Kconfig", b"config A\nbool \"a\"\n".as_slice()),
+        (".config", config.as_str().as_bytes()),
+    ];
+    let words = ["kconf", "olddefconfig", "Kconfig", ".config"];
+    let mut output = Vec::new(alloc);
+    let mut errors = CountingErrors {
+        writes: 0,
+        text: Vec::new(alloc),
+    };
+    let status = program(
+        alloc,
+        words.as_slice(),
+        &MemoryFolder {
+            files: files.as_slice(),
+        },
+        &mut b"".as_slice(),
+        &mut output,
+        &mut errors,
+    );
+    assert_eq!(rt; status, 0);
+    assert_eq!(rt; errors.text.as_slice(), wanted.as_str().as_bytes());
+    assert!(rt; errors.writes <= 8);
     Ok(())
 }
