@@ -60,6 +60,12 @@ pub trait Folder {
     /// where reading it might not end, or might take bytes from others, as from a pipe.
     fn read_plain(&self, alloc: Global, path: &str) -> Result<Vec<u8>, FolderFault>;
 
+    /// What `read_plain` gives of a file that has no more bytes than there is room for. Of a longer one this is
+    /// `CannotRead`, or more bytes than there is room for, which may be the first of the file alone.
+    fn read_within(&self, alloc: Global, path: &str, _room: usize) -> Result<Vec<u8>, FolderFault> {
+        self.read_plain(alloc, path)
+    }
+
     /// Why the file of a path can't be read, in a few words.
     fn why_unread(&self, _alloc: Global, _path: &str) -> &'static str {
         "no file can be read at this path"
@@ -85,14 +91,15 @@ impl<'a, R> SystemFolder<'a, R> {
 }
 
 impl<R: Files> SystemFolder<'_, R> {
-    /// The bytes of the file of a path, of which so many are expected.
+    /// The bytes of the file of a path, which are expected to be of a number, and no more than a limit.
     fn read_expected(
         &self,
         alloc: Global,
         path: &str,
         expected: u64,
+        limit: u64,
     ) -> Result<Vec<u8>, FolderFault> {
-        let mut file = fs::open(self.rt, path)?.take(MOST_READ);
+        let mut file = fs::open(self.rt, path)?.take(limit);
         let expected = expected.min(MOST_EXPECTED) as usize;
         let Ok(mut bytes) = vec![in alloc; 0u8; expected + 1] else {
             return Err(FolderFault::NoMemory);
@@ -107,6 +114,23 @@ impl<R: Files> SystemFolder<'_, R> {
             bytes.truncate(whole_characters(bytes.as_slice()));
         }
         Ok(bytes)
+    }
+
+    /// The same of a plain file that is to have at most as many bytes as is said. The system may give a length that is
+    /// too small, so the limit holds besides.
+    fn read_short(
+        &self,
+        alloc: Global,
+        path: &str,
+        most: u64,
+        limit: u64,
+    ) -> Result<Vec<u8>, FolderFault> {
+        let metadata = fs::metadata(self.rt, path)?;
+        if metadata.is_file() && metadata.len() <= most {
+            self.read_expected(alloc, path, metadata.len(), limit)
+        } else {
+            Err(FolderFault::CannotRead)
+        }
     }
 }
 
@@ -129,7 +153,7 @@ fn whole_characters(bytes: &[u8]) -> usize
 impl<R: Files + RandomSource> Folder for SystemFolder<'_, R> {
     fn read_bytes(&self, alloc: Global, path: &str) -> Result<Vec<u8>, FolderFault> {
         let metadata = fs::metadata(self.rt, path)?;
-        self.read_expected(alloc, path, metadata.len())
+        self.read_expected(alloc, path, metadata.len(), MOST_READ)
     }
 
     fn read_config(&self, alloc: Global, path: &str) -> Result<Vec<u8>, FolderFault> {
@@ -140,12 +164,12 @@ impl<R: Files + RandomSource> Folder for SystemFolder<'_, R> {
     }
 
     fn read_plain(&self, alloc: Global, path: &str) -> Result<Vec<u8>, FolderFault> {
-        let metadata = fs::metadata(self.rt, path)?;
-        if metadata.is_file() && metadata.len() <= MOST_EXPECTED {
-            self.read_expected(alloc, path, metadata.len())
-        } else {
-            Err(FolderFault::CannotRead)
-        }
+        self.read_short(alloc, path, MOST_EXPECTED, MOST_READ)
+    }
+
+    fn read_within(&self, alloc: Global, path: &str, room: usize) -> Result<Vec<u8>, FolderFault> {
+        let room = room as u64;
+        self.read_short(alloc, path, room, room.saturating_add(1))
     }
 
     fn why_unread(&self, _alloc: Global, path: &str) -> &'static str {

@@ -53,6 +53,16 @@ impl<F: Folder> Folder for FolderFrom<'_, F> {
         }
     }
 
+    fn read_within(&self, alloc: Global, path: &str, room: usize) -> Result<Vec<u8>, FolderFault> {
+        if is_taken_as_it_is(self.base, path) {
+            return self.folder.read_within(alloc, path, room);
+        }
+        match joined(alloc, self.base, path) {
+            Ok(joined) => self.folder.read_within(alloc, joined.as_str(), room),
+            Err(AllocError) => Err(FolderFault::NoMemory),
+        }
+    }
+
     fn why_unread(&self, alloc: Global, path: &str) -> &'static str {
         if is_taken_as_it_is(self.base, path) {
             return self.folder.why_unread(alloc, path);

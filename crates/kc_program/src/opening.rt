@@ -6,7 +6,7 @@ ghost use Rattle.std.specs.String.{string_bytes};
 
 use crate::folder::{Folder, FolderFault};
 use crate::messages::Fault;
-use crate::read_ahead::{Reach, Waiting, path_of_source};
+use crate::read_ahead::{Named, Reach, Waiting, path_of_source};
 use bumpalo::Bump;
 use kc_files::{Prefix, Warning};
 use kc_session::{OpenFault, Session, open_seeded};
@@ -18,6 +18,15 @@ use std::str::from_utf8;
 
 /// The most bytes of a line of a `.config`, without its line end (docs/LIMITS.md).
 const MOST_LINE: usize = 65_536;
+
+/// The most bytes of all files together (docs/LIMITS.md).
+const MOST_BYTES: usize = 16_777_216;
+
+/// The most files (docs/LIMITS.md).
+const MOST_FILES: usize = 4_096;
+
+/// How many bytes of files that indented lines name are read ahead after each file that is wanted.
+const MOST_GUESSED: usize = 4_194_304;
 
 /// The most paths that are read ahead at a time.
 const MAX_AHEAD: usize = 65_536;
@@ -142,12 +151,17 @@ pub struct Files<'a, F> {
     reach: Reach,
     sources: Sources,
     waiting: Waiting,
-    /// How many files `sources` has.
+    /// How many files `sources` has, and how many bytes they have.
     count: usize,
+    bytes: usize,
     /// How many of them were read ahead.
     ahead: usize,
-    /// The texts of files that were wanted, by their paths, for another start.
-    kept: HashMap<String, String, Seed>,
+    /// How many bytes were read ahead of files that `sources` has not.
+    vain: usize,
+    /// How many bytes may be read ahead of files that indented lines name, as these may stand in help texts.
+    guessable: usize,
+    /// The paths that were wanted. A text is here for another start where `sources` has it not.
+    wanted: HashMap<String, Option<Text>, Seed>,
 }
 
 impl<'a, F: Folder> Files<'a, F> {
@@ -162,8 +176,11 @@ impl<'a, F: Folder> Files<'a, F> {
             sources: Sources::new(alloc),
             waiting: Waiting::new(alloc, seed, kconfig.variables)?,
             count: 0,
+            bytes: 0,
             ahead: 0,
-            kept: HashMap::with_hasher(alloc, seed),
+            vain: 0,
+            guessable: 0,
+            wanted: HashMap::with_hasher(alloc, seed),
         })
     }
 
@@ -176,10 +193,10 @@ impl<'a, F: Folder> Files<'a, F> {
         logical_lines(self.alloc, arena, &self.sources, kconfig.vars, kconfig.top)
     }
 
-    /// The text of the file of a path, for a message: none where it can't be read again.
+    /// The text of the file of a path, for a message: none where it is not held and can't be read again.
     pub fn text(&self, path: &str) -> Result<Option<String>, AllocError> {
-        if let Some(text) = self.kept.get(path) {
-            return Ok(Some(String::from_str(self.alloc, text.as_str())?));
+        if let Some(text) = self.held_text(path) {
+            return Ok(Some(String::from_str(self.alloc, text)?));
         }
         match self.folder.read_plain(self.alloc, path) {
             Ok(bytes) => Ok(utf8_text(bytes)),
@@ -188,21 +205,29 @@ impl<'a, F: Folder> Files<'a, F> {
         }
     }
 
-    /// The files that were read, but for one.
+    /// The text of the file of a path, where it is held.
+    fn held_text(&self, path: &str) -> Option<&str> {
+        match self.wanted.get(path) {
+            Some(Some(text)) => Some(text.as_str()),
+            _ => self.sources.text(path),
+        }
+    }
+
+    /// The files whose texts are held, but for one.
     ///
     /// # Errors
     ///
-    /// `AllocError` where memory is refused. A file that can't be read again, or has no room, is left out.
+    /// `AllocError` where memory is refused. A file that has no room is not among them.
     pub fn sources_without(&self, path: &str) -> Result<Sources, AllocError> {
         let mut sources = Sources::new(self.alloc);
         for seen in self.waiting.seen() {
             if seen.as_str() == path {
                 continue;
             }
-            let Some(text) = self.text(seen.as_str())? else {
+            let Some(text) = self.held_text(seen.as_str()) else {
                 continue;
             };
-            match sources.add_text(seen.as_str(), Text::new(text)) {
+            match sources.add(seen.as_str(), text) {
                 Err(TextFault::NoMemory) => return Err(AllocError),
                 Ok(()) | Err(TextFault::At(..)) => {}
             }
@@ -240,11 +265,24 @@ impl<'a, F: Folder> Files<'a, F> {
 
     /// Starts with no files, and reads as far ahead as a reach says.
     fn start(&mut self, reach: Reach) {
+        self.keep_wanted();
         self.reach = reach;
         self.sources = Sources::new(self.alloc);
         self.waiting.start();
         self.count = 0;
+        self.bytes = 0;
         self.ahead = 0;
+        self.vain = 0;
+        self.guessable = 0;
+    }
+
+    /// Moves the texts that were wanted out of the files.
+    fn keep_wanted(&mut self) {
+        for (path, text) in self.wanted.iter_mut() {
+            if text.is_none() {
+                *text = self.sources.take(path.as_str());
+            }
+        }
     }
 
     /// The session, by reading files until none is wanted. There is no end but an answer: each turn adds a file that was
@@ -284,8 +322,12 @@ impl<'a, F: Folder> Files<'a, F> {
         let path = want.path.as_str();
         self.waiting.pass(path)?;
         let text = self.wanted_text(path)?;
-        match self.add(path, text) {
-            Ok(()) => self.read_ahead(),
+        match self.add_wanted(path, text) {
+            Ok(()) => {
+                self.guessable = self.guessable.saturating_add(MOST_GUESSED);
+                self.waiting.resume()?;
+                self.read_ahead()
+            }
             Err(TextFault::NoMemory) => Err(Fault::NoMemory),
             Err(fault) => Err(self.fault_without_room(kconfig, want, fault)),
         }
@@ -311,60 +353,131 @@ impl<'a, F: Folder> Files<'a, F> {
 
     /// Whether all files are followed before a `source` line, by the lines before it: so the files would be the same had
     /// each been read as it was wanted. Only of a line of the top file this is known. The top file is cut there, so the
-    /// files serve for nothing else after that.
+    /// files serve for nothing else after that; its whole text is kept.
     fn are_all_followed(&mut self, kconfig: &Kconfig<'_, F>, want: &Want) -> Result<bool, Fault> {
         let top = kconfig.top;
-        let Some(text) = self.kept.get(top).filter(|_| want.file.as_str() == top) else {
+        if want.file.as_str() != top {
+            return Ok(false);
+        }
+        let Some(text) = self.sources.take(top) else {
             return Ok(false);
         };
-        self.sources
-            .add(top, lines_before(text.as_str(), want.line))?;
+        let cut = self
+            .sources
+            .add(top, lines_before(text.as_str(), want.line));
+        self.keep(top, text);
+        cut?;
         let arena = Bump::new(self.alloc);
         let lines = logical_lines(self.alloc, &arena, &self.sources, kconfig.vars, top)?;
         Ok(count_files(self.alloc, self.seed, lines.as_slice())? == self.count)
     }
 
-    /// The text of a path that is wanted. It is kept where another start may want it.
+    /// The text of a path that is wanted, by reading its file where that was not done before.
     fn wanted_text(&mut self, path: &str) -> Result<String, Fault> {
-        if let Some(text) = self.kept.get(path) {
-            return Ok(String::from_str(self.alloc, text.as_str())?);
+        if let Some(kept) = self.wanted.get_mut(path) {
+            // A text that is not held any more was lost where memory was refused.
+            let text = kept.take();
+            return text.map(|text| text.into_string()).ok_or(Fault::NoMemory);
         }
+        self.wanted
+            .insert(String::from_str(self.alloc, path)?, None)?;
         let read = self.folder.read_bytes(self.alloc, path);
-        let text = text_of(self.alloc, path, read)?;
-        if self.reach != Reach::Nothing {
-            let copy = String::from_str(self.alloc, text.as_str())?;
-            self.kept.insert(String::from_str(self.alloc, path)?, copy)?;
+        let text = text_of(self.alloc, path, read);
+        if text.is_err() {
+            self.wanted.remove(path);
         }
-        Ok(text)
+        text
     }
 
-    /// Reads the files that wait. One that cannot be read, is not UTF-8 or has no room is skipped: it is read again, and
-    /// reported, if it is ever wanted. So is what is left where too many paths wait.
+    /// Keeps the text of a path that was wanted.
+    fn keep(&mut self, path: &str, text: Text) {
+        if let Some(kept) = self.wanted.get_mut(path) {
+            *kept = Some(text);
+        }
+    }
+
+    /// Adds the text of a path that was wanted, and has what it names wait. The text is kept where it has no room.
+    fn add_wanted(&mut self, path: &str, text: String) -> Result<(), TextFault> {
+        let named = self.waiting.add_named(text.as_str(), self.reach);
+        if named.is_ok() && self.count < MOST_FILES && text.len() <= self.room() {
+            return self.add(path, text);
+        }
+        self.keep(path, Text::new(text));
+        named?;
+        let path = Text::copy_of(self.alloc, path)?;
+        Err(TextFault::At(TextProblem::Limit, path, 0))
+    }
+
+    /// How many bytes another file may have.
+    fn room(&self) -> usize {
+        MOST_BYTES.saturating_sub(self.bytes)
+    }
+
+    /// Reads the files that wait, as long as there is room for a file, and not too much was read in vain. What still waits
+    /// then is read if it is ever wanted. So is what is left where too many paths wait.
     fn read_ahead(&mut self) -> Result<(), Fault> {
         for _ in 0..MAX_AHEAD {
-            let Some(path) = self.waiting.next() else {
+            if self.count >= MOST_FILES || self.vain > MOST_BYTES {
+                break;
+            }
+            let Some(named) = self.waiting.next() else {
                 break;
             };
-            let read = self.folder.read_plain(self.alloc, path.as_str());
-            let text = match text_of(self.alloc, path.as_str(), read) {
-                Ok(text) => text,
-                Err(Fault::NoMemory) => return Err(Fault::NoMemory),
-                Err(_) => continue,
-            };
-            match self.add(path.as_str(), text) {
-                Ok(()) => self.ahead = self.ahead.wrapping_add(1),
-                Err(TextFault::NoMemory) => return Err(Fault::NoMemory),
-                Err(_) => {}
-            }
+            self.read_waiting(named)?;
         }
         Ok(())
     }
 
-    /// Adds the text of a path. What it names waits.
-    fn add(&mut self, path: &str, text: String) -> Result<(), TextFault> {
+    /// Reads a file that waits. One that cannot be read, is not UTF-8 or has no room is skipped: it is read again, and
+    /// reported, if it is ever wanted. One that an indented line names is put off where it may be too long for now.
+    fn read_waiting(&mut self, named: Named) -> Result<(), Fault> {
+        let all = self.room();
+        let room = if named.is_indented {
+            all.min(self.guessable)
+        } else {
+            all
+        };
+        let path = named.path.as_str();
+        let bytes = match self.folder.read_within(self.alloc, path, room) {
+            Ok(bytes) => bytes,
+            Err(FolderFault::NoMemory) => return Err(Fault::NoMemory),
+            Err(FolderFault::CannotRead) => {
+                if room < all {
+                    self.waiting.put_off(named)?;
+                }
+                return Ok(());
+            }
+        };
+        self.add_ahead(&named, bytes, room)
+    }
+
+    /// Adds the text of a file that was read ahead, and has what it names wait, where it is a text and had room.
+    fn add_ahead(&mut self, named: &Named, bytes: Vec<u8>, room: usize) -> Result<(), Fault> {
+        let path = named.path.as_str();
+        let len = bytes.len();
+        let text = if len <= room { utf8_text(bytes) } else { None };
+        let Some(text) = text else {
+            self.vain = self.vain.saturating_add(len);
+            return Ok(());
+        };
+        if named.is_indented {
+            self.guessable = self.guessable.saturating_sub(len);
+        }
         self.waiting.add_named(text.as_str(), self.reach)?;
+        match self.add(path, text) {
+            Ok(()) => self.ahead = self.ahead.wrapping_add(1),
+            Err(TextFault::NoMemory) => return Err(Fault::NoMemory),
+            Err(TextFault::At(..)) => {}
+        }
+        Ok(())
+    }
+
+    /// Adds the text of a path.
+    fn add(&mut self, path: &str, text: String) -> Result<(), TextFault> {
+        let len = text.len();
         self.sources.add_text(path, Text::new(text))?;
         self.count = self.count.wrapping_add(1);
+        self.bytes = self.bytes.saturating_add(len);
         Ok(())
     }
 }

@@ -10,6 +10,7 @@ use memchr::{memchr, memchr2, memmem};
 use std::alloc::{AllocError, Global};
 use std::collections::HashSet;
 use std::collections::hash_set::Iter;
+use std::mem;
 
 /// The word that a `source` line begins with.
 const SOURCE: &str = "source";
@@ -25,13 +26,23 @@ pub(crate) enum Reach {
     Nothing,
 }
 
+/// A path that waits to be read.
+#[derive(Drop)]
+pub(crate) struct Named {
+    pub(crate) path: String,
+    /// Whether its `source` is indented, so that it may stand in a help text.
+    pub(crate) is_indented: bool,
+}
+
 /// The paths that wait to be read, each once.
 #[derive(Drop)]
 pub(crate) struct Waiting {
     alloc: Global,
     seed: Seed,
-    /// The paths that wait, the first to be read behind.
-    paths: Vec<String>,
+    /// The paths that wait, the first to be read last.
+    paths: Vec<Named>,
+    /// Those that were put off, and wait no more for now.
+    put_off: Vec<Named>,
     /// These, and all that were read or passed.
     seen: HashSet<String, Seed>,
     known: Known,
@@ -49,6 +60,7 @@ impl Waiting {
             alloc,
             seed,
             paths: Vec::new(alloc),
+            put_off: Vec::new(alloc),
             seen: HashSet::with_hasher(alloc, seed),
             known: Known::new(alloc, seed, variables)?,
         })
@@ -57,6 +69,7 @@ impl Waiting {
     /// Forgets all paths.
     pub(crate) fn start(&mut self) {
         self.paths = Vec::new(self.alloc);
+        self.put_off = Vec::new(self.alloc);
         self.seen = HashSet::with_hasher(self.alloc, self.seed);
     }
 
@@ -71,8 +84,24 @@ impl Waiting {
     }
 
     /// Takes a path that waits.
-    pub(crate) fn next(&mut self) -> Option<String> {
+    pub(crate) fn next(&mut self) -> Option<Named> {
         self.paths.pop()
+    }
+
+    /// Puts off a path that was taken.
+    pub(crate) fn put_off(&mut self, named: Named) -> Result<(), AllocError> {
+        self.put_off.push(named)?;
+        Ok(())
+    }
+
+    /// Has the paths wait again that were put off, after those that wait.
+    pub(crate) fn resume(&mut self) -> Result<(), AllocError> {
+        if self.put_off.is_empty() {
+            return Ok(());
+        }
+        self.put_off.append(&mut self.paths)?;
+        mem::swap(&mut self.put_off, &mut self.paths);
+        Ok(())
     }
 
     /// Sees to it that a path does not wait from here on. Gives whether it is a new one.
@@ -96,7 +125,7 @@ impl Waiting {
             let Some(quoted) = quoted_at(text, place, reach) else {
                 continue;
             };
-            self.add_quoted(quoted)?;
+            self.add_quoted(quoted, is_indented_at(text, place))?;
         }
         if let Some((_, added)) = self.paths.split_at_mut_checked(first) {
             added.reverse();
@@ -105,12 +134,12 @@ impl Waiting {
     }
 
     /// Has the path wait that a text in quotes stands for.
-    fn add_quoted(&mut self, quoted: &str) -> Result<(), AllocError> {
+    fn add_quoted(&mut self, quoted: &str, is_indented: bool) -> Result<(), AllocError> {
         let Some(path) = self.known.expand(quoted)? else {
             return Ok(());
         };
         if self.pass(path.as_str())? {
-            self.paths.push(path)?;
+            self.paths.push(Named { path, is_indented })?;
         }
         Ok(())
     }
@@ -127,6 +156,14 @@ fn quoted_at(text: &str, place: usize, reach: Reach) -> Option<&str> {
     let path = in_quotes(named.trim_start_matches([' ', '\t']))?;
     let begins_line = before.is_empty() || before.ends_with('\n');
     (begins_line && is_on_one_line(path)).then_some(path)
+}
+
+/// Whether what begins at a place of a text does not begin its line.
+fn is_indented_at(text: &str, place: usize) -> bool {
+    match text.get(..place) {
+        Some(before) => before.ends_with([' ', '\t']),
+        None => false,
+    }
 }
 
 /// What a `source` line has in its quotes.

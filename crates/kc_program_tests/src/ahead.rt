@@ -5,16 +5,27 @@ use std::alloc::{AllocError, Global};
 use std::cell::Cell;
 use std::test::Fail;
 
-/// A top file, and a text at each other path. Counts the reads of wanted files.
+/// A top file, and a text at each other path. Counts the reads of wanted files, and those ahead.
 #[derive(Drop)]
 struct ManyFiles<'a> {
     kconfig: &'a str,
     /// The text of each file but the top one.
     others: &'a str,
     wanted: Cell<usize>,
+    ahead: Cell<usize>,
 }
 
-impl ManyFiles<'_> {
+impl<'a> ManyFiles<'a> {
+    /// No file was read.
+    fn new(kconfig: &'a str, others: &'a str) -> ManyFiles<'a> {
+        ManyFiles {
+            kconfig,
+            others,
+            wanted: Cell::new(0),
+            ahead: Cell::new(0),
+        }
+    }
+
     fn bytes_of(&self, alloc: Global, path: &str) -> Result<Vec<u8>, FolderFault> {
         let text = if path == "Kconfig" {
             self.kconfig
@@ -34,6 +45,7 @@ impl Folder for ManyFiles<'_> {
     }
 
     fn read_plain(&self, alloc: Global, path: &str) -> Result<Vec<u8>, FolderFault> {
+        self.ahead.set(self.ahead.get().wrapping_add(1));
         self.bytes_of(alloc, path)
     }
 }
@@ -58,13 +70,21 @@ fn sourcing(alloc: Global, before: &str, count: usize) -> Result<String, AllocEr
     sourcing_in(alloc, '"', before, count)
 }
 
+/// A symbol whose help text names files, as lines that source them would.
+fn naming(alloc: Global, count: usize) -> Result<String, AllocError> {
+    let mut text = String::from_str(alloc, "config A\nbool \"a\"\nhelp\n")?;
+    let named = sourcing(alloc, "named", count)?;
+    for line in named.lines() {
+        text.push_str("  ")?;
+        text.push_str(line)?;
+        text.push('\n')?;
+    }
+    Ok(text)
+}
+
 /// A run over a top file, with how many files were read since they were wanted.
 fn run_many(alloc: Global, kconfig: &str, others: &str) -> (Outcome, usize) {
-    let folder = ManyFiles {
-        kconfig,
-        others,
-        wanted: Cell::new(0),
-    };
+    let folder = ManyFiles::new(kconfig, others);
     let words = ["kconf", "olddefconfig", "Kconfig", "-", "D=x", "E=d/e"];
     let outcome = run_in(alloc, words.as_slice(), &folder, b"");
     (outcome, folder.wanted.get())
@@ -118,13 +138,7 @@ fn too_many_files_are_a_limit_however_they_are_named(rt: HostRuntime) -> Result<
 #[test]
 fn files_that_are_only_named_take_no_room(rt: HostRuntime) -> Result<(), Fail> {
     // A help text names as many files as there may be, and they are there.
-    let mut kconfig = String::from_str(rt.alloc(), "config A\nbool \"a\"\nhelp\n")?;
-    let named = sourcing(rt.alloc(), "named", 4_096)?;
-    for line in named.lines() {
-        kconfig.push_str("  ")?;
-        kconfig.push_str(line)?;
-        kconfig.push('\n')?;
-    }
+    let mut kconfig = naming(rt.alloc(), 4_096)?;
     let sources = sourcing(rt.alloc(), "f", 1_000)?;
     kconfig.push_str(sources.as_str())?;
     let (outcome, wanted) = run_many(rt.alloc(), kconfig.as_str(), "");
@@ -135,5 +149,25 @@ fn files_that_are_only_named_take_no_room(rt: HostRuntime) -> Result<(), Fail> {
     );
     // The top file, and the first for which there was no room.
     assert_eq!(rt; wanted, 2);
+    Ok(())
+}
+
+#[test]
+fn a_long_file_is_not_read_by_each_of_its_names(rt: HostRuntime) -> Result<(), Fail> {
+    let kconfig = naming(rt.alloc(), 50)?;
+    let mut long = String::new(rt.alloc());
+    for _ in 0..100_000 {
+        long.push_str(
+            "# a line of ninety bytes, which is a comment and goes on, and on, and on, up to its end here.\n",
+        )?;
+    }
+    let folder = ManyFiles::new(kconfig.as_str(), long.as_str());
+    let words = ["kconf", "olddefconfig", "Kconfig", "-"];
+    let outcome = run_in(rt.alloc(), words.as_slice(), &folder, b"");
+    assert_eq!(rt; outcome.errors.as_slice(), b"".as_slice());
+    assert_eq!(rt; outcome.status, 0);
+    assert_eq!(rt; folder.wanted.get(), 1);
+    // None has room. After two of them more bytes were read in vain than all files may have.
+    assert_eq!(rt; folder.ahead.get(), 2);
     Ok(())
 }
