@@ -164,8 +164,9 @@ class Runner:
         """Writes the files of an input, and removes those of the one before."""
         files: Dict[str, bytes] = {"Kconfig": given.kconfig, "config": given.config, **dict(given.files)}
         for path in self.written - set(files):
-            os.remove(path)
-            remove_empty(os.path.dirname(path))
+            if os.path.lexists(path):  # else it was removed by another spelling of its path
+                os.remove(path)
+                remove_empty(os.path.dirname(path))
         for path, text in files.items():
             if "/" in path:
                 os.makedirs(os.path.dirname(path), exist_ok=True)

@@ -22,7 +22,12 @@ LOOP_NODE = re.compile(rb"kconf: on .+", re.DOTALL)
 FILE_FAULT = re.compile(rb"kconf: (.*): (?:cannot read|not UTF-8|limit)")
 # No run of the fuzzer gives a reason for these: streams are files, and there is memory enough.
 UNEXPECTED = (b"kconf: memory", b"kconf: cannot read", b"kconf: cannot write")
-EXPLAINED = re.compile(rb"((?:kconf: .+:\d+: (?:warning \d|K\d\d))|kconf: K\d\d(?: \w+)?): \w.+")
+EXPLAINED = re.compile(
+    rb"(kconf: .+:\d+: (?:warning \d|K\d\d)|kconf: K\d\d(?: \w+)?|kconf: .*: (?:cannot read|not UTF-8|limit)): \S.*",
+    re.DOTALL,
+)
+# A line that is named after the words, with its place; or the words of a refusal.
+REMARK = re.compile(rb"  \S.*|kconf: command \d+: refused [1-7]: \S.*", re.DOTALL)
 
 REFUSED = re.compile(rb"refused [1-7]")
 SYMBOL_LINE = re.compile(
@@ -101,7 +106,9 @@ def error_problems(run: Run) -> Iterator[str]:
     if run.errors and not run.errors.endswith(b"\n"):
         yield "a line of standard error without its end"
     lines = run.errors.split(b"\n")[:-1]
-    plain = [line_without_words(line) for line in lines] if run.is_explained else lines
+    plain = lines
+    if run.is_explained:
+        plain = [line_without_words(line) for line in lines if not REMARK.fullmatch(line)]
     count = 0
     while count < len(plain) and WARNING.fullmatch(plain[count]):
         count += 1
