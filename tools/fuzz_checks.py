@@ -23,7 +23,7 @@ FILE_FAULT = re.compile(rb"kconf: (.*): (?:cannot read|not UTF-8|limit)")
 # No run of the fuzzer gives a reason for these: streams are files, and there is memory enough.
 UNEXPECTED = (b"kconf: memory", b"kconf: cannot read", b"kconf: cannot write")
 EXPLAINED = re.compile(
-    rb"(kconf: .+:\d+: (?:warning \d|K\d\d)|kconf: K\d\d(?: \w+)?|kconf: .*: (?:cannot read|not UTF-8|limit)): \S.*",
+    rb"(kconf: .+:\d+: (?:warning \d|K\d\d)|kconf: K\d\d(?: \w+)?|kconf: .*: (?:cannot read|not UTF-8|limit)): .+",
     re.DOTALL,
 )
 # A line that is named after the words, with its place; or the words of a refusal.
