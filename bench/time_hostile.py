@@ -147,10 +147,12 @@ def cost_of(folder, command, environment=None, wanted_status=0):
         return usage.ru_utime + usage.ru_stime, int(file.read()) * 1024
 
 
-def middle_cost(folder, command, environment=None, wanted_status=0):
-    """The medians of the costs of some runs; one of a second or more stands for all."""
-    found = [cost_of(folder, command, environment, wanted_status)]
-    while len(found) < RUNS and found[0][0] < 1:
+def middle_cost(folder, command, environment=None, wanted_status=0, prepare=None):
+    """The medians of the costs of some runs, each after `prepare`; a run of a second or more is the only one."""
+    found = []
+    while len(found) < RUNS and (not found or found[0][0] < 1):
+        if prepare:
+            prepare()
         found.append(cost_of(folder, command, environment, wanted_status))
     return tuple(statistics.median(costs) for costs in zip(*found))
 
@@ -178,12 +180,16 @@ def conf_cost(folder, target):
         return None, "-"
     out = os.path.join(work, "out.config")
     source = os.path.join(folder, "config")
-    try:
+
+    def put_config():
+        """Puts the .config there again, which conf writes over."""
         if os.path.exists(source):
             shutil.copyfile(source, out)
         elif os.path.exists(out):
             os.remove(out)
-        seconds, memory = middle_cost(folder, [conf, option, "Kconfig"], {"KCONFIG_CONFIG": out})
+
+    try:
+        seconds, memory = middle_cost(folder, [conf, option, "Kconfig"], {"KCONFIG_CONFIG": out}, prepare=put_config)
         return seconds, f"{seconds:.3f} s, {memory / 2**20:.0f} MiB"
     except Failed as failed:
         return None, str(failed)
