@@ -13,7 +13,7 @@ use Rattle.kc_tree.specs.declared.node.Node.TheVariants.{Val}
 use Rattle.kc_outline.specs.declared.entry.Entry.{Entry}
 use Rattle.kc_outline.specs.declared.entry.Entry.TheVariants.{Symbol, Again, Menu, EndMenu, Choice, Comment}
 use Rattle.kc_tree.specs.Fits.{type_of}
-use Rattle.kc_outline.specs.TreeValue.{TreeValue, name_of, kind_of}
+use Rattle.kc_outline.specs.TreeValue.{TreeValue, name_of}
 use Rattle.kc_statement.specs.declared.symbol_type.SymbolType.{SymbolType}
 use Rattle.kc_statement.specs.declared.symbol_type.SymbolType.TheVariants as kind
 use Rattle.kc_tree.specs.declared.user_value.UserVal.{UserVal}

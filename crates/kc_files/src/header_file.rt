@@ -151,7 +151,13 @@ fn push_symbol(
         ≡ string_bytes out.old ++ macro_of tree.now prefix.now (assignment_of tree.now values.now) symbol) }
 {
     if let Some(value) = written_value(tree, values, symbol) {
-        push_symbol_macro(out, prefix, tree.name(symbol), tree.symbol_type(symbol), value)?;
+        push_symbol_macro(
+            out,
+            prefix,
+            tree.name(symbol),
+            tree.symbol_type(symbol),
+            value,
+        )?;
     }
     Ok(())
 }

@@ -11,7 +11,7 @@ use Rattle.kc_session.specs.declared.command.Refusal.{Refusal}
 use Rattle.kc_session.specs.declared.command.Reply.{Reply}
 use Rattle.kc_session.specs.declared.command_line.Request.{Request}
 use Rattle.kc_session.specs.declared.command_line.Request.TheVariants.{Whole, WithBody}
-use Rattle.kc_session.specs.EvaluationBound.{HasDirty, IsBounded, missing_count}
+use Rattle.kc_session.specs.EvaluationBound.{IsBounded, missing_count}
 use Rattle.kc_session.specs.Keeping.{Asks, EditsKept, Keeps, KeepsRight}
 use Rattle.kc_session.specs.Session.{SessionState}
 use Rattle.kc_session.specs.Steps.{KeepsRequest}

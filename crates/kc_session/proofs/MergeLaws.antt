@@ -1,6 +1,6 @@
 -- User values that are merged take the place of others once, so that exactly what changes is dropped.
 use Rattle.std.proofs.Common.{◌≡◌, ◌⊎◌, inl, inr, ℕ, ◌+◌, ◌<◌, ◌==◌, Bool, true, false, true≢false, not, ◌&&◌, All, List, [], ◌∷◌, length, map, get_or, replicate, take, slice_set, slice_index_or, Option, Some, None, is_some, if◌then◌else◌, refl, sym, ap, ◌∙◌, subst, ⊎_elim, arith}
-use Rattle.std.specs.List.{Contains, range_with_len}
+use Rattle.std.specs.List.{Contains}
 use Rattle.std.specs.Option.{option_map_or, option_or}
 use Rattle.std.proofs.lemmas.Bool.{cases_eq, cases_lt, eqb-true, ne_eqb}
 use Rattle.std.proofs.lemmas.List.{get_or_past, get_or-set_same, get_or-set_other, length-replicate, take_more}
@@ -12,7 +12,6 @@ use Rattle.kc_outline.specs.TreeValue.{TreeValue, choice_of}
 use Rattle.kc_tree.specs.declared.node.Node.{Node}
 use Rattle.kc_tree.specs.declared.node.Node.TheVariants.{Vis, Val, Mode, Sel}
 use Rattle.kc_tree.specs.declared.user_value.UserVal.{UserVal}
-use Rattle.kc_tree.specs.Nodes.{IsNodeOf}
 use Rattle.kc_value.specs.ChangedValue.{same_mark, same_member}
 use Rattle.kc_value.specs.Dirty.{same_given, is_changed, IsDirty, Edits}
 use Rattle.kc_value.specs.Kept.{AreKept, KeptValue}

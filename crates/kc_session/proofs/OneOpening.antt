@@ -7,13 +7,13 @@ use Rattle.kc_text.specs.Reading.{logical_lines_of}
 use Rattle.kc_text.specs.declared.fault.TextFault.{TextFault}
 use Rattle.kc_tree.specs.declared.fault.TreeFault.{TreeFault}
 use Rattle.kc_tree.specs.declared.fault.TreeFault.TheVariants as tree_fault
-use Rattle.kc_tree.specs.Parsed.{IsTreeOf, IsFaultOf, IsOfLines, AreOneFault, IsOnlyTree, IsOnlyFault, IsFirstFault}
+use Rattle.kc_tree.specs.Parsed.{IsTreeOf, IsFaultOf, IsOfLines, IsOnlyTree, IsOnlyFault, IsFirstFault}
 use Rattle.kc_outline.specs.TreeValue.{TreeValue}
 use Rattle.kc_session.specs.declared.opening.OpenFault.{OpenFault}
 use Rattle.kc_session.specs.declared.opening.OpenFault.TheVariants.{Text, Tree, Limit, NoMemory}
 use Rattle.kc_session.specs.Bodies.{fits_body}
 use Rattle.kc_session.specs.Session.{SessionValue}
-use Rattle.kc_session.specs.Opened.{user_of_config, IsOpened, IsTextFaultOf, IsTreeFaultOf, IsConfigFault, IsOpenFault, IsOfTexts, AreOneOpenFault, IsOnlySession, IsOnlyOpenFault, IsOnlyTreeFault, IsFirstOpenFault}
+use Rattle.kc_session.specs.Opened.{user_of_config, IsTextFaultOf, IsTreeFaultOf, IsConfigFault, IsOpenFault, IsOfTexts, AreOneOpenFault, IsOnlySession, IsOnlyOpenFault, IsOnlyTreeFault, IsFirstOpenFault}
 
 module _ (files vars : List File) (top prefix config : List ℕ) where
   -- ---- a fault of the texts

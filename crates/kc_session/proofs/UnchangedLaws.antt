@@ -1,5 +1,5 @@
 -- User values are the same as themselves, and what has no user value has none.
-use Rattle.std.proofs.Common.{◌≡◌, ◌+◌, ◌<◌, ◌≤◌, ℕ, Bool, true, false, true≢false, not, ◌&&◌, List, [], ◌∷◌, zero, suc, length, map, get_or, replicate, Option, Some, None, is_some, refl, sym, ap, ◌∙◌, ⊎_elim, inl, arith}
+use Rattle.std.proofs.Common.{◌≡◌, ◌<◌, ℕ, Bool, true, false, true≢false, not, ◌&&◌, List, [], ◌∷◌, zero, suc, length, map, get_or, replicate, Option, Some, None, is_some, refl, sym, ap, ◌∙◌, ⊎_elim, inl, arith}
 use Rattle.std.specs.List.{Contains}
 use Rattle.std.proofs.lemmas.Bool.{cases_lt, eq-eqb}
 use Rattle.std.proofs.lemmas.List.{get_or-replicate, get_or_past, length-replicate}

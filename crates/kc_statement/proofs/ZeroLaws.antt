@@ -1,13 +1,12 @@
 -- Digits spell the same number without the zeros at their front.
-use Rattle.std.proofs.Common.{◌≡◌, ◌∙◌, ◌≤◌, ◌+◌, ◌-◌, ◌*◌, ◌==◌, ℕ, zero, suc, Bool, true, false, not, List, [], ◌∷◌, Option, Some, None, length, take, drop, unwrap_or, refl, sym, ap, subst, rules, arith, Bor}
+use Rattle.std.proofs.Common.{◌≡◌, ◌∙◌, ◌+◌, ◌-◌, ◌*◌, ◌==◌, ℕ, zero, suc, Bool, true, false, List, [], ◌∷◌, Option, Some, None, length, drop, unwrap_or, refl, sym, ap, subst, rules, arith, Bor}
 use Rattle.std.specs.Char.{digit_value}
-use Rattle.std.specs.List.{prefix_len, position_or_len, slice_range}
+use Rattle.std.specs.List.{slice_range}
 use Rattle.std.specs.Str.Parse.{AllDigits, digits_value, digits_value_after}
 use Rattle.std.specs.Str.Pattern.{GetsRange}
 use Rattle.std.proofs.lemmas.Bool.Decides.{nat_tests}
 use Rattle.std.proofs.lemmas.List.{take_all, length-drop}
-use Rattle.std.proofs.lemmas.List.Sums.{prefix_len-le-length}
-use Rattle.kc_statement.specs.Zeros.{is_no_zero, zeros_len}
+use Rattle.kc_statement.specs.Zeros.{zeros_len}
 
 zeros_value : (radix : ℕ) (bs : List ℕ) → digits_value radix (drop (zeros_len bs) bs) ≡ digits_value radix bs
 zeros_value radix [] = refl

@@ -1,13 +1,13 @@
 -- The value of a condition is the least of the values of its factors.
-use Rattle.std.proofs.Common.{◌≡◌, List, [], ◌∷◌, ◌++◌, map, Option, Some, None, refl, sym, ap, ◌∙◌}
+use Rattle.std.proofs.Common.{◌≡◌, List, [], ◌∷◌, ◌++◌, map, Some, None, refl, sym, ap, ◌∙◌}
 use Rattle.std.specs.List.{flat_map}
 use Rattle.std.proofs.lemmas.List.{map-append}
 use Rattle.kc_statement.specs.declared.expr.Expr.{Expr}
 use Rattle.kc_statement.specs.declared.tri.Tri.{Tri}
 use Rattle.kc_statement.specs.declared.tri.Tri.TheVariants.{No, Module, Yes}
 use Rattle.kc_statement.specs.Tristate.{least, least_of}
-use Rattle.kc_outline.specs.TreeValue.{TreeValue, DefinitionValue, BlockValue, blocks_around}
-use Rattle.kc_tree.specs.ConditionTable.{Condition, own_if, own_lines, depends_around, visible_around, mode_of, dependencies_in, also, Factor, expression, mode, missing, factors}
+use Rattle.kc_outline.specs.TreeValue.{TreeValue, BlockValue, blocks_around}
+use Rattle.kc_tree.specs.ConditionTable.{Condition, own_if, own_lines, depends_around, visible_around, mode_of, dependencies_in, also, Factor, expression, factors}
 use Rattle.kc_value.specs.Assignment.{Assignment}
 use Rattle.kc_value.specs.ExprValue.{expr_value, conditions_value}
 use Rattle.kc_value.specs.Conditions.{blocks_depend, mode_around, condition_value, factor_value}

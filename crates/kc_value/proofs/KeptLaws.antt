@@ -1,9 +1,7 @@
 -- The laws of what is kept hold of each tree.
-use Rattle.std.proofs.Common.{◌≡◌, ◌⊎◌, ◌+◌, ◌<◌, ◌≤◌, ℕ, Bool, true, false, true≢false, not, ◌&&◌, List, length, map, get_or, Option, None, is_some, replicate, refl, sym, ap, ◌∙◌, subst, inl, inr, arith}
+use Rattle.std.proofs.Common.{◌≡◌, ◌+◌, ◌≤◌, Bool, true, false, true≢false, not, ◌&&◌, List, length, map, get_or, Option, None, is_some, replicate, refl, sym, ap, ◌∙◌, subst, inl, inr, arith}
 use Rattle.std.specs.List.{Contains}
 use Rattle.std.proofs.lemmas.List.{length-map, length-replicate}
-use Rattle.kc_statement.specs.declared.id.SymId.{SymId}
-use Rattle.kc_outline.specs.declared.id.ChoiceId.{ChoiceId}
 use Rattle.kc_outline.specs.TreeValue.{TreeValue, choice_of}
 use Rattle.kc_tree.specs.declared.node.Node.{Node}
 use Rattle.kc_tree.specs.declared.node.Node.TheVariants.{Vis, Val, Mode, Sel}
@@ -12,9 +10,9 @@ use Rattle.kc_tree.specs.Nodes.{IsNodeOf, node_at, node_count, number_of}
 use Rattle.kc_tree.proofs.NodeNumbers.{are_numbered, at_below, number_of-node_at, Contains-number}
 use Rattle.kc_value.specs.declared.value.Value.{Value}
 use Rattle.kc_value.specs.Assignment.{value_at}
-use Rattle.kc_value.specs.ChangedValue.{same_mark, same_member}
+use Rattle.kc_value.specs.ChangedValue.{same_mark}
 use Rattle.kc_value.specs.Dirty.{Edits, IsDirty, is_changed, same_given}
-use Rattle.kc_value.specs.Kept.{AreKept, IsClosed, IsKept, KeptValue, kept_count, nothing_kept}
+use Rattle.kc_value.specs.Kept.{AreKept, IsClosed, KeptValue, kept_count, nothing_kept}
 use Rattle.kc_value.specs.KeptLaws.{KeptLaws}
 use Rattle.kc_value.specs.UserValues.{UserValues, user_value, chosen_in}
 use Rattle.kc_value.specs.Without.{is_optional_choice}

@@ -1,5 +1,5 @@
 -- The number of a text, by what it begins with.
-use Rattle.std.proofs.Common.{◌≡◌, ◌-◌, ◌^◌, ℕ, Bool, true, false, List, Option, Some, None, take, drop, if◌then◌else◌, option_map, refl, ap}
+use Rattle.std.proofs.Common.{◌≡◌, ◌-◌, ◌^◌, ℕ, Bool, true, false, List, Some, None, take, drop, if◌then◌else◌, option_map, refl, ap}
 use Rattle.std.specs.Prelude.{codes, pos, neg_ℤ}
 use Rattle.std.specs.Str.{bytes_eq}
 use Rattle.kc_statement.specs.Numerals.{hex_digits}

@@ -13,7 +13,7 @@ use Rattle.kc_tree.specs.declared.user_value.UserVal.{UserVal}
 use Rattle.kc_tree.specs.declared.user_value.UserVal.TheVariants.{Tri as TriVal, Text}
 use Rattle.kc_statement.specs.Grammar.{lone_term}
 use Rattle.kc_statement.specs.Numerals.{numeral_in}
-use Rattle.kc_statement.specs.Tristate.{least, is_no}
+use Rattle.kc_statement.specs.Tristate.{is_no}
 use Rattle.kc_outline.specs.TreeValue.{TreeValue, SymbolValue, DefinitionValue, kind_of, definitions_of}
 use Rattle.kc_value.specs.declared.value.Value.{Value}
 use Rattle.kc_value.specs.declared.value.Value.TheVariants.{Shown}

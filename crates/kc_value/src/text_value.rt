@@ -22,7 +22,8 @@ use crate::term_text::term_text;
 use crate::value::Value;
 use itertools::Itertools;
 use kc_tree::{
-    Definition, Expr, LentText, Range, SharedText, Symbol, SymbolType, Tree, Tri, UserVal, lone_term,
+    Definition, Expr, LentText, Range, SharedText, Symbol, SymbolType, Tree, Tri, UserVal,
+    lone_term,
 };
 use std::alloc::{AllocError, Global};
 

@@ -5,8 +5,8 @@ use Rattle.kc_text.specs.Reading.{logical_lines_of}
 use Rattle.kc_value.specs.UserValues.{UserValues}
 use Rattle.kc_files.specs.DefaultLoading.{HasNoFeeds}
 use Rattle.kc_session.specs.KeptResolver.{ResolverState}
-use Rattle.kc_session.specs.Session.{SessionState, SessionValue}
-use Rattle.kc_session.specs.Opened.{IsOnlySession, user_of_config}
+use Rattle.kc_session.specs.Session.{SessionState}
+use Rattle.kc_session.specs.Opened.{user_of_config}
 use Rattle.kc_session.proofs.OneOpening.{first_tree_fault, only_session}
 use Rattle.kc_session.proofs.opening.open_seeded.Goals as goal
 

@@ -2,7 +2,6 @@ use Rattle.std.proofs.Common.{subst, sym, arith}
 use Rattle.std.specs.List.{Contains}
 use Rattle.std.proofs.lemmas.List.{take_all}
 use Rattle.std.proofs.lemmas.List.Elements.{Contains-get_or}
-use Rattle.kc_session.specs.Merging.{IsTaken}
 use Rattle.kc_session.proofs.MergeLaws.{taken_next, taking_nothing, taking_then}
 use Rattle.kc_session.proofs.user_edits.take_next.Goals as goal
 

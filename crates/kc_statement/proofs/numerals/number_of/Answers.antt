@@ -1,5 +1,4 @@
-use Rattle.std.proofs.Common.{◌≡◌, ◌∙◌, ◌<◌, ℕ, List, [], ◌∷◌, true, false, length, ap, sym, refl, rules, arith, tests}
-use Rattle.std.specs.Str.Parse.{digits_value}
+use Rattle.std.proofs.Common.{◌∙◌, ◌<◌, length, ap, rules, arith, tests}
 use Rattle.kc_statement.specs.Numerals.{up_to}
 use Rattle.kc_statement.proofs.NumeralLaws.{read_digits}
 use Rattle.kc_statement.proofs.numerals.number_of.Goals as goal

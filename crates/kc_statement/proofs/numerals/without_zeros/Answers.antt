@@ -1,4 +1,4 @@
-use Rattle.std.proofs.Common.{◌≡◌, ◌∙◌, length, ap, subst, sym, refl}
+use Rattle.std.proofs.Common.{◌∙◌, length, ap, subst, sym, refl}
 use Rattle.std.specs.Str.Parse.{AllDigits, digits_value}
 use Rattle.std.specs.Str.Pattern.{GetsRange}
 use Rattle.kc_statement.proofs.ZeroLaws.{value_kept, digits_kept}

@@ -1,4 +1,4 @@
-use Rattle.std.proofs.Common.{◌∙◌, ap, sym, map, arith, true≢false}
+use Rattle.std.proofs.Common.{◌∙◌, ap, sym, arith, true≢false}
 use Rattle.kc_statement.proofs.NodeLaws.{all_falls, any_falls, not_falls, kept_as, formula_as}
 use Rattle.kc_value.specs.Assignment.{assignment_of}
 use Rattle.kc_value.specs.ExprValue.{complements, expr_value}

@@ -1,4 +1,4 @@
-use Rattle.std.proofs.Common.{◌≡◌, ◌^◌, ◌-◌, None, Some, sym, ap, ◌∙◌, rules, List, ℕ, Bor}
+use Rattle.std.proofs.Common.{◌≡◌, None, Some, sym, ap, ◌∙◌, rules, List, ℕ, Bor}
 use Rattle.std.specs.Option.{option_map}
 use Rattle.std.specs.Prelude.{pos, neg_ℤ}
 use Rattle.kc_value.specs.Numerals.{number_of_text}
