@@ -14,6 +14,7 @@ where all are right, else 1. Printed is for each target how many requests were r
 
 import argparse
 import os
+import re
 import subprocess
 import sys
 import tempfile
@@ -162,6 +163,8 @@ TARGETS: Dict[str, List[str]] = {
     "a malformed variable": ["olddefconfig", "Kconfig", "-", "A-"],
 }
 
+EXPLAINED = re.compile(rb"(kconf: (?:.*: )?(?:warning \d|K\d\d(?: \w+)?)): .*")
+
 Outcome = Tuple[int, bytes, bytes]
 
 
@@ -200,15 +203,24 @@ class Program:
         return True
 
 
+def without_words(errors: bytes) -> bytes:
+    """Lines of standard error without what --explain adds: it says less where it is refused memory."""
+    lines = [line for line in errors.splitlines(keepends=True) if not line.startswith(b"  ")]
+    return b"".join(EXPLAINED.sub(rb"\1", line) for line in lines)
+
+
 def verdict(program: Program, words: List[str], stream: bytes, right: Outcome, found: Outcome) -> str:
     """What came of a refused request, in words; those of a wrong run begin with WRONG."""
     if found == right:
         return "the right answer"
     status, output, errors = found
+    if "--explain" in words and (status, output, without_words(errors)) == (*right[:2], without_words(right[2])):
+        return "the right answer, with fewer words"
     if status == 1 and errors == NO_MEMORY:
         return verdict_of_output(right, output)
-    if status == 1 and errors.endswith(NO_MEMORY) and right[2].startswith(errors[: -len(NO_MEMORY)]):
-        return "memory, behind warnings; " + verdict_of_output(right, output)
+    warnings = without_words(errors[: -len(NO_MEMORY)])
+    if status == 1 and errors.endswith(NO_MEMORY) and without_words(right[2]).startswith(warnings):
+        return "memory, after warnings; " + verdict_of_output(right, output)
     if words[0] == "session" and status == 0 and errors == right[2]:
         return verdict_of_replies(program, words, stream, output)
     return f"WRONG: status {status}, {len(output)} bytes of output, {errors[:200]!r}"
