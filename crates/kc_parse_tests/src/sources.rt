@@ -53,3 +53,15 @@ fn puts_files_in_place(rt: HostRuntime) -> Result<(), Fail> {
     }
     Ok(())
 }
+
+#[test]
+fn texts_are_lent_and_taken_by_their_paths(rt: HostRuntime) -> Result<(), Fail> {
+    let mut sources = Sources::new(rt.alloc());
+    add_all(&mut sources, "a: A & b: B")?;
+    assert_eq!(rt; sources.text("b").unwrap_or("none"), "B");
+    let taken = sources.take("a").ok_or("no text")?;
+    assert_eq!(rt; taken.as_str(), "A");
+    assert_eq!(rt; sources.text("a").unwrap_or("none"), "none");
+    assert!(rt; sources.take("a").is_none(), "taken twice");
+    Ok(())
+}
