@@ -1,9 +1,9 @@
 -- The lines of a body, each cut off its front in turn.
-use Rattle.std.proofs.Common.{◌≡◌, ℕ, suc, ◌+◌, ◌<◌, ◌≤◌, ◌==◌, Bool, true, false, not, ◌||◌, ◌&&◌, List, [], ◌∷◌, ◌++◌, length, take, drop, if◌then◌else◌, refl, sym, ap, subst, ◌∙◌, one-add, arith}
-use Rattle.std.specs.List.{list_all, position_or_len, onto_first}
+use Rattle.std.proofs.Common.{◌≡◌, ℕ, suc, ◌+◌, ◌<◌, ◌≤◌, ◌==◌, Bool, true, false, not, ◌||◌, List, [], ◌∷◌, ◌++◌, length, take, drop, if◌then◌else◌, refl, sym, ap, subst, ◌∙◌, one-add, arith}
+use Rattle.std.specs.List.{position_or_len, onto_first}
 use Rattle.std.proofs.lemmas.Bool.{eqb-true, cond-false, cond-true}
 use Rattle.kc_files.specs.ConfigLines.{is_feed}
-use Rattle.kc_session.specs.Stream.{has_feed, fits_line, lines_of}
+use Rattle.kc_session.specs.Stream.{has_feed, lines_of}
 use Rattle.kc_session.proofs.Lines.{IsLastLine-unended}
 
 at_feed : (b : ℕ) (bs : List ℕ) → is_feed b ≡ true → position_or_len is_feed (b ∷ bs) ≡ 0
@@ -83,24 +83,10 @@ alone : (text : List ℕ) → 0 < length text → has_feed text ≡ false → li
 alone [] some h = absurd (omega (arith, some))
 alone (b ∷ bs) some h = (IsLastLine-unended b bs h).only
 
-lines_of-nil : lines_of [] ≡ []
+pub lines_of-nil : lines_of [] ≡ []
 unfolding lines_of
 lines_of-nil = refl
 
 pub only_line : (text : List ℕ) (n : ℕ) → 0 < length text → n ≡ position_or_len is_feed text → length text ≤ n → lines_of text ≡ text ∷ lines_of []
 only_line text n some at past =
     alone text some (no_feed text (omega (arith, at, past))) ∙ ap (λ ls. text ∷ ls) (sym lines_of-nil)
-
--- ---- whether they fit
-pub fit_behind : (text line behind : List ℕ) → lines_of text ≡ line ∷ lines_of behind → fits_line line ≡ true
-    → list_all fits_line (lines_of text) ≡ list_all fits_line (lines_of behind)
-fit_behind text line behind cut fits =
-    ap (list_all fits_line) cut ∙ ap (λ b. b && list_all fits_line (lines_of behind)) fits
-
-pub first_is_long : (text line behind : List ℕ) → lines_of text ≡ line ∷ lines_of behind → fits_line line ≡ false → list_all fits_line (lines_of text) ≡ false
-first_is_long text line behind cut long =
-    ap (list_all fits_line) cut ∙ ap (λ b. b && list_all fits_line (lines_of behind)) long
-
-pub none_is_long : (text : List ℕ) → length text ≡ 0 → list_all fits_line (lines_of text) ≡ true
-none_is_long [] none = ap (list_all fits_line) lines_of-nil
-none_is_long (b ∷ bs) none = absurd (omega (arith, none))

@@ -27,3 +27,4 @@ pub mod Texts
 pub mod UnfedRequests
 pub mod Unread
 pub mod UnchangedLaws
+pub mod FirstLines

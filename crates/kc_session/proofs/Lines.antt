@@ -8,7 +8,7 @@ use Rattle.kc_session.specs.Stream.{has_feed, is_ended, lines_of, text_of_line, 
 use Rattle.kc_session.specs.NextLine.{IsEndedLine, IsLastLine}
 
 -- a byte that is no line feed goes onto the first line of the rest
-lines_of-cons : (b : ℕ) (bs : List ℕ) → (b == 10) ≡ false → lines_of (b ∷ bs) ≡ onto_first b (lines_of bs)
+pub lines_of-cons : (b : ℕ) (bs : List ℕ) → (b == 10) ≡ false → lines_of (b ∷ bs) ≡ onto_first b (lines_of bs)
 unfolding lines_of
 lines_of-cons b bs h = cond-false (b == 10) _ _ h
 

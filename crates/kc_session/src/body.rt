@@ -1,12 +1,12 @@
 //! The body of a load: the lines of a `.config`.
-ghost use Rattle.std.specs.Prelude.{◌≡◌, ◌<◌, ◌≤◌, ◌∷◌, length};
+ghost use Rattle.std.specs.Prelude.{◌≡◌, ◌<◌, ◌≤◌, ◌∷◌, ◌&&◌, length};
 ghost use Rattle.std.specs.List.{list_all, position_or_len};
 ghost use Rattle.kc_files.specs.ConfigLines.{is_feed};
 ghost use Rattle.kc_session.specs.Bodies.{fits_body};
-ghost use Rattle.kc_session.specs.Stream.{lines_of, fits_line};
+ghost use Rattle.kc_session.specs.Stream.{lines_of, fits_line, line_limit};
 
-use crate::line::fits_line;
-use memchr::memchr;
+use crate::line::{LINE_LIMIT, fits_line};
+use memchr::{memchr, memrchr};
 use std::marker::Model;
 
 /// The most bytes that a body has, with all line ends.
@@ -67,18 +67,32 @@ fn first_line(text: &[u8]) -> (&[u8], &[u8])
     (text, nothing)
 }
 
+/// Cuts lines off the front of a text that is longer than a line may be: all those that end within as many bytes as a
+/// line may have, which are none too long, or the first line alone.
+fn first_lines(text: &[u8]) -> (&[u8], &[u8])
+    requires long { line_limit < length text.now }
+    ensures fit { list_all fits_line (lines_of text.now)
+        ≡ (fits_line result.0.now && list_all fits_line (lines_of result.1.now)) }
+    ensures shorter { length result.1.now < length text.now }
+{
+    match memrchr(b'\n', &text[..LINE_LIMIT]) {
+        Some(last) => text.split_at(last + 1),
+        None => first_line(text),
+    }
+}
+
 /// Whether no line of a text is too long.
-#[tactic(auto, using(crate::proofs::BodyLines::fit_behind, crate::proofs::BodyLines::first_is_long, crate::proofs::BodyLines::none_is_long))]
+#[tactic(auto, using(crate::proofs::FirstLines::short_text_fits, crate::proofs::FirstLines::fit_after, crate::proofs::FirstLines::first_is_long))]
 fn fit_lines(text: &[u8]) -> bool
     ensures { result ≡ list_all fits_line (lines_of text.now) }
 {
     let mut rest = text;
-    while !rest.is_empty() {
-        let (line, behind) = first_line(rest);
-        if !fits_line(line) {
+    while rest.len() > LINE_LIMIT {
+        let (lines, after) = first_lines(rest);
+        if !fits_line(lines) {
             return false;
         }
-        rest = behind;
+        rest = after;
     }
     true
 }
