@@ -94,7 +94,7 @@ fn unset_reading(tree: &Tree, name: &str, likely: SymId) -> Reading
     }
 }
 
-/// What a line gives, which stands without its line feed, and whose name is likely to be that of this symbol.
+/// What a line gives, which is without its line feed, and whose name is likely to be that of this symbol.
 ///
 /// The error comes where memory is refused for a copy of its value.
 pub(crate) fn read_line(

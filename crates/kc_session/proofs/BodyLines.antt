@@ -40,7 +40,7 @@ no_feed (b ∷ bs) h = go (is_feed b) refl (no_feed bs)
     go true e more = absurd (omega (arith, h, at_feed b bs e))
     go false e more = ap (λ v. v || has_feed bs) e ∙ more (omega (arith, h, past_feed b bs e))
 
--- before the first line feed there is none, and it stands there
+-- before the first line feed there is none, and there is one at its place
 pub before_feed : (text : List ℕ) → has_feed (take (position_or_len is_feed text) text) ≡ false
 before_feed [] = refl
 before_feed (b ∷ bs) = go (is_feed b) refl (before_feed bs)

@@ -10,7 +10,7 @@ use Rattle.kc_session.specs.Stream.{fits_line, is_ended, line_limit, lines_of, t
 use Rattle.kc_session.proofs.BodyLines.{lines_of-nil}
 use Rattle.kc_session.proofs.Lines.{lines_of-cons}
 
--- ---- lines within so many bytes
+-- ---- lines within a number of bytes
 abbrev are_within : ℕ → List (List ℕ) → Bool
 are_within n lines = list_all (λ line. nat_le (length line) n) lines
 

@@ -250,7 +250,7 @@ in_choice_taken t m s c is none = record {
 }
 
 -- ---- symbols one after the other
--- of the first so many, and of the next one
+-- of the first ones, and of the next one
 pub taken_next : (t : TreeValue) (symbols : List SymId) (i : ℕ) (d : SymId) (u n v m : UserValues) → i < length symbols → AreTaking u n v m
     → ((s : SymId) → Contains (take i symbols) s → IsTaken t n s) → IsTaken t m (get_or symbols i d) → (s : SymId) → Contains (take (i + 1) symbols) s → IsTaken t m s
 taken_next t symbols i d u n v m within taking before own s listed =

@@ -1,4 +1,4 @@
--- The first word of a line, behind which a definition has its sign.
+-- The first word of a line, after which a definition has its sign.
 use Rattle.std.proofs.Common.{◌≡◌, ◌∙◌, ℕ, List, [], ◌∷◌, Bool, true, false, ◌==◌, ◌||◌, drop, if◌then◌else◌, Option, Some, None, IfSome, Bor, refl, ap, sym, arith}
 use Rattle.std.specs.List.{prefix_len}
 use Rattle.std.proofs.lemmas.Bool.Decides.{nat_tests}
@@ -27,7 +27,7 @@ no_sign name (b ∷ bs) e =
     let plus : (b == 43) ≡ false = grind (arith, nat_tests) in
     rw (equal, colon, plus) refl
 
--- where no sign stands behind the word, none stands behind the name that it begins with
+-- where no sign is after the word, none is after the name that it begins with
 behind_name : (bs : List ℕ) → may_assign (behind_blanks (drop (prefix_len is_word bs) bs)) ≡ false → may_assign (behind_blanks (drop (prefix_len is_name bs) bs)) ≡ false
 behind_name [] e = e
 behind_name (b ∷ bs) e =
@@ -47,13 +47,13 @@ either_none : (b : Bool) (d : Option Definition) → d ≡ None → (if b then N
 either_none true d e = refl
 either_none false d e = e
 
--- a line that begins with a word and has no sign behind it
+-- a line that begins with a word and has no sign after it
 pub no_assignment : (bs rest : List ℕ) → rest ≡ drop (prefix_len is_word bs) bs → may_assign (behind_blanks rest) ≡ false → definition_after_blanks bs ≡ None
 no_assignment bs rest behind e =
     either_none (prefix_len is_name bs == 0) (assignment_in (leading_name bs) (behind_blanks (drop (prefix_len is_name bs) bs)))
     (no_sign (leading_name bs) (behind_blanks (drop (prefix_len is_name bs) bs)) (behind_name bs (sym (ap (λ l. may_assign (behind_blanks l)) behind) ∙ e)))
 
--- what a line defines, by its first token and what is behind it
+-- what a line defines, by its first token and what is after it
 abbrev pub Defines : List ℕ → Option (Token × Bor (List ℕ)) → Type 0
 Defines line found = IfSome found (λ f. may_assign (behind_blanks f.1.now) ≡ false → definition_of line ≡ None)
 

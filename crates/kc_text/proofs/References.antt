@@ -38,7 +38,7 @@ value_pieces-run (b ∷ bs) =
           ∙ ap (behind_run (b ∷ bs)) (sym (prefix_len-yes is_no_dollar b bs (ap not e)))
     ] refl
 
--- a text without a dollar stands for itself
+-- a text without a dollar is its own expansion
 pub value_pieces-plain : (bs : List ℕ) → prefix_len is_no_dollar bs ≡ length bs → value_pieces bs ≡ bytes_of bs
 value_pieces-plain [] all = refl
 value_pieces-plain (b ∷ bs) all =

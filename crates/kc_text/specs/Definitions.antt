@@ -22,7 +22,7 @@ assignment_in name (b ∷ bs) =
     else (if b == 43 && begins_with 61 bs then Some (record { name = name; assignment = Append; value = trimmed (drop 1 bs) })
     else None))
 
--- whether the bytes behind a name and its blanks may begin what the name is given
+-- whether the bytes after a name and its blanks may begin what the name is given
 abbrev pub may_assign : List ℕ → Bool
 may_assign [] = false
 may_assign (b ∷ bs) = b == 61 || (b == 58 || b == 43)

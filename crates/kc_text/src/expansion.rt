@@ -179,7 +179,7 @@ pub(crate) fn lent_text<'a>(scope: Scope<'a>, pieces: &[Piece<'a>]) -> Option<&'
     }
 }
 
-/// The text that a name stands for, lent, where it holds no reference.
+/// The text that a name is given, lent, where it holds no reference.
 fn plain_meaning<'a>(scope: Scope<'a>, name: &'a str) -> Option<&'a str>
     ensures { IfSome result (λ text. followed (names_in scope.entry.variables.now) (texts_in scope.entry.outside.now) 64 [] name.entry.now start ≡ put text.now (counted start)) }
 {

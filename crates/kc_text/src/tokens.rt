@@ -122,7 +122,7 @@ fn first_token<'a>(
     }
 }
 
-/// A line of which the first token was gathered, where that stands in the line as it is.
+/// A line whose first token was gathered, where the line has it verbatim.
 #[derive(Clone, Copy)]
 pub(crate) struct Begun<'a> {
     pub(crate) line: &'a str,
@@ -132,7 +132,7 @@ pub(crate) struct Begun<'a> {
     pub(crate) may_define: bool,
 }
 
-/// Gathers the first token of a line, where it stands there as it is.
+/// Gathers the first token of a line, where the line has it verbatim.
 pub(crate) fn begin<'a>(
     gathered: &mut Vec<Token<'a>, &'a Bump>,
     line: &'a str,

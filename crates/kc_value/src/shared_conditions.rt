@@ -166,7 +166,7 @@ fn places_of_own(alloc: Global, tree: &Tree) -> Result<Vec<Option<Tri>>, AllocEr
     no_tris(alloc, tree.definitions().len())
 }
 
-/// What the own `depends on` lines of each definition say in which a `select` or `imply` line stands whose symbol is not
+/// What the own `depends on` lines of each definition say in which a `select` or `imply` line is whose symbol is not
 /// n. The error comes where memory is refused.
 fn own_conditions(
     alloc: Global,
