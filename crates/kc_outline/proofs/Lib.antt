@@ -9,6 +9,7 @@ pub mod Counts
 pub mod EnclosedLaws
 pub mod EntryLaws
 pub mod Examples
+pub mod FaultyLaws
 pub mod FirstLaws
 pub mod FormLaws
 pub mod MemberLaws
@@ -18,5 +19,6 @@ pub mod OnlyLaws
 pub mod OpenChoices
 pub mod OutlineFacts
 pub mod OwnerLaws
+pub mod PassingLaws
 pub mod PlaceLaws
 pub mod ReadingLaws

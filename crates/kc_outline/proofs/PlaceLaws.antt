@@ -67,7 +67,7 @@ module _ (lines : List LineValue) where
         | inr last ↦ subst (λ k. IsReadingAt lines k r) (sym (last.0 ∙ before_it.many)) (subst (IsReadingAt lines n) last.1 (next_reading reads))
       ]
 
-    read_push : IsReading names (before lines n) (length lines - (n + 1) == 0) l q → IsOnlyForm names l q.statement → AreRead lines n rs → AreRead lines (n + 1) (rs ++ q ∷ [])
+    pub read_push : IsReading names (before lines n) (length lines - (n + 1) == 0) l q → IsOnlyForm names l q.statement → AreRead lines n rs → AreRead lines (n + 1) (rs ++ q ∷ [])
     read_push reads form before_it = record { readings = readings_push reads before_it.readings; only = every } where
       every : (i : ℕ) (k : LineValue) (r : Reading) → slice_get lines i ≡ Some k → slice_get (rs ++ q ∷ []) i ≡ Some r → IsOnlyForm names k r.statement
       every i k r line there = elim (at_push rs q i r there) [
@@ -78,7 +78,7 @@ module _ (lines : List LineValue) where
             subst (λ x. IsOnlyForm names x r.statement) same (subst (λ x. IsOnlyForm names l x.statement) last.1 form)
       ]
 
-  read_none : AreRead lines 0 []
+  pub read_none : AreRead lines 0 []
   read_none = record {
     readings = record { many = refl; each = λ i r is. absurd (none-some r is) };
     only = λ i l r line is. absurd (none-some r is);

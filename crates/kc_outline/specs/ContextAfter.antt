@@ -21,6 +21,15 @@ pub record IsContextAfter (names : List (List ℕ)) (earlier : List LineValue) (
   pub choices : p.choices ≡ count_by is_choice earlier
   pub comments : p.comments ≡ count_by is_comment earlier
 
+-- the same but for the owner, which lines at fault may leave open
+pub record IsPlaceAfter (earlier : List LineValue) (p : Context) : Type 0 where
+  pub stack : p.stack ≡ open_blocks earlier
+  pub statement : p.statement ≡ nearest_statement earlier
+  pub definitions : p.definitions ≡ count_by is_config earlier
+  pub blocks : p.blocks ≡ count_by is_opener earlier
+  pub choices : p.choices ≡ count_by is_choice earlier
+  pub comments : p.comments ≡ count_by is_comment earlier
+
 -- the open blocks, the innermost first, after a line of this keyword, which may open this block
 abbrev pub blocks_after : Keyword → OpenBlock → List OpenBlock → List OpenBlock
 blocks_after k b bs = if is_opener_word k then b ∷ bs else (if is_closer_word k then drop 1 bs else bs)

@@ -3,6 +3,7 @@ pub mod Blocks
 pub mod ContextAfter
 pub mod Enclosing
 pub mod Entries
+pub mod FaultyLines
 pub mod FirstProblem
 pub mod Grouped
 pub mod LineFaults

@@ -1,6 +1,7 @@
 -- Steps: what is known while lines are read. No public contract reaches it.
-use Rattle.std.specs.Prelude.{◌≡◌, ℕ, ◌+◌, ◌==◌, Bool, List, [], ◌∷◌, reverse}
+use Rattle.std.specs.Prelude.{◌≡◌, ℕ, ◌+◌, ◌==◌, Bool, List, [], ◌∷◌, ◌++◌, Option, Some, None, reverse}
 use Rattle.kc_text.specs.LineValue.{LineValue}
+use Rattle.kc_outline.specs.declared.fault.FaultyLine.{FaultyLine}
 use Rattle.kc_outline.specs.declared.fault.LineFault.{LineFault}
 use Rattle.kc_outline.specs.declared.fault.LineFault.TheVariants as fault
 use Rattle.kc_outline.specs.declared.fault.LineProblem.{LineProblem}
@@ -49,6 +50,16 @@ pub record IsOnlyProblem (names : List (List ℕ)) (earlier : List LineValue) (i
 abbrev pub IsStop : List (List ℕ) → List LineValue → Bool → LineValue → Stop → Type 0
 IsStop names earlier is_last l (Problem problem) = IsOnlyProblem names earlier is_last l problem
 IsStop names earlier is_last l NoMemory = Unit {0}
+
+-- what is found of a line: that it has this problem alone, or none, and then what it says
+abbrev pub IsFound : List (List ℕ) → List LineValue → Bool → LineValue → Option LineProblem → Type 0
+IsFound names earlier is_last l None = (s : Statement) × IsSound names earlier is_last l s × IsOnlyForm names l s
+IsFound names earlier is_last l (Some problem) = IsOnlyProblem names earlier is_last l problem
+
+-- the faults so far, with what is found of the line at a place
+abbrev pub faults_with : List FaultyLine → ℕ → Option LineProblem → List FaultyLine
+faults_with fs place None = fs
+faults_with fs place (Some problem) = fs ++ record { place = place; problem = problem } ∷ []
 
 -- the fault tells the problem, with the line's path and number, if memory serves
 abbrev pub IsProblemReported : LineProblem → LineValue → LineFault → Type 0

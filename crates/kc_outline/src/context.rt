@@ -5,7 +5,7 @@ ghost use Rattle.kc_text.specs.LineValue.{LineValue};
 ghost use Rattle.kc_statement.specs.Keywords.{is_choice_word, is_comment_word, is_config_word, is_opener_word, keyword_of};
 ghost use Rattle.kc_outline.specs.LineFaults.{leaves_open, stays_open};
 ghost use Rattle.kc_outline.specs.Enclosing.{choice_among, innermost};
-ghost use Rattle.kc_outline.specs.ContextAfter.{blocks_after, owner_made, HasRoom, IsContextAfter};
+ghost use Rattle.kc_outline.specs.ContextAfter.{blocks_after, owner_made, HasRoom, IsContextAfter, IsPlaceAfter};
 ghost use Rattle.kc_statement.specs.Statements.{HasForm};
 ghost use Rattle.kc_outline.specs.TreeOf.{defined_in};
 
@@ -307,6 +307,30 @@ impl Context {
         self.stack.pass(word, block)?;
         self.statement = keyword;
         self.owner = self.made_by(word, defined_symbol(statement));
+        self.count(word);
+        Ok(())
+    }
+    /// Goes past a line of this keyword, whatever it says. It may have a problem, so what it makes is not looked at: the
+    /// owner is left as it was.
+    pub(crate) fn pass_over(
+        &mut self,
+        line: &Line<'_>,
+        keyword: Option<Keyword>,
+    ) -> Result<(), AllocError>
+        requires room { HasRoom self.old }
+        requires keyword { keyword ≡ keyword_of line.now }
+        ensures { OnOk result ((earlier : List LineValue) → IsPlaceAfter earlier self.old → IsPlaceAfter (line.now ∷ earlier) self.new) }
+    {
+        let Some(word) = keyword else {
+            self.statement = None;
+            return Ok(());
+        };
+        if word.is_attribute() {
+            return Ok(());
+        }
+        let block = self.block_opened(word, line.run());
+        self.stack.pass(word, block)?;
+        self.statement = keyword;
         self.count(word);
         Ok(())
     }

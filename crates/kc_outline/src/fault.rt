@@ -20,6 +20,14 @@ pub enum LineProblem {
     Unsupported,
 }
 
+/// A line that has a problem.
+#[derive(Clone, Copy, Debug, PartialEq, Eq)]
+pub struct FaultyLine {
+    /// How many lines come before it.
+    pub place: usize,
+    pub problem: LineProblem,
+}
+
 /// Why lines have no outline.
 #[derive(Debug, Drop)]
 pub enum LineFault {

@@ -167,7 +167,7 @@ pub(crate) fn early_problem(
 }
 
 /// Whether a line opens one block more than may be open.
-fn opens_too_deep(context: &Context, line: &Line<'_>, keyword: Option<Keyword>) -> bool
+pub(crate) fn opens_too_deep(context: &Context, line: &Line<'_>, keyword: Option<Keyword>) -> bool
     requires { keyword ≡ keyword_of line.now }
     ensures { result ≡ opens_too_deep context.now.stack line.now }
 {

@@ -6,7 +6,7 @@ ghost use Rattle.kc_text.specs.declared.reading.TheConstants.{MOST_LINES};
 use crate::tree_showing::node_word;
 use bumpalo::Bump;
 use kc_text::{Line, Sources, Vars, logical_lines};
-use kc_tree::{NamedNode, Tree, TreeFault};
+use kc_tree::{NamedNode, Seed, Tree, TreeFault, all_faults};
 use std::alloc::{AllocError, Global};
 use std::test::Fail;
 
@@ -118,4 +118,40 @@ pub(crate) fn fault_of(alloc: Global, text: &str) -> Result<String, Fail> {
 /// The fault of the same lines without the end of the file.
 pub(crate) fn fault_of_cut(alloc: Global, text: &str) -> Result<String, Fail> {
     shown_of_part(alloc, text, Part::Cut, show_nothing)
+}
+
+/// Faults with a comma and a blank between each two.
+fn show_faults(alloc: Global, faults: &[TreeFault]) -> Result<String, AllocError> {
+    let mut out = String::new(alloc);
+    for fault in faults {
+        if !out.is_empty() {
+            out.push_str(", ")?;
+        }
+        out.push_str(show_fault(alloc, fault)?.as_str())?;
+    }
+    Ok(out)
+}
+
+/// All faults of a file K of these sources.
+fn faults_of_sources(alloc: Global, sources: &Sources) -> Result<String, Fail> {
+    let vars = Vars::none(alloc);
+    let arena = Bump::new(alloc);
+    let lines = logical_lines(alloc, &arena, sources, &vars, "K")?;
+    let faults = all_faults(alloc, Seed::fixed(), lines.as_slice())?;
+    Ok(show_faults(alloc, faults.as_slice())?)
+}
+
+/// All faults of a file K of this text.
+pub(crate) fn faults_of(alloc: Global, text: &str) -> Result<String, Fail> {
+    let mut sources = Sources::new(alloc);
+    sources.add("K", text)?;
+    faults_of_sources(alloc, &sources)
+}
+
+/// All faults of a file K, which may source a file b.
+pub(crate) fn faults_of_files(alloc: Global, top: &str, sourced: &str) -> Result<String, Fail> {
+    let mut sources = Sources::new(alloc);
+    sources.add("K", top)?;
+    sources.add("b", sourced)?;
+    faults_of_sources(alloc, &sources)
 }

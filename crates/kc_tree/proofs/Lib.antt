@@ -1,3 +1,4 @@
+pub mod AllFaultLaws
 pub mod ChoiceLines
 pub mod CollectedLaws
 pub mod DependencyLaws
@@ -12,6 +13,7 @@ pub mod OneTree
 pub mod OrderLaws
 pub mod PartsWithin
 pub mod ReachedLaws
+pub mod RefusalLaws
 pub mod SharedListLaws
 pub mod SymbolFaultLaws
 pub mod UsedRowLaws

@@ -1,4 +1,5 @@
 pub mod Accepted
+pub mod AllFaults
 pub mod ChoiceFaults
 pub mod Collected
 pub mod ConditionTable

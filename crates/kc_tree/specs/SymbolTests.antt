@@ -1,4 +1,4 @@
--- Steps: which test finds a problem of a symbol: this project's own.
+-- Which test finds a problem of a symbol, and a walk that looks for any: this project's own.
 use Rattle.std.specs.Prelude.{◌≡◌, ℕ, ◌<◌, Bool, false, ◌||◌, length, slice_get}
 use Rattle.std.specs.Option.{option_map_or}
 use Rattle.kc_statement.specs.declared.id.SymId.{SymId}

@@ -145,7 +145,7 @@ fn problem_of(outline: &Outline, id: ChoiceId, choice: &Choice) -> Option<Choice
 }
 
 /// The problem of the choice of a number, if there is such a choice and it has one.
-fn problem_at(outline: &Outline, number: usize) -> Option<ChoiceProblem>
+pub(crate) fn problem_at(outline: &Outline, number: usize) -> Option<ChoiceProblem>
     requires { number < 2 ^ 32 }
     ensures { result ≡ problem_at outline.now number }
 {

@@ -3,6 +3,7 @@
 #![tactic(auto)]
 
 mod choice_faults;
+mod every_fault;
 mod fault;
 mod link;
 mod node;
@@ -15,6 +16,7 @@ mod tree;
 mod user_value;
 mod uses;
 
+pub use every_fault::all_faults;
 pub use fault::{NamedNode, TreeFault};
 pub use kc_outline::{
     Block, BlockId, BlockKind, Choice, ChoiceDefault, ChoiceId, Comment, CommentId, Definition,

@@ -93,7 +93,11 @@ fn nodes_of(alloc: Global, symbols: usize, numbers: &[u32]) -> Result<Vec<Node>,
 /// The nodes in an order in which each comes after all that it uses.
 ///
 /// It fails where nodes form a loop, with the nodes of one, and where memory is refused.
-fn node_order(alloc: Global, outline: &Outline, used: &SharedRows) -> Result<Vec<Node>, TreeFault>
+pub(crate) fn node_order(
+    alloc: Global,
+    outline: &Outline,
+    used: &SharedRows,
+) -> Result<Vec<Node>, TreeFault>
     requires few { length outline.now.symbols ≤ MOST_SYMBOLS }
     requires graph { IsGraphOf outline.now used.now }
     ensures order { IfOk result (λ order. IsOrder outline.now order.items) }
@@ -112,7 +116,7 @@ fn node_order(alloc: Global, outline: &Outline, used: &SharedRows) -> Result<Vec
 }
 
 /// Whether a line begins a choice.
-fn is_choice(line: &Line<'_>) -> bool
+pub(crate) fn is_choice(line: &Line<'_>) -> bool
     ensures { result ≡ is_choice line.now }
 {
     matches!(read_keyword(line), Some(Keyword::Choice))

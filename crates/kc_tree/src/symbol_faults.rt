@@ -162,7 +162,7 @@ fn is_bad_modules(outline: &Outline, number: usize, symbol: &Symbol) -> bool
 
 /// Whether the symbol of a number has a problem of the kinds that symbols have.
 #[inline(always)]
-fn has_problem(outline: &Outline, problem: SymbolProblem, number: usize) -> bool
+pub(crate) fn has_problem(outline: &Outline, problem: SymbolProblem, number: usize) -> bool
     ensures { result ≡ option_map_or (test_of problem outline.now (record { 0 = number })) (slice_get outline.now.symbols number) false }
 {
     let Some(symbol) = outline.symbols().get(number) else {

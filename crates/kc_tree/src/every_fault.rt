@@ -1,0 +1,228 @@
+//! All faults of logical lines at once.
+
+ghost use Rattle.std.specs.Prelude.{◌≡◌, ◌<◌, ◌≤◌, ◌^◌, ◌++◌, IfOk, OnOk, count_by, filter_map, length, option_map, option_to_list};
+ghost use Rattle.kc_text.specs.declared.reading.TheConstants.{MOST_LINES};
+ghost use Rattle.kc_statement.specs.Keywords.{is_choice};
+ghost use Rattle.kc_statement.specs.declared.limits.TheConstants.{MOST_SYMBOLS};
+ghost use Rattle.kc_tree.specs.AllFaults.{AreFaultsOf, AreFaultsOfTree, AreLoops, AreRefusedForFirst, choice_faults, line_fault_at, outline_faults, symbol_fault_at, symbol_faults};
+ghost use Rattle.kc_tree.specs.ChoiceFaults.{problem_at};
+
+use crate::choice_faults::problem_at;
+use crate::fault::TreeFault;
+use crate::link::{is_choice, node_order};
+use crate::problem::SymbolProblem;
+use crate::symbol_faults::has_problem;
+use crate::uses::used_rows;
+use kc_outline::{FaultyLine, LineFault, Outline, faulty_lines, read_outline};
+use kc_statement::Seed;
+use kc_text::{Line, Text};
+use std::alloc::{AllocError, Global};
+
+/// Adds the fault of a line, with the path and the number of the line.
+fn add_line_fault(
+    alloc: Global,
+    lines: &[Line<'_>],
+    faulty: FaultyLine,
+    faults: &mut Vec<TreeFault>,
+) -> Result<(), AllocError>
+    ensures { OnOk result (faults.new.items ≡ faults.old.items ++ option_to_list (line_fault_at lines.now faulty)) }
+{
+    let Some(line) = lines.get(faulty.place) else {
+        return Ok(());
+    };
+    let path = Text::copy_of(alloc, line.path())?;
+    faults.push(TreeFault::Line {
+        problem: faulty.problem,
+        path,
+        line: line.number(),
+    })?;
+    Ok(())
+}
+
+/// The faults of lines, each with the path and the number of its line.
+fn reported_lines(
+    alloc: Global,
+    lines: &[Line<'_>],
+    places: &[FaultyLine],
+) -> Result<Vec<TreeFault>, AllocError>
+    ensures { IfOk result (λ faults. faults.items ≡ filter_map (line_fault_at lines.now) places.now) }
+{
+    let mut faults = Vec::with_capacity(alloc, places.len())?;
+    for faulty in places {
+        add_line_fault(alloc, lines, *faulty, &mut faults)?;
+    }
+    Ok(faults)
+}
+
+/// Adds the symbol of a number, if it has the problem.
+fn add_symbol_fault(
+    alloc: Global,
+    outline: &Outline,
+    problem: SymbolProblem,
+    number: usize,
+    faults: &mut Vec<TreeFault>,
+) -> Result<(), AllocError>
+    ensures { OnOk result (faults.new.items ≡ faults.old.items ++ option_to_list (symbol_fault_at outline.now problem number)) }
+{
+    if !has_problem(outline, problem, number) {
+        return Ok(());
+    }
+    let name = Text::copy_of(alloc, outline.names().get(number))?;
+    faults.push(TreeFault::Symbol { problem, name })?;
+    Ok(())
+}
+
+/// Adds each symbol that has a problem.
+fn add_symbol_faults(
+    alloc: Global,
+    outline: &Outline,
+    problem: SymbolProblem,
+    faults: &mut Vec<TreeFault>,
+) -> Result<(), AllocError>
+    ensures { OnOk result (faults.new.items ≡ faults.old.items ++ symbol_faults outline.now problem) }
+{
+    let count = outline.symbols().len();
+    for number in 0..count {
+        add_symbol_fault(alloc, outline, problem, number, faults)?;
+    }
+    Ok(())
+}
+
+/// Adds the choice of a number, which this line begins, if it has a problem.
+fn add_choice_fault(
+    alloc: Global,
+    outline: &Outline,
+    number: usize,
+    line: &Line<'_>,
+    faults: &mut Vec<TreeFault>,
+) -> Result<(), AllocError>
+    requires { number < 2 ^ 32 }
+    ensures { OnOk result (faults.new.items ≡ faults.old.items ++ option_to_list (option_map (λ p. TreeFault.Choice p line.now.path line.now.number) (problem_at outline.now number))) }
+{
+    let Some(problem) = problem_at(outline, number) else {
+        return Ok(());
+    };
+    let path = Text::copy_of(alloc, line.path())?;
+    faults.push(TreeFault::Choice {
+        problem,
+        path,
+        line: line.number(),
+    })?;
+    Ok(())
+}
+
+/// Adds each choice that has a problem, in one walk over the lines.
+fn add_choice_faults(
+    alloc: Global,
+    lines: &[Line<'_>],
+    outline: &Outline,
+    faults: &mut Vec<TreeFault>,
+) -> Result<(), AllocError>
+    requires few { length outline.now.choices ≤ 2 ^ 30 }
+    requires choices { length outline.now.choices ≡ count_by is_choice lines.now }
+    ensures { OnOk result (faults.new.items ≡ faults.old.items ++ choice_faults lines.now outline.now) }
+{
+    let mut number = 0;
+    for line in lines {
+        if !is_choice(line) {
+            continue;
+        }
+        add_choice_fault(alloc, outline, number, line, faults)?;
+        number += 1;
+    }
+    Ok(())
+}
+
+/// All faults of symbols and choices, kind by kind.
+fn outline_faults(
+    alloc: Global,
+    lines: &[Line<'_>],
+    outline: &Outline,
+) -> Result<Vec<TreeFault>, AllocError>
+    requires few { length outline.now.choices ≤ 2 ^ 30 }
+    requires choices { length outline.now.choices ≡ count_by is_choice lines.now }
+    ensures { IfOk result (λ faults. faults.items ≡ outline_faults lines.now outline.now) }
+{
+    let mut faults = Vec::new(alloc);
+    add_symbol_faults(alloc, outline, SymbolProblem::NoType, &mut faults)?;
+    add_symbol_faults(alloc, outline, SymbolProblem::TypeConflict, &mut faults)?;
+    add_symbol_faults(alloc, outline, SymbolProblem::SecondPrompt, &mut faults)?;
+    add_symbol_faults(alloc, outline, SymbolProblem::UnfitDefault, &mut faults)?;
+    add_symbol_faults(alloc, outline, SymbolProblem::UnfitSelect, &mut faults)?;
+    add_choice_faults(alloc, lines, outline, &mut faults)?;
+    add_symbol_faults(alloc, outline, SymbolProblem::BadModules, &mut faults)?;
+    Ok(faults)
+}
+
+/// One loop of the nodes, if there is one.
+fn loops(alloc: Global, outline: &Outline) -> Result<Vec<TreeFault>, AllocError>
+    requires few { length outline.now.symbols ≤ MOST_SYMBOLS }
+    requires few_choices { length outline.now.choices ≤ 2 ^ 30 }
+    requires named { length outline.now.names ≡ length outline.now.symbols }
+    ensures { IfOk result (λ faults. AreLoops outline.now faults.items) }
+{
+    let used = used_rows(alloc, outline)?;
+    let fault = match node_order(alloc, outline, &used) {
+        Ok(_) => return Ok(Vec::new(alloc)),
+        Err(TreeFault::NoMemory) => return Err(AllocError),
+        Err(fault) => fault,
+    };
+    let mut faults = Vec::with_capacity(alloc, 1)?;
+    faults.push(fault)?;
+    Ok(faults)
+}
+
+/// All faults of what lines define: of symbols and choices, or a loop where there is none of these.
+fn tree_faults(
+    alloc: Global,
+    lines: &[Line<'_>],
+    outline: &Outline,
+) -> Result<Vec<TreeFault>, AllocError>
+    requires few { length outline.now.symbols ≤ MOST_SYMBOLS }
+    requires few_choices { length outline.now.choices ≤ 2 ^ 30 }
+    requires choices { length outline.now.choices ≡ count_by is_choice lines.now }
+    requires named { length outline.now.names ≡ length outline.now.symbols }
+    ensures { IfOk result (λ faults. AreFaultsOfTree lines.now outline.now faults.items) }
+{
+    let faults = outline_faults(alloc, lines, outline)?;
+    if !faults.is_empty() {
+        return Ok(faults);
+    }
+    loops(alloc, outline)
+}
+
+/// All faults of logical lines (this project's own, after kconfig-language.rst), where `Tree::parse` gives the first of
+/// them: it is the first here, too, and there are none where that gives a tree. Of several loops any may be the one that
+/// either of them gives.
+///
+/// Where lines are at fault, these are all of them, in their order, each with the first problem that it has; a line is
+/// judged by the lines before it as they are, also where those are at fault, and no line is read after one that opens
+/// one block more than may be open. Where no line is at fault, these are the faults of symbols and choices: each symbol
+/// without type (K12), then each with two types (K13), with two prompts in one definition (K14), with a default or a
+/// range that does not fit (K15), with a `select` or an `imply` that does not (K16), each choice at fault with the first
+/// problem that it has (K17), and each symbol with a bad `modules` (K18). A symbol is there once for each kind that it
+/// has. Where there is none of these either, it is one loop (K19), if there is one.
+///
+/// There are no more lines than `logical_lines` gives. The names of symbols are kept under the hash of a seed.
+///
+/// # Errors
+///
+/// `AllocError` where memory was refused.
+pub fn all_faults(
+    alloc: Global,
+    seed: Seed,
+    lines: &[Line<'_>],
+) -> Result<Vec<TreeFault>, AllocError>
+    requires { length lines.now ≤ MOST_LINES }
+    ensures faults { IfOk result (λ faults. AreFaultsOf lines.now faults.items) }
+    ensures first { IfOk result (λ faults. AreRefusedForFirst lines.now faults.items) }
+{
+    match read_outline(alloc, seed, lines) {
+        Ok(outline) => tree_faults(alloc, lines, &outline),
+        Err(LineFault::At { .. }) => {
+            let places = faulty_lines(alloc, seed, lines)?;
+            reported_lines(alloc, lines, places.as_slice())
+        }
+        Err(LineFault::NoMemory) => Err(AllocError),
+    }
+}
