@@ -58,11 +58,11 @@ module _ (a b : Assignment) where
       let here : 0 < length (n ∷ ns) = omega arith in
       (h n (0, here, refl), Agree-from_contains ns (λ m k. h m (Contains-append_right (n ∷ []) ns m k)))
 
-  Agree-left : (xs ys : List Node) → Agree (xs ++ ys) → Agree xs
+  pub Agree-left : (xs ys : List Node) → Agree (xs ++ ys) → Agree xs
   Agree-left [] ys h = tt
   Agree-left (x ∷ xs) ys h = (h.0, Agree-left xs ys h.1)
 
-  Agree-right : (xs ys : List Node) → Agree (xs ++ ys) → Agree ys
+  pub Agree-right : (xs ys : List Node) → Agree (xs ++ ys) → Agree ys
   Agree-right [] ys h = h
   Agree-right (x ∷ xs) ys h = Agree-right xs ys h.1
 
@@ -85,7 +85,7 @@ module _ (a b : Assignment) where
       ap (λ y. cons_option y (filter_map f xs)) (same x (Agree-left (nodes x) (flat_map nodes xs) h))
       ∙ ap (λ ys. cons_option (g x) ys) (filter_map_agrees f g nodes same xs (Agree-right (nodes x) (flat_map nodes xs) h))
 
-  found_agrees : {X Y : Type 0} (p q : X → Bool) (f g : X → Y) (nodes : X → List Node) → ((x : X) → Agree (nodes x) → p x ≡ q x) → ((x : X) → Agree (nodes x) → f x ≡ g x)
+  pub found_agrees : {X Y : Type 0} (p q : X → Bool) (f g : X → Y) (nodes : X → List Node) → ((x : X) → Agree (nodes x) → p x ≡ q x) → ((x : X) → Agree (nodes x) → f x ≡ g x)
       → (xs : List X) → Agree (flat_map nodes xs) → option_map f (find p xs) ≡ option_map g (find q xs)
   found_agrees p q f g nodes test same [] h = refl
   found_agrees p q f g nodes test same (x ∷ xs) h =
@@ -175,7 +175,7 @@ module _ (a b : Assignment) where
         ap (λ v. greatest v (formula_value t a g)) (formula_value_agrees f (Agree-left (formula_nodes t f) (formula_nodes t g) h))
         ∙ ap (λ v. greatest (formula_value t b f) v) (formula_value_agrees g (Agree-right (formula_nodes t f) (formula_nodes t g) h))
 
-    expr_agrees : (e : Expr) → Agree (value_nodes t e) → expr_value t a e ≡ expr_value t b e
+    pub expr_agrees : (e : Expr) → Agree (value_nodes t e) → expr_value t a e ≡ expr_value t b e
     expr_agrees e h = formula_value_agrees e h
 
     pub conditions_agree : (es : List Expr) → Agree (conditions_nodes t es) → conditions_value t a es ≡ conditions_value t b es
@@ -236,7 +236,7 @@ module _ (a b : Assignment) where
     prompt_agrees d h = found_prompt_agrees (of_prompt t d) (prompt_of d) h
 
     -- ---- defaults
-    default_condition_agrees : (d : DefinitionValue) (v : DefaultValue) → Agree (default_nodes t d v) → default_condition t a d v ≡ default_condition t b d v
+    pub default_condition_agrees : (d : DefinitionValue) (v : DefaultValue) → Agree (default_nodes t d v) → default_condition t a d v ≡ default_condition t b d v
     default_condition_agrees d v h = condition_agrees (of_property t d v.condition) (Agree-right (value_nodes t v.value) (condition_nodes t (of_property t d v.condition)) h)
 
     definition_dependency_agrees : (d : DefinitionValue) → Agree (definition_nodes t d) → dependency t a d ≡ dependency t b d
@@ -245,10 +245,10 @@ module _ (a b : Assignment) where
         let ranges = flat_map (range_nodes t d) d.ranges in
         dependency_agrees d (Agree-right ranges (dependency_nodes t d) (Agree-right defaults (ranges ++ dependency_nodes t d) h))
 
-    active_agrees : (d : DefinitionValue) (v : DefaultValue) → Agree (default_nodes t d v) → is_active t a d v ≡ is_active t b d v
+    pub active_agrees : (d : DefinitionValue) (v : DefaultValue) → Agree (default_nodes t d v) → is_active t a d v ≡ is_active t b d v
     active_agrees d v h = ap (λ c. not (is_no c)) (default_condition_agrees d v h)
 
-    default_value_at : (d : DefinitionValue) (v : DefaultValue) → Agree (default_nodes t d v) → Agree (value_nodes t v.value)
+    pub default_value_at : (d : DefinitionValue) (v : DefaultValue) → Agree (default_nodes t d v) → Agree (value_nodes t v.value)
     default_value_at d v h = Agree-left (value_nodes t v.value) (condition_nodes t (of_property t d v.condition)) h
 
     definition_default_agrees : (d : DefinitionValue) → Agree (definition_nodes t d) → definition_default t a d ≡ definition_default t b d
@@ -266,12 +266,12 @@ module _ (a b : Assignment) where
     default_value_agrees x h =
         ap (λ ds. unwrap_or (slice_get ds 0) No) (filter_map_agrees (definition_default t a) (definition_default t b) (definition_nodes t) definition_default_agrees (definitions_of t x) h)
 
-    direct_agrees : (x : SymbolValue) → Agree (flat_map (definition_nodes t) (definitions_of t x)) → direct t a x ≡ direct t b x
+    pub direct_agrees : (x : SymbolValue) → Agree (flat_map (definition_nodes t) (definitions_of t x)) → direct t a x ≡ direct t b x
     direct_agrees x h =
         ap greatest_of (map_agrees (dependency t a) (dependency t b) (definition_nodes t) definition_dependency_agrees (definitions_of t x) h)
 
     -- ---- select and imply
-    reverse_agrees : (r : Reverse) → Agree (reverse_nodes t r) → reverse_value t a r ≡ reverse_value t b r
+    pub reverse_agrees : (r : Reverse) → Agree (reverse_nodes t r) → reverse_value t a r ≡ reverse_value t b r
     reverse_agrees r h =
         let by = symbol_tri_agrees r.by (Agree-left (symbol_nodes t r.by) (condition_nodes t (of_reverse t r)) h) in
         let condition = condition_agrees (of_reverse t r) (Agree-right (symbol_nodes t r.by) (condition_nodes t (of_reverse t r)) h) in
@@ -290,7 +290,7 @@ module _ (a b : Assignment) where
     has_modules_agrees x h = has_modules_if (same_type (kind_of x) Tristate) h
 
     -- ---- texts
-    lone_text_agrees : (e : Formula) → Agree (formula_nodes t e) → value_text t a e ≡ value_text t b e
+    pub lone_text_agrees : (e : Formula) → Agree (formula_nodes t e) → value_text t a e ≡ value_text t b e
     lone_text_agrees (atom x) h = text_agrees x h
     lone_text_agrees (bare x) h = refl
     lone_text_agrees (compare c x y) h = refl
@@ -311,12 +311,12 @@ module _ (a b : Assignment) where
         ap (λ ws. slice_get ws 0) (filter_map_agrees (definition_text t a) (definition_text t b) (definition_nodes t) definition_text_agrees (definitions_of t x) h)
 
     -- ---- ranges
-    range_active_agrees : (d : DefinitionValue) (r : Range) → Agree (range_nodes t d r) → is_range_active t a d r ≡ is_range_active t b d r
+    pub range_active_agrees : (d : DefinitionValue) (r : Range) → Agree (range_nodes t d r) → is_range_active t a d r ≡ is_range_active t b d r
     range_active_agrees d r h =
         let own = condition_nodes t (of_property t d r.condition) in
         ap (λ c. not (is_no c)) (condition_agrees (of_property t d r.condition) (Agree-right (term_nodes t r.high) own (Agree-right (term_nodes t r.low) (term_nodes t r.high ++ own) h)))
 
-    bounds_agree : (k : SymbolType) (d : DefinitionValue) (r : Range) → Agree (range_nodes t d r) → bounds_in t a k r ≡ bounds_in t b k r
+    pub bounds_agree : (k : SymbolType) (d : DefinitionValue) (r : Range) → Agree (range_nodes t d r) → bounds_in t a k r ≡ bounds_in t b k r
     bounds_agree k d r h =
         let own = condition_nodes t (of_property t d r.condition) in
         let low = text_agrees r.low (Agree-left (term_nodes t r.low) (term_nodes t r.high ++ own) h) in
@@ -352,7 +352,7 @@ module _ (a b : Assignment) where
     found_selection_agrees c None h = refl
     found_selection_agrees c (Some x) h = ap as_member h.0
 
-    selected_agrees : (c : ChoiceId) → Agree (selection_nodes t c) → selected_in t a c ≡ selected_in t b c
+    pub selected_agrees : (c : ChoiceId) → Agree (selection_nodes t c) → selected_in t a c ≡ selected_in t b c
     selected_agrees c h = found_selection_agrees c (slice_get t.choices c.0) h
 
     found_visible_agrees : (s : SymId) (o : Option SymbolValue) → Agree (option_map_or (λ x. Vis s ∷ []) o [])

@@ -12,6 +12,7 @@ pub mod EnoughLaws
 pub mod Examples
 pub mod ExprLemmas
 pub mod FactorLaws
+pub mod FactorLists
 pub mod FillSteps
 pub mod FirstLemmas
 pub mod FittingLaws
@@ -29,6 +30,9 @@ pub mod OrderSteps
 pub mod PartLemmas
 pub mod PathLemmas
 pub mod ReadNodes
+pub mod ReasonAgreement
+pub mod ReasonLaws
+pub mod ReasonParts
 pub mod ReplayLaws
 pub mod SameLaws
 pub mod SlotLemmas

@@ -1,4 +1,4 @@
--- Steps: which numbers the numerals of a type spell: this project's own.
+-- Which numbers the numerals of a type spell: this project's own.
 use Rattle.std.specs.Prelude.{◌<◌, ◌^◌, Option, Some, None, ℤ, pos, negsuc}
 use Rattle.kc_statement.specs.declared.symbol_type.SymbolType.{SymbolType}
 use Rattle.kc_statement.specs.declared.symbol_type.SymbolType.TheVariants as kind

@@ -9,6 +9,7 @@ pub mod Defaults
 pub mod Dirty
 pub mod DropWalk
 pub mod ExprValue
+pub mod Factors
 pub mod FillLaws
 pub mod FillWalk
 pub mod Fresh
@@ -17,6 +18,7 @@ pub mod KeptLaws
 pub mod KnownConditions
 pub mod NodeValues
 pub mod Numerals
+pub mod Reasons
 pub mod Replay
 pub mod Rule
 pub mod Solution

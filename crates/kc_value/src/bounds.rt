@@ -34,8 +34,12 @@ pub(crate) fn is_inside(bounds: Option<Bounds>, number: i128) -> bool
     }
 }
 
-/// A bound as it is spelt: decimal digits for an int, `0x` and lower-case digits for a hex.
-fn spelled(alloc: Global, kind: SymbolType, bound: i128) -> Result<String, AllocError>
+/// A bound as it is spelt: decimal digits for an int, `0x` and lower-case digits for a hex (this project's own).
+///
+/// # Errors
+///
+/// The error comes where memory is refused.
+pub fn spelled(alloc: Global, kind: SymbolType, bound: i128) -> Result<String, AllocError>
     requires { IsSmall kind bound }
     ensures { IfOk result (λ text. string_bytes text ≡ spelled kind bound) }
 {

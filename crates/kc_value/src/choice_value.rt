@@ -142,7 +142,7 @@ pub(crate) fn selection_value(
 }
 
 /// The member that the selection of a choice has in a list by number.
-fn selected(tree: &Tree, choice: ChoiceId, env: &NodeValues) -> Option<SymId>
+pub(crate) fn selected(tree: &Tree, choice: ChoiceId, env: &NodeValues) -> Option<SymId>
     ensures { result ≡ selected_in tree.now (assignment_of tree.now env.now) choice }
 {
     tree.choices().get(choice.0 as usize)?;

@@ -118,7 +118,7 @@ fn choice_at(tree: &Tree, id: ChoiceId) -> Option<&Choice>
 }
 
 /// A definition by number.
-fn definition_at(tree: &Tree, number: usize) -> Option<&Definition>
+pub(crate) fn definition_at(tree: &Tree, number: usize) -> Option<&Definition>
     ensures { option_copied result ≡ slice_get tree.now.definitions number }
 {
     tree.definitions().get(number)

@@ -11,6 +11,7 @@ mod dropping;
 mod edits;
 mod evaluation;
 mod expr_value;
+mod factors;
 mod filling;
 mod filling_all;
 mod fresh;
@@ -20,6 +21,9 @@ mod known_conditions;
 mod marks;
 mod node_values;
 mod numeral;
+mod places;
+mod reason;
+mod reason_branches;
 mod resolver;
 mod shared_conditions;
 mod slots;
@@ -32,14 +36,21 @@ mod value;
 mod without;
 
 pub use assignable_values::{assignable, assignable_among};
+pub use bounds::spelled;
 pub use changed::changed_value;
 pub use conditions::{comment_condition, menu_condition};
 pub use evaluation::eval;
 pub use expr_value::tri;
+pub use factors::{
+    Factor, FactorPart, Origin, choice_factors, comment_factors, default_factors,
+    dependency_factors, menu_factors, prompt_factors, range_factors, reverse_factors,
+};
 pub use fresh::{Fresh, solve};
 pub use gathering::all_values;
 pub use kept_values::{KeptValues, Meter};
 pub use node_values::NodeValues;
+pub use places::{ActiveRange, DefaultPlace, RangePlace, active_range, reverse_value};
+pub use reason::{Reason, reason_of, reason_over};
 pub use resolver::Resolver;
 pub use shared_conditions::SharedConditions;
 pub use user::User;

@@ -44,7 +44,7 @@ fn has_modules(tree: &Tree, symbol: &Symbol, env: &NodeValues) -> bool
 }
 
 /// A value as a symbol that takes m, or doesn't, can have it.
-fn in_type(has_modules: bool, value: Tri) -> Tri
+pub(crate) fn in_type(has_modules: bool, value: Tri) -> Tri
     ensures { result ≡ in_type has_modules value }
 {
     if has_modules {
@@ -98,7 +98,7 @@ fn default_condition_tri(tree: &Tree, default: &DefaultValue, depends: Tri, env:
 }
 
 /// Whether the condition of a default is not n.
-fn is_active(tree: &Tree, default: &DefaultValue, depends: Tri, env: &NodeValues) -> bool
+pub(crate) fn is_active(tree: &Tree, default: &DefaultValue, depends: Tri, env: &NodeValues) -> bool
     ensures { result
         ≡ not (is_no (least (own_condition tree.now (assignment_of tree.now env.now) default.now.condition) depends)) }
 {
@@ -203,7 +203,12 @@ fn definitions_of(
 }
 
 /// What a `select` or `imply` gives: the least of the value of its symbol and its condition.
-fn reverse_tri(tree: &Tree, reverse: &Reverse, known: KnownConditions<'_>, env: &NodeValues) -> Tri
+pub(crate) fn reverse_tri(
+    tree: &Tree,
+    reverse: &Reverse,
+    known: KnownConditions<'_>,
+    env: &NodeValues,
+) -> Tri
     requires known { AreRight tree.now env.now known.depends.now known.visible.now known.own.now }
     ensures { result ≡ reverse_value tree.now (assignment_of tree.now env.now) reverse.now }
 {
@@ -237,7 +242,7 @@ fn reverses_tri(
 
 /// What the user chose, as far as the visibility allows: nothing for an invisible symbol, and nothing for a text, which
 /// no bool or tristate takes.
-fn user_tri(visibility: Tri, user: Option<&UserVal>) -> Option<Tri>
+pub(crate) fn user_tri(visibility: Tri, user: Option<&UserVal>) -> Option<Tri>
     ensures { result ≡ user_part visibility (option_copied user.entry) }
 {
     match (visibility, user) {

@@ -54,7 +54,7 @@ fn numbered_text<'a>(
 }
 
 /// The text of the first active default of a symbol.
-fn default_text<'a>(
+pub(crate) fn default_text<'a>(
     tree: &'a Tree,
     symbol: &Symbol,
     known: KnownConditions<'_>,
@@ -72,7 +72,7 @@ fn default_text<'a>(
 }
 
 /// Whether the condition of a range in a definition with these dependencies is not n.
-fn is_range_active(tree: &Tree, range: &Range, depends: Tri, env: &NodeValues) -> bool
+pub(crate) fn is_range_active(tree: &Tree, range: &Range, depends: Tri, env: &NodeValues) -> bool
     ensures { result
         ≡ not (is_no (least (own_condition tree.now (assignment_of tree.now env.now) range.now.condition) depends)) }
 {
@@ -99,7 +99,7 @@ fn first_active_range<'a>(
 }
 
 /// The bounds of a range, by the type of its symbol.
-fn bounds_in(tree: &Tree, kind: SymbolType, range: &Range, env: &NodeValues) -> Bounds
+pub(crate) fn bounds_in(tree: &Tree, kind: SymbolType, range: &Range, env: &NodeValues) -> Bounds
     ensures bounds { result ≡ bounds_in tree.now (assignment_of tree.now env.now) kind range.now }
     ensures small { AreSmall kind (Some result) }
 {
@@ -151,7 +151,7 @@ fn bounds_of(
 }
 
 /// What the user gave, where the symbol is visible and the value inside the bounds.
-fn user_text(
+pub(crate) fn user_text(
     kind: SymbolType,
     bounds: Option<Bounds>,
     visibility: Tri,

@@ -1,0 +1,83 @@
+-- The factors of conditions, each with its value and where it is: kconfig-language.rst, "Menu dependencies". Which they
+-- are is in kc_tree's ConditionTable.
+use Rattle.std.specs.Prelude.{ℕ, List, [], Option, option_and_then, option_map, map, slice_get}
+use Rattle.std.specs.Option.{option_map_or}
+use Rattle.kc_statement.specs.declared.expr.Expr.{Expr}
+use Rattle.kc_statement.specs.declared.tri.Tri.{Tri}
+use Rattle.kc_statement.specs.declared.tri.Tri.TheVariants.{Yes}
+use Rattle.kc_outline.specs.declared.id.BlockId.{BlockId}
+use Rattle.kc_outline.specs.declared.id.ChoiceId.{ChoiceId}
+use Rattle.kc_outline.specs.declared.id.CommentId.{CommentId}
+use Rattle.kc_outline.specs.TreeValue.{TreeValue, choice_of, prompt_of, choice_prompt_of}
+use Rattle.kc_tree.specs.ConditionTable.{Condition, mode_of, also, of_prompt, of_property, of_menu, of_comment, of_choice_prompt, Factor as Part, expression, mode, missing, factors}
+use Rattle.kc_value.specs.declared.factors.Factor.{Factor}
+use Rattle.kc_value.specs.declared.factors.FactorPart.{FactorPart}
+use Rattle.kc_value.specs.declared.factors.FactorPart.TheVariants.{Expression, Mode as ModeOf, Missing as NoDefinition}
+use Rattle.kc_value.specs.declared.factors.Lines.{Lines}
+use Rattle.kc_value.specs.declared.factors.Lines.TheVariants as lines
+use Rattle.kc_value.specs.declared.factors.Origin.{Origin}
+use Rattle.kc_value.specs.declared.factors.Origin.TheVariants as origin
+use Rattle.kc_value.specs.declared.places.DefaultPlace.{DefaultPlace}
+use Rattle.kc_value.specs.declared.places.RangePlace.{RangePlace}
+use Rattle.kc_value.specs.Assignment.{Assignment}
+use Rattle.kc_value.specs.Conditions.{condition_value, factor_value}
+
+-- ---- parts and values
+abbrev pub part_of : FactorPart → Part
+part_of (Expression e) = expression e.now
+part_of (ModeOf c) = mode c
+part_of NoDefinition = missing
+
+-- a part with a value
+pub record Judged : Type 0 where
+  pub part : Part
+  pub value : Tri
+
+abbrev pub judged : Factor → Judged
+judged f = record { part = part_of f.part; value = f.value }
+
+-- what an assignment gives a part, and each factor of a condition, in the order of the table
+abbrev pub judged_part : TreeValue → Assignment → Part → Judged
+judged_part t a x = record { part = x; value = factor_value t a x }
+
+abbrev pub judged_expression : TreeValue → Assignment → Expr → Judged
+judged_expression t a e = judged_part t a (expression e)
+
+abbrev pub judged_factors : TreeValue → Assignment → Condition → List Judged
+judged_factors t a c = map (judged_part t a) (factors t c)
+
+-- none where there is no condition
+abbrev pub judged_of : TreeValue → Assignment → Option Condition → List Judged
+judged_of t a o = option_map_or (judged_factors t a) o []
+
+-- ---- where a factor is
+abbrev pub origin_in : Lines → ℕ → Origin
+origin_in lines.Own i = origin.Own i
+origin_in (lines.Depends b) i = origin.Block b i
+origin_in (lines.Visible b) i = origin.Visible b i
+
+-- ---- the conditions of the parts of a tree, by number: none where the tree has no such part
+abbrev pub worth_of : TreeValue → Assignment → Option Condition → Tri
+worth_of t a o = option_map_or (condition_value t a) o Yes
+
+-- the prompt of a definition, and for a member of a choice the mode of the choice
+abbrev pub prompt_condition : TreeValue → ℕ → Option Condition
+prompt_condition t n = option_and_then
+    (λ d. option_map (λ p. also (of_prompt t d p) (mode_of (choice_of t d.symbol))) (prompt_of d)) (slice_get t.definitions n)
+
+abbrev pub default_condition_at : TreeValue → DefaultPlace → Option Condition
+default_condition_at t p = option_and_then
+    (λ d. option_map (λ v. of_property t d v.condition) (slice_get d.defaults p.default)) (slice_get t.definitions p.definition)
+
+abbrev pub range_condition_at : TreeValue → RangePlace → Option Condition
+range_condition_at t p = option_and_then
+    (λ d. option_map (λ r. of_property t d r.condition) (slice_get d.ranges p.range)) (slice_get t.definitions p.definition)
+
+abbrev pub menu_condition_at : TreeValue → BlockId → Option Condition
+menu_condition_at t b = option_map (of_menu t) (slice_get t.blocks b.0)
+
+abbrev pub comment_condition_at : TreeValue → CommentId → Option Condition
+comment_condition_at t c = option_map (of_comment t) (slice_get t.comments c.0)
+
+abbrev pub choice_condition_at : TreeValue → ChoiceId → Option Condition
+choice_condition_at t c = option_and_then (λ x. option_map (of_choice_prompt t x) (choice_prompt_of x)) (slice_get t.choices c.0)
