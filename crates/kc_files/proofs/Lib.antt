@@ -9,6 +9,8 @@ pub mod DefaultKept
 pub mod DefaultLoaded
 pub mod DefaultNeeded
 pub mod DraftLaws
+pub mod EffectLaws
+pub mod EffectSearch
 pub mod EscapeLaws
 pub mod FormSteps
 pub mod LineCuts
@@ -18,6 +20,7 @@ pub mod LineTexts
 pub mod LoadingLaws
 pub mod MarkLaws
 pub mod MenuPieces
+pub mod NumberedLaws
 pub mod OneReadingLaws
 pub mod PassLaws
 pub mod ReadingExamples

@@ -19,7 +19,7 @@ any_append f (y ∷ ys) x = ap (λ b. f y || b) (any_append f ys x) ∙ swapped 
     swapped true false c = refl
     swapped false b c = refl
 
-marked_or : (marks : List Bool) (s k : ℕ) (b : Bool) → s < length marks → get_or marks k false ≡ b → get_or (slice_set marks s true) k false ≡ ((s == k) || b)
+pub marked_or : (marks : List Bool) (s k : ℕ) (b : Bool) → s < length marks → get_or marks k false ≡ b → get_or (slice_set marks s true) k false ≡ ((s == k) || b)
 marked_or marks s k b inside e =
     ⊎_elim
     (λ same. ap (λ n. get_or (slice_set marks s true) n false) same ∙ get_or-set_same marks s true false inside ∙ sym (ap (λ x. x || b) (eq-eqb s k (sym same))))

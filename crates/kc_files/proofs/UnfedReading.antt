@@ -89,7 +89,10 @@ module _ (t : TreeValue) (prefix : List ℕ) where
   readings_unfed (l ∷ ls) (Warned w ∷ rs) h k = readings_unfed ls rs h.1 k.1
   readings_unfed (l ∷ ls) (Nothing ∷ rs) h k = readings_unfed ls rs h.1 k.1
 
+  pub text_unfed : (text : List ℕ) (rs : List Reading) → AllZip (HasReading t prefix) (lines_in text) rs → All IsUnfed (filter_map usable rs)
+  text_unfed text rs read = readings_unfed (lines_in text) rs (plain_lines text) read
+
   pub config_unfed : (text : List ℕ) (assigns : List Assign) (warnings : List Warning) → IsConfigReading t prefix text assigns warnings → All IsUnfed assigns
   config_unfed text assigns warnings h =
       All-same IsUnfed assigns (counting (filter_map usable h.readings)) h.counted
-      (All-counting IsUnfed (filter_map usable h.readings) (readings_unfed (lines_in text) h.readings (plain_lines text) h.read))
+      (All-counting IsUnfed (filter_map usable h.readings) (text_unfed text h.readings h.read))

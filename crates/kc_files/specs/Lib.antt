@@ -19,3 +19,5 @@ pub mod OneReading
 pub mod Loading
 pub mod LineSteps
 pub mod LoadingSteps
+pub mod NumberedLines
+pub mod Effects
