@@ -20,8 +20,8 @@ readonly SECONDS_OF_A_RUN=20
 readonly ANSWERED=0
 readonly UNPREPARED=3
 readonly REFUSED=4
-readonly WORDS=(add from_pairs logical_lines parse empty node read_config new_session open set load merge list choices
-    config header defconfig new run set_after_list set_after_nodes)
+readonly WORDS=(add from_pairs logical_lines parse empty node read_config read_config_lines new_session open set load merge
+    list choices config header defconfig new run fill lines_without_effect merged set_after_list set_after_nodes)
 
 root=$(cd "$(dirname "${BASH_SOURCE[0]}")/.." && pwd)
 readonly root

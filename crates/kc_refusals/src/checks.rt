@@ -20,7 +20,7 @@ enum Check {
 }
 
 /// All checks by their words, in the order of the layers that the calls belong to.
-const CHECKS: [(&str, Check); 21] = [
+const CHECKS: [(&str, Check); 25] = [
     ("add", Check::Texts(&ADDITIONS)),
     ("from_pairs", Check::Texts(&PAIR_READINGS)),
     ("logical_lines", Check::Texts(&LINE_READINGS)),
@@ -28,6 +28,7 @@ const CHECKS: [(&str, Check); 21] = [
     ("empty", Check::Tree(TreeCall::Empty)),
     ("node", Check::Tree(TreeCall::Node)),
     ("read_config", Check::Tree(TreeCall::ReadConfig)),
+    ("read_config_lines", Check::Tree(TreeCall::ReadConfigLines)),
     ("new_session", Check::Tree(TreeCall::NewSession)),
     ("open", Check::Texts(&OPENINGS)),
     ("set", Check::Session(SessionCall::Apply(Word::Set))),
@@ -43,6 +44,12 @@ const CHECKS: [(&str, Check); 21] = [
     ),
     ("new", Check::Session(SessionCall::Apply(Word::New))),
     ("run", Check::Session(SessionCall::Run)),
+    ("fill", Check::Session(SessionCall::Fill)),
+    (
+        "lines_without_effect",
+        Check::Session(SessionCall::LinesWithoutEffect),
+    ),
+    ("merged", Check::Session(SessionCall::Merged)),
     ("set_after_list", Check::Session(SessionCall::SetAfterList)),
     (
         "set_after_nodes",

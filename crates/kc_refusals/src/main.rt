@@ -12,6 +12,7 @@ mod checks;
 mod counting;
 mod finding;
 mod opening;
+mod reporting;
 mod sessions;
 mod showing;
 mod streams;

@@ -3,6 +3,7 @@
 use crate::asking::want_nodes;
 use crate::finding::{Call, Stop, Time, Wrong, made, want};
 use crate::opening::open_top;
+use crate::reporting::{check_effects, check_fill, check_merged};
 use crate::showing::user_text;
 use crate::streams::check_run;
 use crate::text_calls::Texts;
@@ -132,6 +133,12 @@ pub(crate) enum SessionCall {
     Apply(Word),
     /// `run`.
     Run,
+    /// `fill`.
+    Fill,
+    /// `lines_without_effect`.
+    LinesWithoutEffect,
+    /// `merged`.
+    Merged,
     /// `set S x` after `list`.
     SetAfterList,
     /// The same, with calls of `node` for S between the two.
@@ -142,20 +149,24 @@ pub(crate) enum SessionCall {
 pub(crate) fn check_session(texts: &Texts, call: SessionCall) -> Result<Call, Stop> {
     let (top, config) = match call {
         SessionCall::SetAfterList | SessionCall::SetAfterNodes => ("string", ""),
-        SessionCall::Apply(_) | SessionCall::Run => ("Kconfig", CONFIG),
+        _ => ("Kconfig", CONFIG),
     };
     match open_top(texts, top, config) {
-        Ok((mut session, _)) => check_opened(texts.alloc, &mut session, call),
+        Ok((mut session, _)) => check_opened(texts, &mut session, call),
         Err(OpenFault::NoMemory) => Err(Stop::Unprepared),
         Err(_) => Err(Stop::Wrong(Wrong::Fault)),
     }
 }
 
 /// Checks a call on a session that was opened for it.
-fn check_opened(alloc: Global, session: &mut Session, call: SessionCall) -> Result<Call, Stop> {
+fn check_opened(texts: &Texts, session: &mut Session, call: SessionCall) -> Result<Call, Stop> {
+    let alloc = texts.alloc;
     match call {
         SessionCall::Apply(word) => check_command(alloc, session, word),
         SessionCall::Run => check_run(alloc, session),
+        SessionCall::Fill => check_fill(alloc, session),
+        SessionCall::LinesWithoutEffect => check_effects(texts, session),
+        SessionCall::Merged => check_merged(alloc, session),
         SessionCall::SetAfterList => check_set_after_list(session, false),
         SessionCall::SetAfterNodes => check_set_after_list(session, true),
     }

@@ -1,6 +1,6 @@
 //! Lines, readings and user values as short texts, which are compared with those of `texts.rt`.
 
-use kc_files::{Assign, Warning};
+use kc_files::{Assign, ConfigLine, LineSays, Warning};
 use kc_text::{Line, LineKind, Operator, Token};
 use kc_tree::{Node, Tree, UserVal};
 use kc_value::User;
@@ -75,6 +75,29 @@ fn push_value(
         UserVal::Text(text) => text.as_str(),
     };
     out.push_str(format!(in alloc; "{name}={value}\n")?.as_str())
+}
+
+/// What the lines of a `.config` say, as `texts::CONFIG_LINES` has it.
+pub(crate) fn said_text(
+    alloc: Global,
+    tree: &Tree,
+    lines: &[ConfigLine],
+) -> Result<String, AllocError> {
+    let mut out = String::new(alloc);
+    for line in lines {
+        let number = line.number;
+        out.push_str(format!(in alloc; "{number} ")?.as_str())?;
+        match &line.says {
+            LineSays::Usable(assign) => {
+                push_value(alloc, &mut out, tree.name(assign.symbol), &assign.value)?;
+            }
+            LineSays::Warned(kind) => {
+                let warning = kind.number();
+                out.push_str(format!(in alloc; "{warning}\n")?.as_str())?;
+            }
+        }
+    }
+    Ok(out)
 }
 
 /// The values that were read of a `.config`, as `texts::ASSIGNS` has them.

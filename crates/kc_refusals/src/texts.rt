@@ -117,6 +117,9 @@ pub(crate) const ASSIGNS: &str = "S=u\nLOG=n\nFAST=y\n";
 /// Its warnings: the line and the number of each.
 pub(crate) const WARNINGS: &str = "2:1\n3:5\n";
 
+/// What its lines say, by their numbers: a value, or the number of a warning.
+pub(crate) const CONFIG_LINES: &str = "1 S=t\n2 1\n3 S=u\n4 LOG=n\n5 FAST=y\n";
+
 /// The user values that it gives: of each symbol, and the chosen member of each choice.
 pub(crate) const USER: &str = "S=u\nLOG=n\n0=FAST\n";
 
@@ -215,6 +218,9 @@ pub(crate) const USER_LOADED: &str = "NET=y\nS=w\n";
 
 /// The user values after a merge of that body.
 pub(crate) const USER_MERGED: &str = "NET=y\nS=w\nLOG=n\n0=FAST\n";
+
+/// The user values after a merge of that body, and of the `.config` above after it.
+pub(crate) const USER_MERGED_BACK: &str = "NET=y\nS=u\nLOG=n\n0=FAST\n";
 
 /// The user values after `set S x`.
 pub(crate) const USER_SET: &str = "S=x\nLOG=n\n0=FAST\n";

@@ -4,6 +4,7 @@ ghost use Rattle.kc_value.specs.UserValues.{IsUserFor};
 use crate::asking::want_nodes;
 use crate::finding::{Call, Stop, Wrong, made, own, want};
 use crate::opening::want_unasked;
+use crate::reporting::check_lines;
 use crate::showing::{assigns_text, user_text, warnings_text};
 use crate::text_calls::Texts;
 use crate::texts::{
@@ -88,6 +89,8 @@ pub(crate) enum TreeCall {
     Node,
     /// `read_config`.
     ReadConfig,
+    /// `read_config_lines`.
+    ReadConfigLines,
     /// `Session::new`.
     NewSession,
 }
@@ -101,6 +104,7 @@ pub(crate) fn check_tree(texts: &Texts, call: TreeCall) -> Result<Call, Stop> {
             TreeCall::Empty => check_user(texts, &tree),
             TreeCall::Node => check_nodes(texts, &tree),
             TreeCall::ReadConfig => check_reading(texts, &tree),
+            TreeCall::ReadConfigLines => check_lines(texts, &tree),
             TreeCall::NewSession => check_new(texts, tree),
         },
         Err(TreeFault::NoMemory) => Err(Stop::Unprepared),

@@ -68,6 +68,9 @@ choice_in : (t : TreeValue) → AreNumbered t → (c : ChoiceId) → c.0 < lengt
 choice_in t is c inside = in_numbered t is (2 * length t.symbols) (2 * length t.choices) (Sel c) inside (omega arith) (omega (arith, inside))
 
 -- ---- all nodes
+pub all_here : (t : TreeValue) → AreNumbered t → (n : Node) → IsNodeOf t n → Contains (all_nodes t) n
+all_here t is n inside = in_numbered t is 0 (node_count t) n inside (omega arith) (omega (arith, is.below n inside))
+
 pub all_kept : (t s : TreeValue) (kept : List (Option Value)) → AreNumbered t → s ≡ t → ((n : Node) → IsNodeOf s n → IsKept s kept n) → (n : Node) → Contains (all_nodes t) n
     → IsKept s kept n
 all_kept t s kept is same all n c = all n (subst (λ x. IsNodeOf x n) (sym same) (from_numbered t is 0 (node_count t) n (omega arith) c))
@@ -106,7 +109,7 @@ all_solved old new t kept is_t is_kept f all sound n inside =
     let within : IsNodeOf new.tree n = subst (λ x. IsNodeOf x n) is_t inside in
     let before : IsNodeOf old.tree n = subst (λ x. IsNodeOf x n) f.tree within in
     let numbers : AreNumbered old.tree = subst AreNumbered f.tree sound.laws.numbered in
-    let here : Contains (all_nodes old.tree) n = in_numbered old.tree numbers 0 (node_count old.tree) n before (omega arith) (omega (arith, numbers.below n before)) in
+    let here : Contains (all_nodes old.tree) n = all_here old.tree numbers n before in
     (λ i. assignment_of (is_t i) (is_kept i) n)
     ∙ sound.laws.right new.user new.kept.values sound.kept n within (all n here)
     ∙ (λ i. solution (sym is_t i) (f.user i) n)
@@ -136,3 +139,10 @@ shown_kept s old new inside f own sound n h = go h.0 h.1 h.2
     go zero within is = subst (λ x. IsKept new.tree new.kept.values x) is (sound.laws.visibility_kept new.kept.values s sound.kept.closed (subst (λ x. s.0 < length x.symbols) (sym f.tree) inside) value)
     go (suc zero) within is = subst (λ x. IsKept new.tree new.kept.values x) is value
     go (suc (suc k)) within is = absurd (omega (arith, within))
+
+-- ---- a session that keeps all nodes
+pub session_kept : (old new : ResolverState) → AreNumbered old.tree → Asked (all_nodes old.tree) old new → AreAllKept (all_nodes old.tree) new → (n : Node) → IsNodeOf new.tree n → IsKept new.tree new.kept.values n
+session_kept old new is f all n inside = all n (all_here old.tree is n (subst (λ x. IsNodeOf x n) f.tree inside))
+
+pub kept_solved : (r : ResolverState) → IsResolving r → ((n : Node) → IsNodeOf r.tree n → IsKept r.tree r.kept.values n) → AreSolved r.tree r.user r.kept.values
+kept_solved r sound all n inside = sound.laws.right r.user r.kept.values sound.kept n inside (all n inside)

@@ -13,6 +13,7 @@ pub mod KeepingRequests
 pub mod LineLists
 pub mod Lines
 pub mod MergeLaws
+pub mod MergedLaws
 mod OneOpening
 pub mod OpenLaws
 pub mod PlainLines

@@ -5,7 +5,7 @@ use Rattle.std.specs.Option.{option_map_or}
 use Rattle.kc_outline.specs.TreeValue.{TreeValue, symbol_named}
 use Rattle.kc_tree.specs.declared.node.Node.{Node}
 use Rattle.kc_tree.specs.declared.node.Node.TheVariants.{Vis, Val}
-use Rattle.kc_tree.specs.Nodes.{all_nodes, node_at}
+use Rattle.kc_tree.specs.Nodes.{all_nodes, node_at, IsNodeOf}
 use Rattle.kc_value.specs.Dirty.{Edits}
 use Rattle.kc_value.specs.Kept.{AreKept, Fills, IsKept}
 use Rattle.kc_session.specs.declared.command.Command.{Command}
@@ -17,6 +17,10 @@ use Rattle.kc_session.specs.Session.{SessionState}
 -- ---- what is kept is right: each value is the solution's, and what a kept node is computed from is kept
 abbrev pub KeepsRight : SessionState → Type 0
 KeepsRight s = AreKept s.session.tree s.session.user s.kept.values
+
+-- the value of each node is kept
+abbrev pub KeepsAll : SessionState → Type 0
+KeepsAll s = (n : Node) → IsNodeOf s.session.tree n → IsKept s.session.tree s.kept.values n
 
 -- ---- which nodes a query asks
 abbrev pub symbol_nodes : TreeValue → List Node

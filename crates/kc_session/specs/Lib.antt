@@ -13,6 +13,7 @@ pub mod Output
 pub mod Keeping
 pub mod KeptResolver
 pub mod KeptResolverInside
+pub mod MergedBodies
 pub mod Merging
 pub mod NextCommand
 pub mod NextLine

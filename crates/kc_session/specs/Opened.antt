@@ -104,3 +104,38 @@ pub record IsOnlyOpenFault (files vars : List File) (top prefix config : List �
 abbrev pub IsFirstOpenFault : List File → List File → List ℕ → List ℕ → List ℕ → OpenFault → Type 0
 IsFirstOpenFault files vars top prefix config NoMemory = Unit {0}
 IsFirstOpenFault files vars top prefix config fault = IsOnlyOpenFault files vars top prefix config fault
+
+-- ---- the same of logical lines that were read before
+-- The lines have a tree: that of the session. Its user values are those of the `.config`, which is not too long.
+pub record IsOpenedFrom (lines : List LineValue) (prefix config : List ℕ) (s : SessionValue) : Type 0 where
+  pub tree : IsTreeOf lines s.tree
+  pub session : s ≡ record { tree = s.tree; user = user_of_config s.tree prefix config; prefix = prefix }
+  pub fits : fits_body config ≡ true
+
+-- the lines have a tree, and the `.config` is too long
+pub record IsLongFor (lines : List LineValue) (config : List ℕ) : Type 0 where
+  pub tree : TreeValue
+  pub tree_is : IsTreeOf lines tree
+  pub is_long : fits_body config ≡ false
+
+-- the first fault of the lines, or else that the `.config` is too long; out of memory says nothing
+abbrev pub IsFaultFrom : List LineValue → List ℕ → OpenFault → Type 0
+IsFaultFrom lines config (Text fault) = ⊥
+IsFaultFrom lines config (Tree fault) = IsFaultOf lines fault × IsOfLines fault
+IsFaultFrom lines config Limit = IsLongFor lines config
+IsFaultFrom lines config NoMemory = Unit {0}
+
+-- the lines give this session, no other, and no fault
+pub record IsOnlySessionFrom (lines : List LineValue) (prefix config : List ℕ) (s : SessionValue) : Type 0 where
+  pub one : (other : SessionValue) → IsOpenedFrom lines prefix config other → other ≡ s
+  pub faultless : (f : OpenFault) → IsOfTexts f → IsFaultFrom lines config f → ⊥
+
+-- the lines have this first fault, no other, and give no session
+pub record IsOnlyFaultFrom (lines : List LineValue) (prefix config : List ℕ) (f : OpenFault) : Type 0 where
+  pub one : (g : OpenFault) → IsOfTexts g → IsFaultFrom lines config g → AreOneOpenFault g f
+  pub sessionless : (s : SessionValue) → IsOpenedFrom lines prefix config s → ⊥
+
+-- what is said where lines give no session: out of memory says nothing
+abbrev pub IsFirstFaultFrom : List LineValue → List ℕ → List ℕ → OpenFault → Type 0
+IsFirstFaultFrom lines prefix config NoMemory = Unit {0}
+IsFirstFaultFrom lines prefix config fault = IsOnlyFaultFrom lines prefix config fault

@@ -12,7 +12,7 @@ ghost use Rattle.kc_files.specs.LineReading.{IsAssignFor, IsUnfed};
 ghost use Rattle.kc_files.specs.OneReading.{assigns_in, warnings_in, IsReadAs};
 ghost use Rattle.kc_session.specs.Bodies.{fits_body};
 ghost use Rattle.kc_session.specs.Keeping.{KeepsRight};
-ghost use Rattle.kc_session.specs.Opened.{IsOpened, IsOpenFault, IsTextFaultOf, IsTreeFaultOf, IsConfigFault, IsOnlySession, IsOnlyTreeFault, IsFirstOpenFault, user_of_config};
+ghost use Rattle.kc_session.specs.Opened.{IsOpened, IsOpenedFrom, IsOpenFault, IsFaultFrom, IsTextFaultOf, IsTreeFaultOf, IsConfigFault, IsOnlySession, IsOnlySessionFrom, IsOnlyTreeFault, IsFirstOpenFault, IsFirstFaultFrom, user_of_config};
 
 use crate::command::Refusal;
 use crate::kept_resolver::KeptResolver;
@@ -149,13 +149,50 @@ pub fn open(
     open_seeded(alloc, Seed::fixed(), sources, vars, top, prefix, config)
 }
 
+/// The session of logical lines that were read before, for a caller who needs them afterwards, as for the places of faults
+/// or for help texts: otherwise as `open_seeded`, which reads the lines first and then does this.
+///
+/// # Errors
+///
+/// Those of `open`, but for `OpenFault::Text`.
+#[tactic(auto, using(crate::proofs::OpenLaws::tree_fault_from, crate::proofs::OpenLaws::config_fault_from, crate::proofs::OneOpening::first_tree_fault, crate::proofs::OneOpening::first_config_fault))]
+pub fn open_lines(
+    alloc: Global,
+    seed: Seed,
+    lines: &[Line<'_>],
+    prefix: &Prefix,
+    config: &[u8],
+) -> Result<(Session, Vec<Warning>), OpenFault>
+    requires { length lines.now ≤ MOST_LINES }
+    ensures opened { IfOk result (λ r. IsOpenedFrom lines.now prefix.now config.now r.0.session) }
+    ensures warnings { IfOk result (λ r. r.1.items ≡ warnings_in r.0.session.tree prefix.now config.now) }
+    ensures unfed { IfOk result (λ r. HasNoFeeds r.0.session.user) }
+    ensures bodies { IfOk result (λ r. (body : List ℕ) → IsReadAs r.0.session.tree r.0.session.prefix body) }
+    ensures nothing_kept { IfOk result (λ r. r.0.kept ≡ nothing_kept r.0.session.tree) }
+    ensures right { IfOk result (λ r. KeepsRight r.0) }
+    ensures solved { IfOk result (λ r. (u : UserValues) → IsOnlySolution r.0.session.tree u (solution r.0.session.tree u)) }
+    ensures only { IfOk result (λ r. IsOnlySessionFrom lines.now prefix.now config.now r.0.session) }
+    ensures fault { IfErr result (IsFaultFrom lines.now config.now) }
+    ensures first { IfErr result (IsFirstFaultFrom lines.now prefix.now config.now) }
+{
+    let tree = read_tree(alloc, seed, lines)?;
+    let (user, warnings) = read_user(alloc, &tree, prefix, config)?;
+    let Ok(prefix) = prefix.copy(alloc) else {
+        return Err(OpenFault::NoMemory);
+    };
+    let Ok(resolver) = KeptResolver::with_user(alloc, tree, user) else {
+        return Err(OpenFault::NoMemory);
+    };
+    Ok((Session::of(alloc, resolver, prefix), warnings))
+}
+
 /// The same for untrusted texts: the names of symbols are kept under the hash of a seed, so that they can't be chosen
 /// to be slow to find. The session or the fault is that of `open`.
 ///
 /// # Errors
 ///
 /// Those of `open`.
-#[tactic(auto, using(crate::proofs::OpenLaws::text_fault, crate::proofs::OpenLaws::tree_fault, crate::proofs::OpenLaws::config_fault, crate::proofs::OneOpening::first_text_fault, crate::proofs::OneOpening::first_tree_fault, crate::proofs::OneOpening::first_config_fault, crate::proofs::OneOpening::only_session))]
+#[tactic(auto, using(crate::proofs::OpenLaws::text_fault, crate::proofs::OpenLaws::opened_of, crate::proofs::OpenLaws::fault_of, crate::proofs::OneOpening::first_text_fault))]
 pub fn open_seeded(
     alloc: Global,
     seed: Seed,
@@ -178,13 +215,6 @@ pub fn open_seeded(
 {
     let arena = Bump::new(alloc);
     let lines = read_lines(alloc, &arena, sources, vars, top)?;
-    let tree = read_tree(alloc, seed, lines.as_slice())?;
-    let (user, warnings) = read_user(alloc, &tree, prefix, config)?;
-    let Ok(prefix) = prefix.copy(alloc) else {
-        return Err(OpenFault::NoMemory);
-    };
-    let Ok(resolver) = KeptResolver::with_user(alloc, tree, user) else {
-        return Err(OpenFault::NoMemory);
-    };
-    Ok((Session::of(alloc, resolver, prefix), warnings))
+    let opened = open_lines(alloc, seed, lines.as_slice(), prefix, config)?;
+    Ok(opened)
 }

@@ -1,8 +1,8 @@
 //! A session: a tree, user values, and the commands that read and change them.
-ghost use Rattle.std.specs.Prelude.{◌≡◌, ◌⊎◌, ℕ, List, [], true, None, All, IfSome, IfOk, IfErr, OnErr};
+ghost use Rattle.std.specs.Prelude.{◌≡◌, ◌⊎◌, ℕ, List, [], true, None, All, IfSome, IfOk, IfErr, OnOk, OnErr};
 ghost use Rattle.std.specs.String.{string_bytes};
 ghost use Rattle.kc_value.specs.KeptLaws.{KeptLaws};
-ghost use Rattle.kc_value.specs.Solution.{solution, IsOnlySolution};
+ghost use Rattle.kc_value.specs.Solution.{solution, AreSolved, IsOnlySolution};
 ghost use Rattle.kc_value.specs.UserValues.{UserValues, chosen_in};
 ghost use Rattle.kc_value.specs.ChoiceRule.{is_symbol};
 
@@ -14,7 +14,7 @@ use crate::values::value_of;
 use kc_files::{Assign, Load, Prefix};
 use kc_text::Text;
 use kc_tree::{ChoiceId, Node, SymId, Tree};
-use kc_value::{Resolver, User, Value};
+use kc_value::{NodeValues, Resolver, User, Value};
 use std::alloc::{AllocError, Global};
 use std::marker::Model;
 
@@ -40,7 +40,7 @@ impl Model for Session {
 }
 
 impl Session {
-    ghost use Rattle.kc_session.specs.Keeping.{Asks, EditsKept, Keeps, KeepsRight, shown_nodes, symbol_nodes, choice_nodes};
+    ghost use Rattle.kc_session.specs.Keeping.{Asks, EditsKept, Grew, Keeps, KeepsAll, KeepsRight, shown_nodes, symbol_nodes, choice_nodes};
     ghost use Rattle.kc_session.specs.Session.{new_session, new_state, with_user};
     ghost use Rattle.kc_tree.specs.declared.node.Node.TheVariants.{Vis};
     ghost use Rattle.kc_tree.specs.Nodes.{IsNodeOf, all_nodes};
@@ -110,6 +110,37 @@ impl Session {
         ensures { result ≡ self.now.kept.evals }
     {
         self.resolver.evals()
+    }
+
+    /// Evaluates all nodes, as far as they are not kept: each once, and the values are kept, also where memory is refused
+    /// for others. Then `values` has the value of each node.
+    ///
+    /// # Errors
+    ///
+    /// Where memory was refused.
+    #[tactic(auto, using(crate::proofs::AskedLaws::session_kept))]
+    pub fn fill(&mut self) -> Result<(), AllocError>
+        ensures grew { Grew (all_nodes self.old.session.tree) self.old self.new }
+        ensures all { OnOk result (KeepsAll self.new) }
+        ensures right { KeepsRight self.new }
+    {
+        self.facts();
+        let filled = self.resolver.fill_all();
+        self.facts();
+        filled
+    }
+
+    /// The values that are kept, by number, with nothing for a node that is not kept. They are the solution's: of all nodes
+    /// where all are kept, as after `fill`.
+    #[tactic(auto, using(crate::proofs::AskedLaws::kept_solved))]
+    pub fn values(&self) -> &NodeValues
+        ensures values { result.now ≡ self.now.kept.values }
+        ensures solved { KeepsAll self.now → AreSolved self.now.session.tree self.now.session.user result.now }
+        ensures only { IsOnlySolution self.now.session.tree self.now.session.user (solution self.now.session.tree self.now.session.user) }
+        ensures right { KeepsRight self.now }
+    {
+        self.facts();
+        self.resolver.values()
     }
 
     /// What is true of a session, whatever was done before: what is kept is right; whatever the user values are, the tree

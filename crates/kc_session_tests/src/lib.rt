@@ -10,6 +10,8 @@ mod calls;
 #[cfg(test)]
 mod config_texts;
 #[cfg(test)]
+mod effects;
+#[cfg(test)]
 mod failing;
 #[cfg(test)]
 mod failures;
@@ -23,6 +25,8 @@ mod long_lists;
 mod opening;
 #[cfg(test)]
 mod prefixes;
+#[cfg(test)]
+mod reasons;
 #[cfg(test)]
 mod replies;
 #[cfg(test)]
