@@ -1,0 +1,3 @@
+pub mod HelpLaws
+pub mod NthLaws
+pub mod StartLaws

@@ -1,0 +1,221 @@
+//! Expressions as Kconfig writes them.
+
+use kc_statement::{Comparison, Expr, ExprNode, Term, numeral};
+use kc_tree::{Node, SymId, SymbolType, Tree, Tri};
+use kc_value::NodeValues;
+use std::alloc::AllocError;
+
+/// What is written after each symbol of an expression.
+#[derive(Clone, Copy)]
+enum Written<'v> {
+    /// Nothing.
+    Plain,
+    /// Its value among these.
+    Valued(&'v NodeValues),
+}
+
+/// Adds an expression as Kconfig writes it (kconfig-language.rst, "Menu dependencies"): `A && (B || !C)`, `A = "x"`.
+///
+/// # Errors
+///
+/// `AllocError` where memory is refused.
+pub fn push_expr(text: &mut String, tree: &Tree, expr: &Expr) -> Result<(), AllocError> {
+    push_written(text, tree, Written::Plain, expr)
+}
+
+/// Adds an expression with the value of each symbol after its name: `A=y && (B=n || !C=m)`. A word that no definition
+/// names, and that is no number, has `=undefined` after it. In a comparison a side with a value is in parentheses: `(A="x") = "y"`.
+///
+/// # Errors
+///
+/// `AllocError` where memory is refused.
+pub fn push_valued_expr(
+    text: &mut String,
+    tree: &Tree,
+    values: &NodeValues,
+    expr: &Expr,
+) -> Result<(), AllocError> {
+    push_written(text, tree, Written::Valued(values), expr)
+}
+
+/// Adds a term as Kconfig writes it.
+///
+/// # Errors
+///
+/// `AllocError` where memory is refused.
+pub fn push_term(text: &mut String, tree: &Tree, term: &Term) -> Result<(), AllocError> {
+    match term {
+        Term::Tri(tri) => text.push_str(tri.letter()),
+        Term::Text(quoted) => push_quoted(text, quoted.as_str()),
+        Term::Symbol(symbol) => text.push_str(tree.name(*symbol)),
+        Term::Undefined(word) => text.push_str(word.as_str()),
+    }
+}
+
+/// Adds a term, with the value of a symbol after its name.
+///
+/// # Errors
+///
+/// `AllocError` where memory is refused.
+pub fn push_valued_term(
+    text: &mut String,
+    tree: &Tree,
+    values: &NodeValues,
+    term: &Term,
+) -> Result<(), AllocError> {
+    push_term(text, tree, term)?;
+    match term {
+        Term::Symbol(symbol) => push_value_after(text, tree, values, *symbol),
+        Term::Undefined(word) if !is_number(word.as_str()) => text.push_str("=undefined"),
+        Term::Undefined(_) | Term::Tri(_) | Term::Text(_) => Ok(()),
+    }
+}
+
+/// Adds the value of a symbol, after `=`.
+fn push_value_after(
+    text: &mut String,
+    tree: &Tree,
+    values: &NodeValues,
+    symbol: SymId,
+) -> Result<(), AllocError> {
+    text.push('=')?;
+    let value = match values.get(tree.number(Node::Val(symbol))) {
+        Some(value) => value.as_text(),
+        None => Tri::No.letter(),
+    };
+    match tree.symbol_type(symbol) {
+        SymbolType::String => push_quoted(text, value),
+        _ => text.push_str(value),
+    }
+}
+
+/// Adds a text in quotes, with a backslash before each quote and backslash.
+pub(crate) fn push_quoted(text: &mut String, quoted: &str) -> Result<(), AllocError> {
+    text.push('"')?;
+    for character in quoted.chars() {
+        if character == '"' || character == '\\' {
+            text.push('\\')?;
+        }
+        text.push(character)?;
+    }
+    text.push('"')
+}
+
+/// The sign of a comparison.
+fn sign_of(comparison: Comparison) -> &'static str {
+    match comparison {
+        Comparison::Equal => " = ",
+        Comparison::NotEqual => " != ",
+        Comparison::Less => " < ",
+        Comparison::LessOrEqual => " <= ",
+        Comparison::Greater => " > ",
+        Comparison::GreaterOrEqual => " >= ",
+    }
+}
+
+/// Adds a term, with its value where values are written.
+fn push_written_term(
+    text: &mut String,
+    tree: &Tree,
+    written: Written<'_>,
+    term: &Term,
+) -> Result<(), AllocError> {
+    match written {
+        Written::Plain => push_term(text, tree, term),
+        Written::Valued(values) => push_valued_term(text, tree, values, term),
+    }
+}
+
+/// Whether a word is a number, decimal or with `0x` before it, which is a constant like a text in quotes.
+fn is_number(word: &str) -> bool {
+    let is_hex = word.starts_with("0x") || word.starts_with("0X");
+    let kind = if is_hex {
+        SymbolType::Hex
+    } else {
+        SymbolType::Int
+    };
+    numeral(kind, word).is_some()
+}
+
+/// Whether a term has a value that is not its own text: it is a name.
+fn has_value(term: &Term) -> bool {
+    match term {
+        Term::Symbol(_) => true,
+        Term::Undefined(word) => !is_number(word.as_str()),
+        Term::Tri(_) | Term::Text(_) => false,
+    }
+}
+
+/// Adds a side of a comparison, in parentheses where a value is written after it.
+fn push_side(
+    text: &mut String,
+    tree: &Tree,
+    written: Written<'_>,
+    term: &Term,
+) -> Result<(), AllocError> {
+    if matches!(written, Written::Plain) || !has_value(term) {
+        return push_written_term(text, tree, written, term);
+    }
+    text.push('(')?;
+    push_written_term(text, tree, written, term)?;
+    text.push(')')
+}
+
+/// Adds `!`, so often.
+fn push_marks(text: &mut String, count: usize) -> Result<(), AllocError> {
+    for _ in 0..count {
+        text.push('!')?;
+    }
+    Ok(())
+}
+
+/// Adds an expression, with values where they are written.
+#[cycle(push)]
+fn push_written(
+    text: &mut String,
+    tree: &Tree,
+    written: Written<'_>,
+    expr: &Expr,
+) -> Result<(), AllocError> {
+    match expr.node() {
+        ExprNode::Term(term) | ExprNode::BareModule(term) => {
+            push_written_term(text, tree, written, term)
+        }
+        ExprNode::Compare(comparison, operands) => {
+            push_side(text, tree, written, &operands.left)?;
+            text.push_str(sign_of(*comparison))?;
+            push_side(text, tree, written, &operands.right)
+        }
+        ExprNode::Not(count, inner) => {
+            push_marks(text, *count)?;
+            push_written(text, tree, written, inner)
+        }
+        ExprNode::Group(inner) => {
+            text.push('(')?;
+            push_written(text, tree, written, inner)?;
+            text.push(')')
+        }
+        ExprNode::All(parts) => push_parts(text, tree, written, parts.as_slice(), " && "),
+        ExprNode::Any(parts) => push_parts(text, tree, written, parts.as_slice(), " || "),
+    }
+}
+
+/// Adds expressions with a sign between them.
+#[cycle(push)]
+fn push_parts(
+    text: &mut String,
+    tree: &Tree,
+    written: Written<'_>,
+    parts: &[Expr],
+    sign: &str,
+) -> Result<(), AllocError> {
+    let mut is_first = true;
+    for part in parts {
+        if !is_first {
+            text.push_str(sign)?;
+        }
+        is_first = false;
+        push_written(text, tree, written, part)?;
+    }
+    Ok(())
+}

@@ -1,0 +1,117 @@
+//! The symbols without prompt that a definition depends on, and who would select them.
+
+use crate::definitions_in_words::definition_factors;
+use crate::needs::has_prompt;
+use crate::reverses::{ReverseKind, push_reverse_row};
+use crate::view::View;
+use crate::words::node_tri;
+use kc_statement::{ExprNode, Operands, Term};
+use kc_tree::{Expr, Node, SymId, Symbol};
+use kc_value::FactorPart;
+use std::alloc::{AllocError, Global};
+
+/// The most symbols without prompt of which is said who selects them.
+const MOST_SHOWN: usize = 3;
+
+/// The most definitions whose factors are looked through.
+const MOST_DEFINITIONS: usize = 8;
+
+/// Whether a symbol is n, has no prompt, and is selected by a line.
+fn is_wanted(view: &View<'_>, symbol: SymId) -> bool {
+    let tree = view.tree();
+    let Some(found) = tree.symbols().get(symbol.0 as usize) else {
+        return false;
+    };
+    node_tri(tree, view.values(), Node::Val(symbol)).is_no()
+        && !found.selected().is_empty()
+        && !has_prompt(view, found)
+}
+
+/// Adds the symbol of a term, if it is wanted.
+fn add_term(found: &mut Vec<SymId>, view: &View<'_>, term: &Term) -> Result<(), AllocError> {
+    let Term::Symbol(symbol) = term else {
+        return Ok(());
+    };
+    let is_full = found.len() >= MOST_SHOWN;
+    if is_full || found.contains(symbol) || !is_wanted(view, *symbol) {
+        return Ok(());
+    }
+    found.push(*symbol)?;
+    Ok(())
+}
+
+/// Adds the symbols of a comparison that are wanted.
+fn add_operands(
+    found: &mut Vec<SymId>,
+    view: &View<'_>,
+    operands: &Operands,
+) -> Result<(), AllocError> {
+    add_term(found, view, &operands.left)?;
+    add_term(found, view, &operands.right)
+}
+
+/// Adds the symbols of an expression that are wanted.
+#[cycle(add)]
+fn add_expr(found: &mut Vec<SymId>, view: &View<'_>, expr: &Expr) -> Result<(), AllocError> {
+    match expr.node() {
+        ExprNode::Term(term) => add_term(found, view, term),
+        ExprNode::BareModule(_) => Ok(()),
+        ExprNode::Compare(_, operands) => add_operands(found, view, operands),
+        ExprNode::Not(_, inner) => add_expr(found, view, inner),
+        ExprNode::Group(inner) => add_expr(found, view, inner),
+        ExprNode::All(parts) => add_parts(found, view, parts.as_slice()),
+        ExprNode::Any(parts) => add_parts(found, view, parts.as_slice()),
+    }
+}
+
+/// Adds the symbols of expressions that are wanted.
+#[cycle(add)]
+fn add_parts(found: &mut Vec<SymId>, view: &View<'_>, parts: &[Expr]) -> Result<(), AllocError> {
+    for part in parts {
+        add_expr(found, view, part)?;
+    }
+    Ok(())
+}
+
+/// Adds the symbols of the factors of a definition that are n.
+fn add_definition(
+    alloc: Global,
+    found: &mut Vec<SymId>,
+    view: &View<'_>,
+    number: usize,
+) -> Result<(), AllocError> {
+    let Some(definition) = view.tree().definitions().get(number) else {
+        return Ok(());
+    };
+    let factors = definition_factors(alloc, view, number, definition)?;
+    for factor in &factors {
+        if let FactorPart::Expression(expr) = factor.part {
+            if factor.value.is_no() {
+                add_expr(found, view, expr)?;
+            }
+        }
+    }
+    Ok(())
+}
+
+/// Adds for the first symbols without prompt that are n, and that a factor with value n has, who selects them:
+/// `X has no prompt: selected by A=n, B=n`.
+pub(crate) fn push_promptless(
+    alloc: Global,
+    text: &mut String,
+    view: &View<'_>,
+    symbol: &Symbol,
+) -> Result<(), AllocError> {
+    let mut found = Vec::new(alloc);
+    for number in symbol.definitions().iter().take(MOST_DEFINITIONS) {
+        add_definition(alloc, &mut found, view, *number)?;
+    }
+    for other in &found {
+        text.push_str("  ")?;
+        text.push_str(view.tree().name(*other))?;
+        text.push_str(" has no prompt: ")?;
+        let _ = push_reverse_row(text, view, ReverseKind::Select, *other, None)?;
+        text.push('\n')?;
+    }
+    Ok(())
+}

@@ -1,0 +1,84 @@
+//! What a user can assign to a symbol.
+
+ghost use Rattle.kc_tree.specs.declared.node.Node.TheVariants.{Vis};
+ghost use Rattle.kc_tree.specs.Nodes.{IsNodeOf};
+
+use crate::reasons_in_words::push_bounds;
+use crate::view::View;
+use crate::words::{node_tri, push_user};
+use kc_tree::{Node, SymId, SymbolType};
+use kc_value::{SharedConditions, active_range, assignable_among};
+use std::alloc::{AllocError, Global};
+
+/// Adds the values that a user can give a bool or a tristate with an effect.
+fn push_tristates(
+    alloc: Global,
+    text: &mut String,
+    view: &View<'_>,
+    symbol: SymId,
+) -> Result<(), AllocError>
+    requires { IsNodeOf view.now.tree (Vis symbol) }
+{
+    let conditions = SharedConditions::none(alloc);
+    let values = assignable_among(alloc, view.tree(), &conditions, view.values(), symbol)?;
+    if values.is_empty() {
+        return Ok(());
+    }
+    text.push_str("  can be set to")?;
+    for value in values.as_slice() {
+        text.push(' ')?;
+        text.push_str(value.letter())?;
+    }
+    text.push('\n')
+}
+
+/// Adds the values that a user can give a visible int or hex.
+fn push_numbers(
+    alloc: Global,
+    text: &mut String,
+    view: &View<'_>,
+    symbol: SymId,
+) -> Result<(), AllocError> {
+    text.push_str("  can be set to a number")?;
+    if active_range(view.tree(), view.values(), symbol).is_some() {
+        text.push_str(" of the range ")?;
+        push_bounds(alloc, text, view, symbol)?;
+    }
+    text.push('\n')
+}
+
+/// Adds what a user can give a symbol with an effect: `can be set to n m y`; nothing where it is not visible.
+pub(crate) fn push_settable(
+    alloc: Global,
+    text: &mut String,
+    view: &View<'_>,
+    symbol: SymId,
+) -> Result<(), AllocError> {
+    let tree = view.tree();
+    let Some(_found) = tree.symbols().get(symbol.0 as usize) else {
+        return Ok(());
+    };
+    if node_tri(tree, view.values(), Node::Vis(symbol)).is_no() {
+        return push_waiting(text, view, symbol);
+    }
+    match tree.symbol_type(symbol) {
+        SymbolType::Bool | SymbolType::Tristate => push_tristates(alloc, text, view, symbol),
+        SymbolType::Int | SymbolType::Hex => push_numbers(alloc, text, view, symbol),
+        SymbolType::String => text.push_str("  can be set to a text\n"),
+    }
+}
+
+/// Adds the user value of a symbol that is not visible, or that the user chose it.
+fn push_waiting(text: &mut String, view: &View<'_>, symbol: SymId) -> Result<(), AllocError> {
+    if let Some(value) = view.user().get(symbol) {
+        text.push_str("  a user value ")?;
+        push_user(text, view.tree().symbol_type(symbol), value)?;
+        return text.push_str(" waits until it is visible\n");
+    }
+    match view.tree().choice_of(symbol) {
+        Some(choice) if view.user().chosen(choice) == Some(symbol) => {
+            text.push_str("  the user chose it, which waits until it is visible\n")
+        }
+        _ => Ok(()),
+    }
+}

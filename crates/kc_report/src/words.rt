@@ -1,0 +1,82 @@
+//! Values, types and lists in words.
+
+use crate::expressions::push_quoted;
+use kc_explain::shown_line;
+use kc_tree::{Node, SymId, SymbolType, Tree, Tri, UserVal};
+use kc_value::NodeValues;
+use std::alloc::{AllocError, Global};
+
+/// The name of a type.
+pub(crate) fn type_name(kind: SymbolType) -> &'static str {
+    match kind {
+        SymbolType::Bool => "bool",
+        SymbolType::Tristate => "tristate",
+        SymbolType::String => "string",
+        SymbolType::Int => "int",
+        SymbolType::Hex => "hex",
+    }
+}
+
+/// The tristate value of a node.
+pub(crate) fn node_tri(tree: &Tree, values: &NodeValues, node: Node) -> Tri {
+    values.tri(tree.number(node))
+}
+
+/// Adds a text as a value of a type is written: a string in quotes, at most 160 bytes of it.
+pub(crate) fn push_text_value(
+    text: &mut String,
+    kind: SymbolType,
+    value: &str,
+) -> Result<(), AllocError> {
+    match kind {
+        SymbolType::String => push_quoted(text, shown_line(value)),
+        SymbolType::Bool | SymbolType::Tristate | SymbolType::Int | SymbolType::Hex => {
+            text.push_str(value)
+        }
+    }
+}
+
+/// Adds the value of a symbol.
+pub(crate) fn push_value(
+    text: &mut String,
+    tree: &Tree,
+    values: &NodeValues,
+    symbol: SymId,
+) -> Result<(), AllocError> {
+    let value = match values.get(tree.number(Node::Val(symbol))) {
+        Some(value) => value.as_text(),
+        None => Tri::No.letter(),
+    };
+    push_text_value(text, tree.symbol_type(symbol), value)
+}
+
+/// Adds a symbol with its value, as `A=y`.
+pub(crate) fn push_valued(
+    text: &mut String,
+    tree: &Tree,
+    values: &NodeValues,
+    symbol: SymId,
+) -> Result<(), AllocError> {
+    text.push_str(tree.name(symbol))?;
+    text.push('=')?;
+    push_value(text, tree, values, symbol)
+}
+
+/// Adds a user value.
+pub(crate) fn push_user(
+    text: &mut String,
+    kind: SymbolType,
+    value: &UserVal,
+) -> Result<(), AllocError> {
+    match value {
+        UserVal::Tri(tri) => text.push_str(tri.letter()),
+        UserVal::Text(spelt) => push_text_value(text, kind, spelt.as_str()),
+    }
+}
+
+/// Adds a line: blanks, at most 160 bytes of its words, and a line feed.
+pub(crate) fn push_line(text: &mut String, indent: &str, words: &str) -> Result<(), AllocError> {
+    text.push_str(indent)?;
+    text.push_str(shown_line(words))?;
+    text.push('\n')
+}
