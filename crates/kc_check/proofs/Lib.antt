@@ -1,0 +1,4 @@
+pub mod CountLaws
+pub mod ForcedLaws
+pub mod FragmentLaws
+pub mod OutcomeSearch

@@ -1,0 +1,5 @@
+pub mod Defaults
+pub mod Forced
+pub mod Outcomes
+pub mod Ranges
+pub mod Unmet

@@ -1,0 +1,42 @@
+//! What is checked beside a tree and its values.
+
+use kc_files::Prefix;
+use kc_text::Line;
+
+/// A file by its path, with its bytes.
+#[derive(Clone, Copy)]
+pub struct Input<'a> {
+    pub path: &'a str,
+    pub bytes: &'a [u8],
+}
+
+/// A file of the Kconfig by its path, with its text.
+#[derive(Clone, Copy)]
+pub struct SourceText<'a> {
+    pub path: &'a str,
+    pub text: &'a str,
+}
+
+/// What a check looks at beside the tree and its values.
+#[derive(Drop)]
+pub struct CheckInputs<'a, 'l> {
+    /// The logical lines of the Kconfig.
+    pub lines: &'a [Line<'l>],
+    /// What is before the names of symbols in a `.config`.
+    pub prefix: &'a Prefix,
+    /// The `.config`, if there is one.
+    pub config: Option<Input<'a>>,
+    /// The names of the variables that were given.
+    pub given: &'a [&'a str],
+    /// The files of the Kconfig, each once.
+    pub sources: &'a [SourceText<'a>],
+}
+
+/// Which names that are defined nowhere are listed.
+#[derive(Clone, Copy, Debug, PartialEq, Eq)]
+pub enum Extent {
+    /// Those that are near a defined name, and those that begin with the prefix of names.
+    Near,
+    /// All.
+    All,
+}

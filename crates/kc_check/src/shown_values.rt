@@ -1,0 +1,50 @@
+//! Values as messages write them.
+
+use kc_explain::shown_line;
+use kc_report::View;
+use kc_tree::{Node, SymId, SymbolType, UserVal};
+use std::alloc::{AllocError, Global};
+
+/// Adds a value that a line gives a symbol: a letter, a number, or a text in quotes, of a long one the first 160 bytes.
+///
+/// # Errors
+///
+/// `AllocError` where memory is refused.
+pub(crate) fn push_asked(
+    words: &mut String,
+    view: &View<'_>,
+    symbol: SymId,
+    asked: &UserVal,
+) -> Result<(), AllocError> {
+    match asked {
+        UserVal::Tri(tri) => words.push_str(tri.letter()),
+        UserVal::Text(text) => push_text(words, view.tree().symbol_type(symbol), text.as_str()),
+    }
+}
+
+/// Adds the value that a symbol has.
+///
+/// # Errors
+///
+/// `AllocError` where memory is refused.
+pub(crate) fn push_value(
+    words: &mut String,
+    view: &View<'_>,
+    symbol: SymId,
+) -> Result<(), AllocError> {
+    let text = match view.values().get(view.tree().number(Node::Val(symbol))) {
+        Some(value) => value.as_text(),
+        None => "",
+    };
+    push_text(words, view.tree().symbol_type(symbol), text)
+}
+
+/// Adds the text of a value: that of a string in quotes.
+fn push_text(words: &mut String, kind: SymbolType, text: &str) -> Result<(), AllocError> {
+    let text = shown_line(text);
+    match kind {
+        SymbolType::String => write!(words, "\"{text}\""),
+        SymbolType::Int | SymbolType::Hex if text == "" => words.push_str("nothing"),
+        _ => words.push_str(text),
+    }
+}

@@ -1,0 +1,43 @@
+//! The tokens of a line that are names of symbols.
+
+use crate::walk::Placed;
+use kc_statement::Keyword;
+use kc_text::{Operator, Token};
+
+/// The word that a token is, also one that holds a reference.
+pub(crate) fn word_of<'l>(token: &'l Token<'_>) -> Option<&'l str> {
+    match token {
+        Token::Word(word) => Some(word.as_str()),
+        Token::Expanded(word) => Some(word.as_str()),
+        Token::Quoted(_) | Token::Operator(_) => None,
+    }
+}
+
+/// The place of the first token of a line that can be the name of a symbol that it uses, if it can have one.
+pub(crate) fn names_start(placed: &Placed) -> Option<usize> {
+    match placed.keyword? {
+        Keyword::If | Keyword::Range | Keyword::DefBool | Keyword::DefTristate => Some(1),
+        Keyword::Default | Keyword::Select | Keyword::Imply => Some(1),
+        Keyword::Depends | Keyword::Visible | Keyword::Prompt => Some(2),
+        Keyword::Bool | Keyword::Tristate | Keyword::String => Some(2),
+        Keyword::Int | Keyword::Hex => Some(2),
+        _ => None,
+    }
+}
+
+/// Whether the token at a place is a side of a comparison.
+pub(crate) fn is_compared(tokens: &[Token<'_>], place: usize) -> bool {
+    let before = place.checked_sub(1).and_then(|before| tokens.get(before));
+    let after = tokens.get(place.saturating_add(1));
+    before.is_some_and(is_comparison) || after.is_some_and(is_comparison)
+}
+
+fn is_comparison(token: &Token<'_>) -> bool {
+    match token {
+        Token::Operator(operator) => !matches!(
+            operator,
+            Operator::And | Operator::Or | Operator::Not | Operator::Open | Operator::Close
+        ),
+        Token::Word(_) | Token::Expanded(_) | Token::Quoted(_) => false,
+    }
+}
