@@ -1,0 +1,19 @@
+//! The menu tree of a Kconfig for programs: an entry a row, and a JSON object a row.
+#![tactic(auto)]
+
+mod block_object;
+mod conditions_as_text;
+mod help;
+mod menu_inputs;
+mod menu_lines;
+mod places_as_text;
+mod row;
+mod rows;
+mod symbol_now;
+mod symbol_object;
+mod tri_letters;
+
+pub use help::Help;
+pub use menu_lines::{MenuLines, menu_text};
+pub use row::Row;
+pub use rows::menu_rows;
