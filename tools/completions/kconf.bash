@@ -3,8 +3,14 @@
 
 _kconf() {
     local word=${COMP_WORDS[COMP_CWORD]} before=${COMP_WORDS[COMP_CWORD - 1]}
-    local targets="olddefconfig savedefconfig listnewconfig genheader genmake allnoconfig allyesconfig files session"
+    local targets="olddefconfig savedefconfig listnewconfig genheader genmake allnoconfig allyesconfig files why check merge menu session"
     local options="--variables -C --prefix --explain --help"
+    case ${COMP_WORDS[1]} in
+        why) options+=" --all" ;;
+        check) options+=" --undefined --strict" ;;
+        merge) options+=" --strict" ;;
+        menu) options+=" --no-help" ;;
+    esac
     COMPREPLY=()
     if ((COMP_CWORD == 1)); then
         mapfile -t COMPREPLY < <(compgen -W "$targets help --help --version" -- "$word")

@@ -1,12 +1,9 @@
 -- This project's own: what is said of a word after the files that is not NAME=VALUE.
-use Rattle.std.specs.Prelude.{ℕ, Bool, List, if◌then◌else◌, is_none}
+use Rattle.std.specs.Prelude.{ℕ, Bool, List, if◌then◌else◌}
 use Rattle.std.specs.List.{list_any}
 use Rattle.kc_program.specs.declared.hints.HintKind.{HintKind}
 use Rattle.kc_program.specs.declared.hints.HintKind.TheVariants.{TakesNoConfig, NoEqualsSign, NoName}
-use Rattle.kc_program.specs.Variables.{is_equals, variable_of}
-
-abbrev pub is_no_variable : List ℕ → Bool
-is_no_variable word = is_none (variable_of word)
+use Rattle.kc_program.specs.Variables.{is_equals}
 
 -- with an `=`, what is before it is no name; without one it may be a CONFIG, where the target takes none
 abbrev pub hint_of : Bool → List ℕ → HintKind

@@ -1,12 +1,12 @@
 //! The command line: `kconf TARGET KCONFIG CONFIG [NAME=VALUE]...` with its options. `allnoconfig`, `allyesconfig` and
-//! `files` take no CONFIG.
+//! `files` take no CONFIG, `check` takes one or none, and `why` and `merge` take names or paths besides.
 //!
 //! A word that begins with `-` is an option, but `-` alone is a value, and so is each word after `--`.
 
 use crate::explanations::Wording;
 use crate::hints::Hint;
-use crate::targets::{SUBCOMMANDS, Subcommand, Target, subcommand_named};
-use crate::variables::{VariableFault, variables_of};
+use crate::targets::{Operands, SUBCOMMANDS, Subcommand, Target, subcommand_named};
+use crate::variables::Words;
 use crate::version::VERSION;
 use clap::error::ErrorKind;
 use clap::{Arg, ArgAction, ArgMatches, Command, Error};
@@ -36,6 +36,14 @@ pub struct Arguments<'a> {
     pub variables_file: Option<&'a str>,
     /// The variables of the words, each as its name and its text, in their order.
     pub variables: Vec<(&'a str, &'a str)>,
+    /// The names of symbols of `why`, or the paths of the fragments of `merge`, in their order.
+    pub operands: Vec<&'a str>,
+    /// Whether all is shown, of lists that are shortened otherwise.
+    pub is_all: bool,
+    /// Whether a finding makes the status 1.
+    pub is_strict: bool,
+    /// Whether help texts are written.
+    pub has_help: bool,
 }
 
 /// Words that are no command line, or ask for help or the version.
@@ -64,7 +72,7 @@ enum WordFault<'a> {
     /// A value is not one of those that are taken, as these words say.
     BadValue(&'static str),
     /// A word is no variable.
-    BadVariable(Option<Hint<'a>>),
+    BadVariable(Hint<'a>),
     /// Memory was refused.
     NoMemory,
 }
@@ -82,15 +90,29 @@ impl<'a> Arguments<'a> {
         let (error, hint) = match read_matches(alloc, &matches) {
             Ok(arguments) => return Ok(arguments),
             Err(WordFault::BadValue(message)) => (bad_value(&mut command, message), None),
-            Err(WordFault::BadVariable(hint)) => (bad_value(&mut command, BAD_VARIABLE), hint),
+            Err(WordFault::BadVariable(hint)) => {
+                (bad_value(&mut command, BAD_VARIABLE), Some(hint))
+            }
             Err(WordFault::NoMemory) => (Error::from(AllocError), None),
         };
         Err(BadWords { error, hint })
     }
 }
 
+impl From<AllocError> for WordFault<'_> {
+    fn from(_refused: AllocError) -> Self {
+        WordFault::NoMemory
+    }
+}
+
 /// What is said of words that lack an argument.
 const MISSING_ARGUMENT: &str = "an argument is missing";
+
+/// What is said of words that lack the name of a symbol.
+const MISSING_NAME: &str = "the name of a symbol is missing";
+
+/// What is said of words that lack a fragment.
+const MISSING_FRAGMENT: &str = "the path of a FRAGMENT is missing";
 
 /// What is said of a malformed prefix.
 const MALFORMED_PREFIX: &str =
@@ -112,21 +134,29 @@ fn read_matches<'a>(
         return Err(WordFault::BadValue(MISSING_ARGUMENT));
     };
     let prefix = read_prefix(alloc, found.get_str("prefix").unwrap_or("CONFIG_"))?;
-    let variables = read_variables(alloc, row, found.get_strs("words").unwrap_or(&[]))?;
+    let words = read_words(alloc, row, found.get_strs("words").unwrap_or(&[]))?;
     let wording = if found.get_flag("explain") {
         Wording::Explained
     } else {
         Wording::Number
     };
+    let config = match row.operands {
+        Operands::PerhapsConfig => words.others.first().copied(),
+        _ => found.get_str("CONFIG"),
+    };
     Ok(Arguments {
         target: row.target,
         kconfig,
-        config: found.get_str("CONFIG").filter(|path| *path != NO_CONFIG),
+        config: config.filter(|path| *path != NO_CONFIG),
         prefix,
         wording,
         folder: found.get_str("folder").unwrap_or(""),
         variables_file: found.get_str("variables"),
-        variables,
+        variables: words.variables,
+        operands: words.others,
+        is_all: found.get_flag("all"),
+        is_strict: found.get_flag("strict"),
+        has_help: !found.get_flag("no-help"),
     })
 }
 
@@ -138,16 +168,28 @@ fn read_prefix<'a>(alloc: Global, text: &str) -> Result<Prefix, WordFault<'a>> {
     }
 }
 
-/// The variables of the words after the files of a subcommand.
-fn read_variables<'a>(
+/// The words after the files of a subcommand, as many as it takes.
+fn read_words<'a>(
     alloc: Global,
     row: &Subcommand,
     words: &[&'a str],
-) -> Result<Vec<(&'a str, &'a str)>, WordFault<'a>> {
-    match variables_of(alloc, words) {
-        Ok(variables) => Ok(variables),
-        Err(VariableFault::NoMemory) => Err(WordFault::NoMemory),
-        Err(VariableFault::Malformed) => Err(WordFault::BadVariable(Hint::of(row, words))),
+) -> Result<Words<'a>, WordFault<'a>> {
+    let words = Words::of(alloc, words)?;
+    let (fewest, most) = row.operands.word_counts();
+    if let Some(word) = words.others.get(most) {
+        return Err(WordFault::BadVariable(Hint::of(row, *word)));
+    }
+    if words.others.len() < fewest {
+        return Err(WordFault::BadValue(missing_operand(row.operands)));
+    }
+    Ok(words)
+}
+
+/// What is said where all words after CONFIG are variables.
+fn missing_operand(operands: Operands) -> &'static str {
+    match operands {
+        Operands::ConfigAndFragments => MISSING_FRAGMENT,
+        _ => MISSING_NAME,
     }
 }
 
@@ -190,17 +232,67 @@ fn target_command<'a>(alloc: Global, row: &Subcommand) -> Result<Command<'a>, Al
         .about(row.about)
         .after_help(row.notes)
         .arg(kconfig_argument(alloc))?;
-    let command = if row.takes_config {
+    let command = if row.operands.begin_with_config() {
         command.arg(config_argument(alloc))?
     } else {
         command
     };
+    let command = with_own_options(alloc, command, row.target)?;
     command
-        .arg(words_argument(alloc))?
+        .arg(words_argument(alloc, row.operands))?
         .arg(variables_option(alloc))?
         .arg(folder_option(alloc))?
         .arg(prefix_option(alloc))?
         .arg(explain_option(alloc))
+}
+
+/// The options that are those of a target alone.
+fn with_own_options<'a>(
+    alloc: Global,
+    command: Command<'a>,
+    target: Target,
+) -> Result<Command<'a>, AllocError> {
+    match target {
+        Target::Why => command.arg(all_option(alloc)),
+        Target::Check => command.arg(undefined_option(alloc))?.arg(strict_option(
+            alloc,
+            "Makes the status 1 where there is a finding",
+        )),
+        Target::Merge => command.arg(strict_option(
+            alloc,
+            "Makes the status 1 where a line of a FRAGMENT has no effect",
+        )),
+        Target::Menu => command.arg(no_help_option(alloc)),
+        _ => Ok(command),
+    }
+}
+
+fn all_option<'a>(alloc: Global) -> Arg<'a> {
+    Arg::new(alloc, "all")
+        .long("all")
+        .action(ArgAction::SetTrue)
+        .help("Shows the whole of each list")
+}
+
+fn undefined_option<'a>(alloc: Global) -> Arg<'a> {
+    Arg::new(alloc, "all")
+        .long("undefined")
+        .action(ArgAction::SetTrue)
+        .help("Lists all undefined names, not only those that are near a defined one")
+}
+
+fn strict_option<'a>(alloc: Global, help: &'a str) -> Arg<'a> {
+    Arg::new(alloc, "strict")
+        .long("strict")
+        .action(ArgAction::SetTrue)
+        .help(help)
+}
+
+fn no_help_option<'a>(alloc: Global) -> Arg<'a> {
+    Arg::new(alloc, "no-help")
+        .long("no-help")
+        .action(ArgAction::SetTrue)
+        .help("Writes no help texts")
 }
 
 fn kconfig_argument<'a>(alloc: Global) -> Arg<'a> {
@@ -219,13 +311,32 @@ fn config_argument<'a>(alloc: Global) -> Arg<'a> {
         .help("The path of the .config whose values are loaded, or - for none")
 }
 
-fn words_argument<'a>(alloc: Global) -> Arg<'a> {
+/// The words after the files.
+fn words_argument<'a>(alloc: Global, operands: Operands) -> Arg<'a> {
+    let (name, help) = match operands {
+        Operands::Nothing | Operands::Config => ("NAME=VALUE", VARIABLES_HELP),
+        Operands::PerhapsConfig => ("CONFIG or NAME=VALUE", PERHAPS_CONFIG_HELP),
+        Operands::ConfigAndSymbols => ("NAME or NAME=VALUE", SYMBOLS_HELP),
+        Operands::ConfigAndFragments => ("FRAGMENT or NAME=VALUE", FRAGMENTS_HELP),
+    };
     Arg::new(alloc, "words")
-        .value_name("NAME=VALUE")
+        .value_name(name)
         .num_args(0..)
         .action(ArgAction::Append)
-        .help("Gives $(NAME) the text VALUE in the Kconfig. The environment is not read")
+        .help(help)
 }
+
+const VARIABLES_HELP: &str =
+    "Gives $(NAME) the text VALUE in the Kconfig. The environment is not read";
+
+const PERHAPS_CONFIG_HELP: &str =
+    "The path of the .config that is checked, if there is one, and variables of the Kconfig: NAME=VALUE gives $(NAME) the text VALUE";
+
+const SYMBOLS_HELP: &str =
+    "The names of symbols, and variables of the Kconfig: NAME=VALUE gives $(NAME) the text VALUE";
+
+const FRAGMENTS_HELP: &str =
+    "The paths of the fragments, and variables of the Kconfig: NAME=VALUE gives $(NAME) the text VALUE";
 
 fn variables_option<'a>(alloc: Global) -> Arg<'a> {
     Arg::new(alloc, "variables")

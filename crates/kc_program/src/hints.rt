@@ -1,11 +1,9 @@
 //! What is said of a word of the command line that is no variable, after the mistake of usage.
 
 ghost use Rattle.std.specs.Prelude.{◌≡◌};
-ghost use Rattle.std.specs.List.{find};
-ghost use Rattle.kc_program.specs.Hints.{hint_of, is_no_variable};
+ghost use Rattle.kc_program.specs.Hints.{hint_of};
 
-use crate::targets::Subcommand;
-use crate::variables::is_variable;
+use crate::targets::{Operands, Subcommand};
 use std::fmt;
 
 /// What is wrong with a word after the files.
@@ -29,14 +27,13 @@ pub struct Hint<'a> {
 }
 
 impl<'a> Hint<'a> {
-    /// What is wrong with the first word after the files of a subcommand that is no variable, if there is one.
-    pub fn of(row: &Subcommand, words: &[&'a str]) -> Option<Hint<'a>> {
-        let word = first_malformed(words)?;
-        Some(Hint {
+    /// What is wrong with a word after the files of a subcommand, which is no variable and one too many.
+    pub fn of(row: &Subcommand, word: &'a str) -> Hint<'a> {
+        Hint {
             target: row.name,
             word,
-            kind: kind_of(word, row.takes_config),
-        })
+            kind: kind_of(word, row.operands != Operands::Nothing),
+        }
     }
 }
 
@@ -52,13 +49,6 @@ impl fmt::Display for Hint<'_> {
             HintKind::NoName => writeln!(f, "tip: what '{word}' has before its '=' is no NAME"),
         }
     }
-}
-
-/// The first word that is no variable.
-fn first_malformed<'a>(words: &[&'a str]) -> Option<&'a str>
-    ensures { result ≡ find (λ word. is_no_variable word.now) words.now }
-{
-    words.iter().copied().find(|word| !is_variable(*word))
 }
 
 /// What is wrong with a word that is no variable, after the files of a target that takes a CONFIG or takes none.

@@ -16,6 +16,8 @@ mod opening;
 mod paths_read;
 mod read_ahead;
 mod refusals;
+mod report_texts;
+mod reports;
 mod running;
 mod sourcing;
 mod targets;

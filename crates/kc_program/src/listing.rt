@@ -2,7 +2,7 @@
 
 use crate::explanations::{Wording, report_of};
 use crate::folder::Folder;
-use crate::messages::{Fault, Report};
+use crate::messages::{Fault, Report, Status};
 use crate::opening::{Files, Kconfig, open_kconfig};
 use crate::paths_read::paths_read;
 use bumpalo::Bump;
@@ -21,7 +21,7 @@ pub(crate) fn list_files<F: Folder, W: Write>(
     kconfig: &Kconfig<'_, F>,
     wording: Wording,
     output: &mut W,
-) -> Result<(), Report> {
+) -> Result<Status, Report> {
     let mut files = match Files::new(alloc, kconfig) {
         Ok(files) => files,
         Err(fault) => return Err(Report::of(fault, wording)),
@@ -32,7 +32,7 @@ pub(crate) fn list_files<F: Folder, W: Write>(
         Err(fault) => return Err(report_of(alloc, fault, wording, &files, kconfig)),
     }
     match write_paths(alloc, &files, kconfig, output) {
-        Ok(()) => Ok(()),
+        Ok(()) => Ok(Status::Done),
         Err(fault) => Err(Report::of(fault, wording)),
     }
 }

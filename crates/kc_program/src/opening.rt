@@ -1,17 +1,20 @@
 //! From the files of a folder to a session: each file is read as it is wanted, or ahead of that.
 
-ghost use Rattle.std.specs.Prelude.{◌≡◌, IfOk, MatchOption, MatchResult};
+ghost use Rattle.std.specs.Prelude.{◌≡◌, ◌≤◌, IfOk, MatchOption, MatchResult, length};
+ghost use Rattle.kc_text.specs.declared.reading.TheConstants.{MOST_LINES};
 ghost use Rattle.std.specs.Str.{IsUtf8};
 ghost use Rattle.std.specs.String.{string_bytes};
 
+use crate::arguments::Arguments;
 use crate::folder::{Folder, FolderFault};
 use crate::messages::Fault;
 use crate::read_ahead::{Named, Reach, Waiting, path_of_source};
+use crate::targets::Target;
 use bumpalo::Bump;
 use kc_files::{Prefix, Warning};
 use kc_session::{OpenFault, Session, open_seeded};
 use kc_text::{Line, Sources, Text, TextFault, TextProblem, Vars, logical_lines};
-use kc_tree::Seed;
+use kc_tree::{Seed, TreeFault, all_faults};
 use std::alloc::{AllocError, Global};
 use std::collections::{HashMap, HashSet};
 use std::str::from_utf8;
@@ -82,6 +85,26 @@ pub fn read_config_file<F: Folder>(
     }
 }
 
+/// The fragments of a command line, each of which has to be short enough for a `.config`.
+pub fn read_fragments<F: Folder>(
+    alloc: Global,
+    arguments: &Arguments<'_>,
+    folder: &F,
+) -> Result<Vec<ConfigFile>, Fault> {
+    let mut fragments = Vec::new(alloc);
+    if arguments.target != Target::Merge {
+        return Ok(fragments);
+    }
+    for path in arguments.operands.as_slice() {
+        let fragment = read_config_file(alloc, folder, path)?;
+        if fragment.bytes.len() > MOST_BYTES || fragment.long_line().is_some() {
+            return Err(Fault::Limit(Text::copy_of(alloc, path)?));
+        }
+        fragments.push(fragment)?;
+    }
+    Ok(fragments)
+}
+
 /// A Kconfig that is to be opened with the values of a `.config`.
 #[derive(Drop)]
 pub struct Kconfig<'a, F> {
@@ -101,8 +124,57 @@ pub struct Kconfig<'a, F> {
 /// A session, and the warnings of the `.config` in the order of its lines.
 pub type Opened = (Session, Vec<Warning>);
 
+/// What is made of the texts of a Kconfig, once all files are there.
+pub trait Opening {
+    type Opened: Drop;
+
+    /// What the texts of files give, or what is wrong with them, which may be that a file is missing. Names are kept under
+    /// the hash of a seed.
+    fn open<F>(
+        &self,
+        alloc: Global,
+        seed: Seed,
+        sources: &Sources,
+        kconfig: &Kconfig<'_, F>,
+    ) -> Result<Self::Opened, OpenFault>;
+}
+
+/// A session alone.
+#[derive(Clone, Copy)]
+pub struct PlainOpening;
+
+impl Opening for PlainOpening {
+    type Opened = Opened;
+
+    fn open<F>(
+        &self,
+        alloc: Global,
+        seed: Seed,
+        sources: &Sources,
+        kconfig: &Kconfig<'_, F>,
+    ) -> Result<Opened, OpenFault> {
+        open_seeded(
+            alloc,
+            seed,
+            sources,
+            kconfig.vars,
+            kconfig.top,
+            kconfig.prefix,
+            kconfig.config.bytes(),
+        )
+    }
+}
+
 /// The session of a Kconfig with the values of its `.config`, and the warnings in the order of its lines. The answer is
 /// that of reading the files that `open` wants, one at a time.
+pub fn open_kconfig<F: Folder>(
+    files: &mut Files<'_, F>,
+    kconfig: &Kconfig<'_, F>,
+) -> Result<Opened, Fault> {
+    open_files(files, kconfig, &PlainOpening)
+}
+
+/// What an opening makes of the files of a Kconfig, as if each had been read when it was wanted.
 ///
 /// What `open` answers depends on the variables and on the texts of the paths that it looks up alone, so files that
 /// are read ahead change nothing, whether they are wanted later or not. They only take part in the limits on all
@@ -110,23 +182,25 @@ pub type Opened = (Session, Vec<Warning>);
 /// read ahead, and in the end nothing. A file that was wanted is not read twice: it may be a pipe.
 ///
 /// The files serve to read lines again that a fault or a warning names.
-pub fn open_kconfig<F: Folder>(
+pub fn open_files<F: Folder, O: Opening>(
     files: &mut Files<'_, F>,
     kconfig: &Kconfig<'_, F>,
-) -> Result<Opened, Fault> {
-    match files.open(kconfig, Reach::Everything) {
-        Err(Fault::Full(_) | Fault::NoMemory) => open_with_less(files, kconfig),
+    opening: &O,
+) -> Result<O::Opened, Fault> {
+    match files.open(kconfig, opening, Reach::Everything) {
+        Err(Fault::Full(_) | Fault::NoMemory) => open_with_less(files, kconfig, opening),
         answer => answer,
     }
 }
 
 /// The same, where not all that is named can be read ahead.
-fn open_with_less<F: Folder>(
+fn open_with_less<F: Folder, O: Opening>(
     files: &mut Files<'_, F>,
     kconfig: &Kconfig<'_, F>,
-) -> Result<Opened, Fault> {
-    match files.open(kconfig, Reach::Unindented) {
-        Err(Fault::Full(_) | Fault::NoMemory) => files.open(kconfig, Reach::Nothing),
+    opening: &O,
+) -> Result<O::Opened, Fault> {
+    match files.open(kconfig, opening, Reach::Unindented) {
+        Err(Fault::Full(_) | Fault::NoMemory) => files.open(kconfig, opening, Reach::Nothing),
         answer => answer,
     }
 }
@@ -189,8 +263,17 @@ impl<'a, F: Folder> Files<'a, F> {
         &'b self,
         arena: &'b Bump,
         kconfig: &'b Kconfig<'_, F>,
-    ) -> Result<Vec<Line<'b>>, TextFault> {
+    ) -> Result<Vec<Line<'b>>, TextFault>
+        ensures few { IfOk result (λ lines. length lines.items ≤ MOST_LINES) }
+    {
         logical_lines(self.alloc, arena, &self.sources, kconfig.vars, kconfig.top)
+    }
+
+    /// All faults of the lines, the symbols and the choices of the files that were read.
+    pub fn faults(&self, kconfig: &Kconfig<'_, F>) -> Result<Vec<TreeFault>, TextFault> {
+        let arena = Bump::new(self.alloc);
+        let lines = self.lines(&arena, kconfig)?;
+        Ok(all_faults(self.alloc, self.seed, lines.as_slice())?)
     }
 
     /// The text of the file of a path, for a message: none where it is not held and can't be read again.
@@ -285,36 +368,28 @@ impl<'a, F: Folder> Files<'a, F> {
         }
     }
 
-    /// The session, by reading files until none is wanted. There is no end but an answer: each turn adds a file that was
-    /// not there, and `Sources` refuses those that are too many.
-    fn open(&mut self, kconfig: &Kconfig<'_, F>, reach: Reach) -> Result<Opened, Fault> {
+    /// What an opening gives, by reading files until none is wanted. There is no end but an answer: each turn adds a file
+    /// that was not there, and `Sources` refuses those that are too many.
+    fn open<O: Opening>(
+        &mut self,
+        kconfig: &Kconfig<'_, F>,
+        opening: &O,
+        reach: Reach,
+    ) -> Result<O::Opened, Fault> {
         self.start(reach);
-        let mut answer = self.open_sources(kconfig);
+        let mut answer = opening.open(self.alloc, self.seed, &self.sources, kconfig);
         for _ in 0..u64::MAX {
             let Err(fault) = answer else {
                 break;
             };
             let want = want_of(self.alloc, fault, kconfig.config)?;
             self.read_wanted(kconfig, &want)?;
-            answer = self.open_sources(kconfig);
+            answer = opening.open(self.alloc, self.seed, &self.sources, kconfig);
         }
         match answer {
             Ok(opened) => Ok(opened),
             Err(fault) => Err(fault_of(self.alloc, fault, kconfig.config)),
         }
-    }
-
-    /// What the Kconfig is with these files alone.
-    fn open_sources(&self, kconfig: &Kconfig<'_, F>) -> Result<Opened, OpenFault> {
-        open_seeded(
-            self.alloc,
-            self.seed,
-            &self.sources,
-            kconfig.vars,
-            kconfig.top,
-            kconfig.prefix,
-            kconfig.config.bytes.as_slice(),
-        )
     }
 
     /// Reads the file that is wanted, and then what may be read ahead.

@@ -10,8 +10,11 @@ use crate::folder_from::FolderFrom;
 use crate::listing::list_files;
 use crate::make_text::make_text;
 use crate::messages::{Fault, Report, Status, write_report_in_pieces, write_warnings};
-use crate::opening::{ConfigFile, Files, Kconfig, open_kconfig, read_config_file};
+use crate::opening::{
+    ConfigFile, Files, Kconfig, open_files, open_kconfig, read_config_file, read_fragments,
+};
 use crate::refusals::ExplainedReplies;
+use crate::reports::{Outcome, ReportOpening};
 use crate::targets::Target;
 use crate::variables_file::{VariablesFileFault, read_variables, with_words};
 use clap::Error;
@@ -19,10 +22,14 @@ use clap::error::ErrorKind;
 use kc_files::Warning;
 use kc_session::{IoFault, Reply, Session, run};
 use kc_text::{Text, Vars};
+use kc_tree::TreeFault;
 use std::alloc::Global;
 use std::convert::AsStr;
 use std::io::{self, Read, Write};
 use std::mem;
+
+/// The most faults of a Kconfig that are explained, as the lines are read again for each.
+const MOST_EXPLAINED: usize = 16;
 
 /// What is said of a malformed line of a file of variables.
 const MALFORMED_LINE: &str =
@@ -82,7 +89,7 @@ fn answer<F: Folder, R: Read, W: Write, E: Write>(
         Err(_) => Err(Report::of(Fault::NoMemory, arguments.wording)),
     };
     match served {
-        Ok(()) => Status::Done,
+        Ok(status) => status,
         Err(fault) => report(alloc, &fault, errors),
     }
 }
@@ -115,7 +122,7 @@ fn serve<F: Folder, R: Read, W: Write, E: Write>(
     input: &mut R,
     output: &mut W,
     errors: &mut E,
-) -> Result<(), Report> {
+) -> Result<Status, Report> {
     let wording = arguments.wording;
     let (vars, config) = match read_inputs(alloc, arguments.config, variables, folder) {
         Ok(inputs) => inputs,
@@ -129,11 +136,27 @@ fn serve<F: Folder, R: Read, W: Write, E: Write>(
         prefix: &arguments.prefix,
         config: &config,
     };
-    if arguments.target == Target::Files {
-        return list_files(alloc, &kconfig, wording, output);
+    match arguments.target {
+        Target::Files => list_files(alloc, &kconfig, wording, output),
+        Target::Why | Target::Check | Target::Merge | Target::Menu => {
+            serve_report(alloc, arguments, &kconfig, output, errors)
+        }
+        target => serve_session(alloc, target, &kconfig, wording, input, output, errors),
     }
-    let mut session = open_session(alloc, &kconfig, wording, errors)?;
-    let served = match (arguments.target, wording) {
+}
+
+/// Writes what a target asks of a session.
+fn serve_session<F: Folder, R: Read, W: Write, E: Write>(
+    alloc: Global,
+    target: Target,
+    kconfig: &Kconfig<'_, F>,
+    wording: Wording,
+    input: &mut R,
+    output: &mut W,
+    errors: &mut E,
+) -> Result<Status, Report> {
+    let mut session = open_session(alloc, kconfig, wording, errors)?;
+    let served = match (target, wording) {
         (Target::Session, Wording::Explained) => {
             let mut output = ExplainedReplies::new(output, errors);
             write_target(alloc, Target::Session, &mut session, input, &mut output)
@@ -143,9 +166,86 @@ fn serve<F: Folder, R: Read, W: Write, E: Write>(
     // The program ends here, so its memory need not be given back piece by piece.
     mem::forget(session);
     match served {
-        Ok(()) => Ok(()),
+        Ok(()) => Ok(Status::Done),
         Err(fault) => Err(Report::of(fault, wording)),
     }
+}
+
+/// Writes a report on a Kconfig and its values.
+fn serve_report<F: Folder, W: Write, E: Write>(
+    alloc: Global,
+    arguments: &Arguments<'_>,
+    kconfig: &Kconfig<'_, F>,
+    output: &mut W,
+    errors: &mut E,
+) -> Result<Status, Report> {
+    let wording = arguments.wording;
+    let fragments = match read_fragments(alloc, arguments, kconfig.folder) {
+        Ok(fragments) => fragments,
+        Err(fault) => return Err(report_of_inputs(alloc, fault, wording, kconfig.folder)),
+    };
+    let mut files = match Files::new(alloc, kconfig) {
+        Ok(files) => files,
+        Err(fault) => return Err(Report::of(fault, wording)),
+    };
+    let opening = ReportOpening {
+        arguments: &*arguments,
+        fragments: fragments.as_slice(),
+    };
+    match open_files(&mut files, kconfig, &opening) {
+        Ok(outcome) => {
+            let warnings = outcome.warnings.as_slice();
+            warn(alloc, &files, kconfig, wording, warnings, errors);
+            write_outcome(&outcome, wording, output, errors)
+        }
+        Err(Fault::Tree(fault)) if arguments.target == Target::Check => {
+            report_all(alloc, fault, wording, &files, kconfig, errors)
+        }
+        Err(fault) => Err(report_of(alloc, fault, wording, &files, kconfig)),
+    }
+}
+
+/// Writes what a report gives. What cannot be written to `errors` changes nothing else.
+fn write_outcome<W: Write, E: Write>(
+    outcome: &Outcome,
+    wording: Wording,
+    output: &mut W,
+    errors: &mut E,
+) -> Result<Status, Report> {
+    let _ = errors.write_all(outcome.errors.as_str().as_bytes());
+    let written = match write_bytes(outcome.output.as_str().as_bytes(), output) {
+        Ok(()) => flush(output),
+        Err(fault) => Err(fault),
+    };
+    match written {
+        Ok(()) => Ok(outcome.status),
+        Err(fault) => Err(Report::of(fault, wording)),
+    }
+}
+
+/// Reports all faults of the lines, the symbols and the choices of a Kconfig, with the one that is reported by other targets
+/// first.
+fn report_all<F: Folder, E: Write>(
+    alloc: Global,
+    first: TreeFault,
+    wording: Wording,
+    files: &Files<'_, F>,
+    kconfig: &Kconfig<'_, F>,
+    errors: &mut E,
+) -> Result<Status, Report> {
+    let Ok(faults) = files.faults(kconfig) else {
+        return Err(report_of(alloc, Fault::Tree(first), wording, files, kconfig));
+    };
+    for (index, fault) in faults.into_iter().enumerate() {
+        let wording = if index < MOST_EXPLAINED {
+            wording
+        } else {
+            Wording::Number
+        };
+        let fault = report_of(alloc, Fault::Tree(fault), wording, files, kconfig);
+        report(alloc, &fault, errors);
+    }
+    Ok(Status::Fault)
 }
 
 /// The variables that are given, and the CONFIG of a path.

@@ -1,6 +1,6 @@
 //! The targets of the program: what each subcommand is named, reads and writes.
 ghost use Rattle.std.specs.Prelude.{◌≡◌};
-ghost use Rattle.kc_program.specs.Targets.{edit_of, query_of};
+ghost use Rattle.kc_program.specs.Targets.{begins_with_config, edit_of, query_of, word_counts};
 
 use kc_session::Command;
 
@@ -23,8 +23,54 @@ pub enum Target {
     Allyesconfig,
     /// The paths of the files of the Kconfig.
     Files,
+    /// Why symbols have their values.
+    Why,
+    /// What is doubtful in the Kconfig and in CONFIG.
+    Check,
+    /// The `.config` text of CONFIG and fragments.
+    Merge,
+    /// The menu tree.
+    Menu,
     /// The replies to the commands of standard input.
     Session,
+}
+
+/// Which words a subcommand takes after KCONFIG, beside `NAME=VALUE`.
+#[derive(Clone, Copy, Debug, PartialEq, Eq)]
+pub enum Operands {
+    /// None.
+    Nothing,
+    /// CONFIG.
+    Config,
+    /// CONFIG, which may be left out.
+    PerhapsConfig,
+    /// CONFIG, and the names of symbols.
+    ConfigAndSymbols,
+    /// CONFIG, and the paths of fragments.
+    ConfigAndFragments,
+}
+
+impl Operands {
+    /// Whether the first word after KCONFIG is CONFIG, whatever its form is.
+    pub fn begin_with_config(self) -> bool
+        ensures { result ≡ begins_with_config self }
+    {
+        match self {
+            Operands::Nothing | Operands::PerhapsConfig => false,
+            Operands::Config | Operands::ConfigAndSymbols | Operands::ConfigAndFragments => true,
+        }
+    }
+
+    /// Which numbers of words that are no `NAME=VALUE` may come after these: the fewest and the most.
+    pub fn word_counts(self) -> (usize, usize)
+        ensures { result ≡ word_counts self }
+    {
+        match self {
+            Operands::Nothing | Operands::Config => (0, 0),
+            Operands::PerhapsConfig => (0, 1),
+            Operands::ConfigAndSymbols | Operands::ConfigAndFragments => (1, usize::MAX),
+        }
+    }
 }
 
 /// A subcommand, as its help describes it.
@@ -32,8 +78,8 @@ pub enum Target {
 pub struct Subcommand {
     pub name: &'static str,
     pub target: Target,
-    /// Whether it takes a CONFIG after KCONFIG.
-    pub takes_config: bool,
+    /// Which words come after KCONFIG.
+    pub operands: Operands,
     /// What it does, in a line.
     pub about: &'static str,
     /// Where its output goes, with an example.
@@ -41,11 +87,11 @@ pub struct Subcommand {
 }
 
 /// All subcommands, in the order of the help.
-pub static SUBCOMMANDS: [Subcommand; 9] = [
+pub static SUBCOMMANDS: [Subcommand; 13] = [
     Subcommand {
         name: "olddefconfig",
         target: Target::Olddefconfig,
-        takes_config: true,
+        operands: Operands::Config,
         about: "Writes the whole .config: the values of CONFIG, and the defaults of all other symbols",
         notes: "Standard output is the text of the .config alone; CONFIG itself is not changed.
 Warnings and errors go to standard error. The status is 0 (also with warnings), 1
@@ -57,7 +103,7 @@ Example:
     Subcommand {
         name: "savedefconfig",
         target: Target::Savedefconfig,
-        takes_config: true,
+        operands: Operands::Config,
         about: "Writes the defconfig: only the values of CONFIG that differ from the defaults",
         notes: "Standard output is the lines of the defconfig alone. Warnings and errors go to
 standard error. The status is 0 (also with warnings), 1 after an error, 2 after a
@@ -69,7 +115,7 @@ Example:
     Subcommand {
         name: "listnewconfig",
         target: Target::Listnewconfig,
-        takes_config: true,
+        operands: Operands::Config,
         about: "Lists the symbols that can be set and that CONFIG does not set, with their values",
         notes: "Standard output is a line NAME=VALUE for each of these symbols. Warnings and
 errors go to standard error. The status is 0 (also with warnings), 1 after an
@@ -81,7 +127,7 @@ Example:
     Subcommand {
         name: "genheader",
         target: Target::Genheader,
-        takes_config: true,
+        operands: Operands::Config,
         about: "Writes the C header: a #define for each value of the .config",
         notes: "Standard output is the text of the header alone. Warnings and errors go to
 standard error. The status is 0 (also with warnings), 1 after an error, 2 after a
@@ -93,7 +139,7 @@ Example:
     Subcommand {
         name: "genmake",
         target: Target::Genmake,
-        takes_config: true,
+        operands: Operands::Config,
         about: "Writes the values as make reads them: a line NAME=VALUE for each that is not n",
         notes: "Standard output is what a makefile includes, as the auto.conf of the Linux kernel:
 strings are without quotes, and $ and # are written as $$ and \\#. Warnings and
@@ -106,7 +152,7 @@ Example:
     Subcommand {
         name: "allnoconfig",
         target: Target::Allnoconfig,
-        takes_config: false,
+        operands: Operands::Nothing,
         about: "Writes a .config with n for each symbol that can be n",
         notes: "Standard output is the text of the .config alone. Errors go to standard error. The
 status is 0, 1 after an error, 2 after a usage error.
@@ -117,7 +163,7 @@ Example:
     Subcommand {
         name: "allyesconfig",
         target: Target::Allyesconfig,
-        takes_config: false,
+        operands: Operands::Nothing,
         about: "Writes a .config with y for each symbol that can be y",
         notes: "Standard output is the text of the .config alone. Errors go to standard error. The
 status is 0, 1 after an error, 2 after a usage error.
@@ -128,7 +174,7 @@ Example:
     Subcommand {
         name: "files",
         target: Target::Files,
-        takes_config: false,
+        operands: Operands::Nothing,
         about: "Lists the files that KCONFIG is read from: itself and all that it sources",
         notes: "Standard output is the paths, one on each line, each once, in the order in which
 they are first read. Errors go to standard error. The status is 0, 1 after an
@@ -138,9 +184,74 @@ Example:
   kconf files Kconfig | sed 's/^/.config: /' > .config.d",
     },
     Subcommand {
+        name: "why",
+        target: Target::Why,
+        operands: Operands::ConfigAndSymbols,
+        about: "Says why symbols have their values: the line that gives each, and what bounds it",
+        notes: "NAME is the name of a symbol, with the prefix or without it. A value is that of the
+.config that 'olddefconfig' writes. Each condition is shown with its own value before
+it, and with the values of the symbols in it. Of long lists the first are shown, and
+all with --all.
+
+Warnings and errors go to standard error. The status is 0 (also with warnings), 1
+after an error, also where no symbol has a name, and 2 after a usage error.
+
+Example:
+  kconf why Kconfig .config NET USB_STORAGE",
+    },
+    Subcommand {
+        name: "check",
+        target: Target::Check,
+        operands: Operands::PerhapsConfig,
+        about: "Lists what is doubtful: lines without effect, undefined names, unmet dependencies",
+        notes: "Standard output is a line PATH:LINE: NAME: WORDS for each finding, those of the
+Kconfig first, then those of CONFIG, each in the order of their lines, and at the end
+how many there are. An undefined name is listed where it is near a defined one, and
+with --undefined always.
+
+Where the Kconfig has errors, all of them are reported on standard error, and nothing
+else is checked. The status is 0, also with findings, which --strict makes 1; 1 after
+an error, 2 after a usage error.
+
+Example:
+  kconf check Kconfig .config",
+    },
+    Subcommand {
+        name: "merge",
+        target: Target::Merge,
+        operands: Operands::ConfigAndFragments,
+        about: "Writes the .config of CONFIG and fragments, and reports each line without effect",
+        notes: "FRAGMENT is the path of a .config with some lines, which replace those of CONFIG and
+of the fragments before it; write ./A=B for a path A=B. Standard output is the text of
+the .config alone. Standard error has a line for each line of a fragment that another
+one replaces, that cannot be used or that has no effect, with the reason; then one for
+each line of CONFIG that the fragments cost; and counts.
+
+The status is 0, also where lines have no effect, which --strict makes 1; 1 after an
+error, 2 after a usage error.
+
+Example:
+  kconf merge Kconfig x86_64_defconfig net.config debug.config > .config",
+    },
+    Subcommand {
+        name: "menu",
+        target: Target::Menu,
+        operands: Operands::Config,
+        about: "Writes the menu tree for front ends: a JSON object on each line",
+        notes: "Standard output has an object for each menu, choice, comment and definition of a
+symbol, in the order of the Kconfig: its prompt, help, place and conditions, and what
+is shown and can be set with the values of CONFIG. docs/MENU.md describes the fields.
+
+Warnings and errors go to standard error. The status is 0 (also with warnings), 1
+after an error, 2 after a usage error.
+
+Example:
+  kconf menu Kconfig .config > menu.jsonl",
+    },
+    Subcommand {
         name: "session",
         target: Target::Session,
-        takes_config: true,
+        operands: Operands::Config,
         about: "Answers commands that it reads from standard input, one on each line",
         notes: "Commands, with one space between the words. K is one to seven digits.
   set NAME VALUE  gives a symbol a user value; y chooses a member of a choice
@@ -191,8 +302,8 @@ impl Target {
         }
     }
 
-    /// The command whose text is the output, or from which the output is made. A list of files needs none, and a session
-    /// serves those that it reads.
+    /// The command whose text is the output, or from which the output is made. A list of files and a report need none, and
+    /// a session serves those that it reads.
     pub fn query<'a>(self) -> Option<Command<'a>>
         ensures { result ≡ query_of self }
     {
@@ -202,6 +313,7 @@ impl Target {
             Target::Savedefconfig => Some(Command::Defconfig),
             Target::Listnewconfig => Some(Command::New),
             Target::Genheader => Some(Command::Header),
+            Target::Why | Target::Check | Target::Merge | Target::Menu => None,
             Target::Files | Target::Session => None,
         }
     }

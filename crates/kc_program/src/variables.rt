@@ -1,46 +1,58 @@
 //! The variables that the words of a command line give, as `NAME=VALUE`.
-ghost use Rattle.std.specs.Prelude.{◌≡◌, true, Some, Err, map, option_map, is_none, is_some, IfOk};
-ghost use Rattle.std.specs.List.{list_all, list_any};
+ghost use Rattle.std.specs.Prelude.{◌≡◌, map, option_map, is_none, is_some, IfOk};
+ghost use Rattle.std.specs.List.{filter, filter_map, list_all};
 ghost use Rattle.kc_program.specs.Variables.{is_name, is_name_byte, variable_of};
 
-use std::alloc::{AllocFailed, Global};
+use std::alloc::{AllocError, Global};
 
-/// Why words give no variables.
-#[derive(Clone, Copy, PartialEq, Eq)]
-pub enum VariableFault {
-    /// A word is not `NAME=VALUE`.
-    Malformed,
-    /// Memory was refused.
-    NoMemory,
+/// The words after the files of a subcommand.
+#[derive(Drop)]
+pub struct Words<'a> {
+    /// Those that are `NAME=VALUE`, each as its name and its text.
+    pub variables: Vec<(&'a str, &'a str)>,
+    /// The others.
+    pub others: Vec<&'a str>,
 }
 
-impl<T: Drop> From<AllocFailed<T>> for VariableFault {
-    ghost use Rattle.std.specs.Prelude.{◌≡◌};
-    ghost use Rattle.kc_program.specs.declared.variables.VariableFault.TheVariants.{NoMemory};
-
-    ghost from_gives = { λ _ fault. fault ≡ NoMemory };
-
-    fn from(_refused: AllocFailed<T>) -> VariableFault {
-        VariableFault::NoMemory
+impl<'a> Words<'a> {
+    /// Words as what each of them is, in their order.
+    ///
+    /// # Errors
+    ///
+    /// `AllocError` where memory is refused.
+    pub fn of(alloc: Global, words: &[&'a str]) -> Result<Words<'a>, AllocError>
+        ensures variables { IfOk result (λ r. map (λ v. (v.0.now, v.1.now)) r.variables.items ≡ filter_map variable_of (map (λ word. word.now) words.now)) }
+        ensures others { IfOk result (λ r. r.others.items ≡ filter (λ word. is_none (variable_of word.now)) words.now) }
+    {
+        Ok(Words {
+            variables: variables_of(alloc, words)?,
+            others: others_of(alloc, words)?,
+        })
     }
 }
 
-/// The variables of words, each as its name and its text.
-pub fn variables_of<'a>(
-    alloc: Global,
-    words: &[&'a str],
-) -> Result<Vec<(&'a str, &'a str)>, VariableFault>
-    ensures variables { IfOk result (λ found. map (λ v. Some (v.0.now, v.1.now)) found.items ≡ map (λ word. variable_of word.now) words.now) }
-    ensures malformed { (result ≡ Err VariableFault.Malformed) → (list_any (λ word. is_none (variable_of word.now)) words.now ≡ true) }
+/// The variables among words, each as its name and its text.
+fn variables_of<'a>(alloc: Global, words: &[&'a str]) -> Result<Vec<(&'a str, &'a str)>, AllocError>
+    ensures { IfOk result (λ found. map (λ v. (v.0.now, v.1.now)) found.items ≡ filter_map variable_of (map (λ word. word.now) words.now)) }
 {
     let mut variables = Vec::new(alloc);
-    for word in words {
-        let Some(variable) = variable(word) else {
-            return Err(VariableFault::Malformed);
-        };
-        variables.push(variable)?;
+    for word in words.iter().copied() {
+        if let Some(variable) = variable(word) {
+            variables.push(variable)?;
+        }
     }
     Ok(variables)
+}
+
+/// The words that are no variables.
+fn others_of<'a>(alloc: Global, words: &[&'a str]) -> Result<Vec<&'a str>, AllocError>
+    ensures { IfOk result (λ found. found.items ≡ filter (λ word. is_none (variable_of word.now)) words.now) }
+{
+    words
+        .iter()
+        .copied()
+        .filter(|word| !is_variable(*word))
+        .collect(alloc)
 }
 
 /// Whether a word is `NAME=VALUE`.

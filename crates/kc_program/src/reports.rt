@@ -1,0 +1,112 @@
+//! The targets that report on a Kconfig and its values: `why`, `check`, `merge` and `menu`. Their texts are made from the
+//! lines, which show where things are, and from the values of a session.
+
+use crate::arguments::Arguments;
+use crate::messages::Status;
+use crate::opening::{ConfigFile, Kconfig, Opening};
+use crate::report_texts::{check_outcome, menu_outcome, merge_outcome, why_outcome};
+use crate::targets::Target;
+use bumpalo::Bump;
+use kc_files::Warning;
+use kc_session::{OpenFault, Session, open_lines};
+use kc_text::{Line, Sources, TextFault, logical_lines};
+use kc_tree::Seed;
+use std::alloc::{AllocError, Global};
+use std::mem;
+
+/// What a report gives.
+#[derive(Drop)]
+pub(crate) struct Outcome {
+    /// What is written to standard output.
+    pub output: String,
+    /// What is written to standard error, after the warnings.
+    pub errors: String,
+    /// The warnings of CONFIG that are written as those of other targets.
+    pub warnings: Vec<Warning>,
+    pub status: Status,
+}
+
+impl Outcome {
+    /// A text for standard output, with warnings.
+    pub fn of_output(alloc: Global, output: String, warnings: Vec<Warning>) -> Outcome {
+        Outcome {
+            output,
+            errors: String::new(alloc),
+            warnings,
+            status: Status::Done,
+        }
+    }
+}
+
+/// What a report is made from, beside the files of the Kconfig and the `.config`.
+#[derive(Drop)]
+pub(crate) struct ReportOpening<'a> {
+    pub arguments: &'a Arguments<'a>,
+    /// The fragments of `merge`, in their order.
+    pub fragments: &'a [ConfigFile],
+}
+
+/// What a report is made from.
+#[derive(Drop)]
+pub(crate) struct ReportInputs<'a> {
+    pub arguments: &'a Arguments<'a>,
+    pub fragments: &'a [ConfigFile],
+    pub config: &'a ConfigFile,
+    /// The names of the variables that are given.
+    pub variables: &'a [(&'a str, &'a str)],
+    pub sources: &'a Sources,
+    pub lines: &'a [Line<'a>],
+}
+
+impl Opening for ReportOpening<'_> {
+    type Opened = Outcome;
+
+    fn open<F>(
+        &self,
+        alloc: Global,
+        seed: Seed,
+        sources: &Sources,
+        kconfig: &Kconfig<'_, F>,
+    ) -> Result<Outcome, OpenFault> {
+        let arena = Bump::new(alloc);
+        let lines = match logical_lines(alloc, &arena, sources, kconfig.vars, kconfig.top) {
+            Ok(lines) => lines,
+            Err(TextFault::NoMemory) => return Err(OpenFault::NoMemory),
+            Err(fault) => return Err(OpenFault::Text(fault)),
+        };
+        let config = kconfig.config.bytes();
+        let opened = open_lines(alloc, seed, lines.as_slice(), kconfig.prefix, config);
+        let (mut session, warnings) = opened?;
+        let inputs = ReportInputs {
+            arguments: self.arguments,
+            fragments: self.fragments,
+            config: kconfig.config,
+            variables: kconfig.variables,
+            sources,
+            lines: lines.as_slice(),
+        };
+        let report = report_on(alloc, &inputs, &mut session, warnings);
+        // The program ends soon, so the memory need not be given back piece by piece.
+        mem::forget(session);
+        report
+    }
+}
+
+/// The report of a target on a session.
+fn report_on(
+    alloc: Global,
+    inputs: &ReportInputs<'_>,
+    session: &mut Session,
+    warnings: Vec<Warning>,
+) -> Result<Outcome, OpenFault> {
+    let report = match inputs.arguments.target {
+        Target::Why => why_outcome(alloc, inputs, session, warnings),
+        Target::Check => check_outcome(alloc, inputs, session),
+        Target::Merge => merge_outcome(alloc, inputs, session),
+        _ => menu_outcome(alloc, inputs, session, warnings),
+    };
+    match report {
+        Ok(report) => Ok(report),
+        Err(AllocError) => Err(OpenFault::NoMemory),
+    }
+}
