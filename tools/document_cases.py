@@ -464,6 +464,7 @@ VALUES: dict[tuple[str, int], Entry] = {
     ("int", 2): Shown("a number and its range"),
     ("hex", 2): Shown("numbers and their ranges"),
     ("Assignable values", 1): RULES,
+    ("Reasons", 1): Without("what kconf why says of Kconfigs in words"),
     ("The text of the `.config`", 1): KCONFIG_OF_NEXT,
     ("The text of the `.config`", 2): Written(),
     ("What uses what, and loops", 1): RULES,
@@ -580,6 +581,7 @@ FAULTS: dict[tuple[str, int], Entry] = {
     ("Warnings", 1): Without("a warning of --explain, which the cases `explained-*` have"),
     ("Warnings", 2): Without("the words of the warnings, which tools/check_explanations.py compares"),
     ("Which error is the first", 1): Rows(order_cases),
+    ("All errors at once", 1): Without("texts with all their errors, which kc_parse_tests/all_faults.rt has"),
     ("K01: a limit is passed", 1): Repeated(
         "a variable that doubles one of 40,000 bytes",
         "A := $(B)$(B)",
