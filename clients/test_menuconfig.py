@@ -312,7 +312,7 @@ class Menus(unittest.TestCase):
     def test_a_fault_of_the_kconfig_ends_it(self) -> None:
         (self.folder / "Kconfig").write_text("menu \"open\"\n", encoding="utf-8")
         self.start()
-        self.sees("menuconfig.py: kconf: Kconfig:1: K07", "status 1")
+        self.sees("menuconfig.py: kconf: Kconfig:2: K07", "status 1")
 
 
 def main() -> int:

@@ -18,6 +18,7 @@ names a line as without effect whose symbol has its value. It needs Kconfiglib (
 import argparse
 import os
 import re
+import shutil
 import subprocess
 import sys
 import tempfile
@@ -85,10 +86,22 @@ def named_by_merge_config(requests, made):
     return {request.place() for request in counting(requests) if request.text not in lines}
 
 
+def readable_copy(folder, scratch):
+    """A copy of a tree in which `modules` is `option modules`, as Kconfiglib 14 knows no other form."""
+    copy = str(Path(scratch) / "tree")
+    shutil.copytree(folder, copy)
+    for path in Path(copy).rglob("Kconfig*"):
+        if path.is_file():
+            text = path.read_text("utf-8")
+            path.write_text(re.sub(r"^([ \t]+)modules$", r"\1option modules", text, flags=re.M), "utf-8")
+    return copy
+
+
 def named_by_zephyr(folder, kconfig, config, paths, variables):
     """The symbols whose user value is not their value."""
-    os.environ.update(variables, srctree=folder)
-    tree = kconfiglib.Kconfig(kconfig, warn=False)
+    with tempfile.TemporaryDirectory() as scratch:
+        os.environ.update(variables, srctree=readable_copy(folder, scratch))
+        tree = kconfiglib.Kconfig(kconfig, warn=False)
     tree.load_config(config)
     for path in paths:
         tree.load_config(path, replace=False)
@@ -156,7 +169,8 @@ def main():
         for tool, names in tools.items():
             counts_of[tool] += names
         has_value = values.get(request.name, "n") == request.value
-        is_wrong = tools["kconf"] == has_value if is_last else False
+        is_replacing = "takes the place of" in said.get(place, "")
+        is_wrong = is_last and not is_replacing and tools["kconf"] == has_value
         wrong += is_wrong
         named = ", ".join(tool for tool, names in tools.items() if names)
         words = said.get(place, "false: the symbol has this value" if has_value else "not named by kconf")

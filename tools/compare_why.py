@@ -20,8 +20,10 @@ import argparse
 import os
 import random
 import re
+import shutil
 import subprocess
 import sys
+import tempfile
 from pathlib import Path
 
 import kconfiglib
@@ -86,6 +88,17 @@ def is_dependency(folder, factor):
     return text[int(factor.group(3)) - 1].split()[0] in ("if", "if(")
 
 
+def readable_copy(folder, scratch):
+    """A copy of a tree in which `modules` is `option modules`, as Kconfiglib 14 knows no other form."""
+    copy = str(Path(scratch) / "tree")
+    shutil.copytree(folder, copy)
+    for path in Path(copy).rglob("Kconfig*"):
+        if path.is_file():
+            text = path.read_text("utf-8")
+            path.write_text(re.sub(r"^([ \t]+)modules$", r"\1option modules", text, flags=re.M), "utf-8")
+    return copy
+
+
 def reverses(expression):
     """The terms of a reverse dependency: each is a symbol with conditions."""
     terms = kconfiglib.split_expr(expression, kconfiglib.OR)
@@ -139,8 +152,9 @@ def main():
     for line in Path(variables).read_text("utf-8").splitlines():
         name, _, value = line.partition("=")
         os.environ[name] = value
-    os.environ["srctree"] = arguments.folder
-    tree = kconfiglib.Kconfig(arguments.kconfig, warn=False)
+    with tempfile.TemporaryDirectory() as scratch:
+        os.environ["srctree"] = readable_copy(arguments.folder, scratch)
+        tree = kconfiglib.Kconfig(arguments.kconfig, warn=False)
     tree.load_config(config)
     symbols = [symbol for symbol in tree.unique_defined_syms if symbol.orig_type != kconfiglib.UNKNOWN]
     drawn = random.Random(arguments.seed).sample(symbols, min(arguments.symbols, len(symbols)))
