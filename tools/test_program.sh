@@ -58,15 +58,15 @@ END
 
 part 'the version' version
 wants kconf --version <<'END'
-kconf 1.0.0
+kconf 1.1.0
 status 0
 END
 wants kconf -V <<'END'
-kconf 1.0.0
+kconf 1.1.0
 status 0
 END
 wants shell 'kconf --help | grep -c "^  [a-z]"' <<'END'
-11
+15
 status 0
 END
 wants shell 'kconf session --help | sed -n "s/^  \([1-7a-z][a-z]*\) .*/\1/p" | tr "\n" " "' <<'END'
@@ -327,7 +327,7 @@ prefix/share/kconf/kconf.mk
 status 0
 END
 wants prefix/bin/kconf --version <<'END'
-kconf 1.0.0
+kconf 1.1.0
 status 0
 END
 wants shell "$root/tools/install.sh $work/install/none $work/missing 2> /dev/null; ls" <<'END'
