@@ -18,13 +18,14 @@ names a line as without effect whose symbol has its value. It needs Kconfiglib (
 import argparse
 import os
 import re
-import shutil
 import subprocess
 import sys
 import tempfile
 from pathlib import Path
 
 import kconfiglib
+
+from compare_why import readable_copy
 
 LINE = re.compile(r"^(?:CONFIG_(\w+)=(.*)|# CONFIG_(\w+) is not set)$")
 LETTERS = {0: "n", 1: "m", 2: "y"}
@@ -81,20 +82,9 @@ def made_by_conf(conf, folder, kconfig, text, variables):
 
 
 def named_by_merge_config(requests, made):
-    """The lines of which the .config has no such line."""
+    """The lines that the .config does not have verbatim."""
     lines = set(made)
     return {request.place() for request in counting(requests) if request.text not in lines}
-
-
-def readable_copy(folder, scratch):
-    """A copy of a tree in which `modules` is `option modules`, as Kconfiglib 14 knows no other form."""
-    copy = str(Path(scratch) / "tree")
-    shutil.copytree(folder, copy)
-    for path in Path(copy).rglob("Kconfig*"):
-        if path.is_file():
-            text = path.read_text("utf-8")
-            path.write_text(re.sub(r"^([ \t]+)modules$", r"\1option modules", text, flags=re.M), "utf-8")
-    return copy
 
 
 def named_by_zephyr(folder, kconfig, config, paths, variables):

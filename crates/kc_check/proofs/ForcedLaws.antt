@@ -42,7 +42,7 @@ some_selected t a (r ∷ rs) =
     ap (λ b. not (is_no (reverse_value t a r)) || b) (some_selected t a rs)
     ∙ sym (some_greatest (reverse_value t a r) (reverse_values t a rs))
 
--- the dependencies of which these are the factors are n where one of them is
+-- dependencies are n where one of their factors is n
 pub some_factor_no : (fs : List Factor) → list_any (λ f. is_no f.value) fs ≡ is_no (least_of (map (λ f. f.value) fs))
 some_factor_no [] = refl
 some_factor_no (f ∷ fs) = ap (λ b. is_no f.value || b) (some_factor_no fs) ∙ sym (no_least f.value (least_of (map (λ f. f.value) fs)))

@@ -21,7 +21,7 @@ marked_or marks s k b inside e =
     (λ other. get_or-set_other marks s k true false other ∙ e ∙ sym (ap (λ x. x || b) (ne_eqb s k (λ same. other (sym same)))))
     (cases_eq k s)
 
--- So many lines are left, of all; what became of those after them, the last first; and which symbols these name.
+-- How many of the lines are still to be read; what became of those after them, the last first; and which symbols these name.
 pub record IsSearch (a : Assignment) (symbols : ℕ) (all left : List ConfigLine) (s : SearchValue) : Type 0 where
   pub later : List ConfigLine
   pub split : left ++ later ≡ all

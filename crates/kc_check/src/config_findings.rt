@@ -216,7 +216,7 @@ impl Report<'_, '_, '_, '_> {
         Ok(words)
     }
 
-    /// Adds the range outside of which a value is, and the value of its symbol.
+    /// Adds the range that a value is outside of, and the value of its symbol.
     fn push_outside(
         &self,
         alloc: Global,
@@ -261,7 +261,7 @@ fn push_choice(words: &mut String, tree: &Tree, choice: ChoiceId) -> Result<(), 
     Ok(())
 }
 
-/// So many places, of which these have a mark.
+/// A mark for each of a number of places: true at these, and false at the others.
 fn marks_of(alloc: Global, count: usize, marked: &[usize]) -> Result<Vec<bool>, AllocError> {
     let mut marks = Vec::with_capacity(alloc, count)?;
     for _ in 0..count {

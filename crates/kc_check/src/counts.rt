@@ -15,7 +15,7 @@ pub struct MergeCounts {
     /// Whose symbol has another value.
     pub other: usize,
     pub unusable: usize,
-    /// Of which a later line of a fragment has the symbol.
+    /// Lines whose symbol a later line of a fragment has.
     pub replaced: usize,
     /// Lines of the `.config` that had an effect before, and have none now.
     pub lost: usize,

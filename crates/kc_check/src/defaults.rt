@@ -34,7 +34,7 @@ pub fn is_unread_text(kind: SymbolType, term: &Term) -> bool
     }
 }
 
-/// The tristate value that a word may be meant as, which is none of the constants n, m and y.
+/// The tristate value that a word other than the constants n, m and y may be meant as.
 pub(crate) fn meant_tri(word: &str) -> Option<Tri> {
     match word {
         "Y" | "yes" | "Yes" | "YES" | "true" | "True" | "TRUE" | "1" => Some(Tri::Yes),

@@ -52,7 +52,7 @@ pub(crate) fn read_fragments<'f>(
     })
 }
 
-/// Adds a number so many times.
+/// Adds a number as many times as the count says.
 fn push_times(places: &mut Vec<usize>, number: usize, count: usize) -> Result<(), AllocError> {
     for _ in 0..count {
         places.push(number)?;

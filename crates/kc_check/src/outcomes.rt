@@ -56,7 +56,7 @@ impl Model for Search {
 }
 
 impl Search {
-    /// A walk before the last line, over lines that name so many symbols.
+    /// A walk before the last line, over the symbols of a tree by their count.
     ///
     /// The error comes where memory is refused.
     fn new(alloc: Global, symbols: usize) -> Result<Search, AllocError>

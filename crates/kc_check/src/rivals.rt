@@ -66,7 +66,7 @@ fn last_lines(
     Ok(last)
 }
 
-/// The choice of which a line sets a member to y, where no later line names that.
+/// The choice whose member a line sets to y, where no later line names that member.
 fn chosen_by(
     tree: &Tree,
     last: &[Option<usize>],

@@ -14,7 +14,7 @@ use Rattle.kc_files.specs.Effects.{found_after, has_effect, is_without_effect, l
 use Rattle.kc_files.specs.NumberedLines.{IsLineFor, IsSaidFor}
 use Rattle.kc_files.proofs.MarkLaws.{marked_or}
 
--- So many lines are left, of all; what was found of those behind them, the last first; and which symbols these name.
+-- How many of the lines are still to be read; what was found of those after them, the last first; and which symbols these name.
 pub record IsSearch (a : Assignment) (symbols : ℕ) (all left : List ConfigLine) (s : SearchValue) : Type 0 where
   pub later : List ConfigLine
   pub split : left ++ later ≡ all
@@ -44,7 +44,7 @@ module _ (a : Assignment) (symbols : ℕ) (all left : List ConfigLine) (s : Sear
   before : s.found ≡ reverse (without_effect_from a (length fewer + 1) h.later)
   before = h.found_is ∙ ap (λ n. reverse (without_effect_from a n h.later)) shorter
 
-  -- the indices with the line in front, by whether its symbol is named behind it, and whether it has its effect
+  -- the indices with the line in front, by whether its symbol is named after it, and whether it has its effect
   found_by : (x : Assign) (named effect : Bool)
       → (if named || effect then s.found else s.found ++ length fewer ∷ [])
       ≡ reverse (if not named && not effect then length fewer ∷ without_effect_from a (length fewer + 1) h.later else without_effect_from a (length fewer + 1) h.later)

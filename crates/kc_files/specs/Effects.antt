@@ -73,7 +73,7 @@ abbrev pub searched_said : Assignment → ℕ → LineSays → SearchValue → S
 searched_said a index (said.Usable x) s = searched_assign a index x s
 searched_said a index (said.Warned k) s = s
 
--- the symbol of a usable line is one of so many
+-- the symbol of a usable line is below the count of symbols
 abbrev pub IsSaidInside : ℕ → LineSays → Type 0
 IsSaidInside symbols (said.Usable x) = x.symbol.0 < symbols
 IsSaidInside symbols (said.Warned k) = Unit {0}

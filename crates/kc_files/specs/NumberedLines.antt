@@ -27,7 +27,7 @@ with_line lines n (reading.Usable a) = lines ++ numbered n (said.Usable a) ∷ [
 with_line lines n (reading.Warned k) = lines ++ numbered n (said.Warned k) ∷ []
 with_line lines n reading.Nothing = lines
 
--- those that say something, of lines of which the first has this number
+-- those that say something, of lines whose first has this number
 abbrev pub lines_from : ℕ → List Reading → List ConfigLine
 lines_from n [] = []
 lines_from n (r ∷ rs) = option_to_list (option_map (numbered n) (says_of r)) ++ lines_from (n + 1) rs

@@ -57,7 +57,7 @@ impl Model for Search {
 }
 
 impl Search {
-    /// A search before the last line, over lines that name so many symbols.
+    /// A search before the last line, over the symbols of a tree by their count.
     ///
     /// The error comes where memory is refused.
     fn new(alloc: Global, symbols: usize) -> Result<Search, AllocError>
@@ -69,7 +69,7 @@ impl Search {
         })
     }
 
-    /// Goes over an assignment, which stands in the line of this index.
+    /// Goes over an assignment, which is in the line of this index.
     fn look(
         &mut self,
         tree: &Tree,

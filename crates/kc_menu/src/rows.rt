@@ -197,7 +197,7 @@ fn has_row(entry: Entry) -> bool
     !matches!(entry, Entry::EndMenu(_))
 }
 
-/// Adds the rows of all entries, before any of which was read.
+/// Adds the rows of all entries, where none was read before.
 fn read_entries(read: &mut RowsSoFar, tree: &Tree) -> Result<(), AllocError>
     requires { AreRowsSoFar tree.now read.old.rows.items read.old.found.items read.old.definitions }
     ensures entries { OnOk result (map (λ r. r.entry) read.new.rows.items

@@ -97,7 +97,7 @@ fn push_definition(
     Ok(())
 }
 
-/// How many are shown of so many, of which at most some are where not all are wanted.
+/// How many of a count are shown: at most some where not all are wanted.
 fn shown_of(extent: Extent, count: usize, most: usize) -> usize
     ensures short { (extent ≡ Short) → result ≤ most }
     ensures all { (extent ≡ All) → result ≡ count }

@@ -10,7 +10,7 @@ use kc_tree::{Expr, Node, SymId, Symbol};
 use kc_value::FactorPart;
 use std::alloc::{AllocError, Global};
 
-/// The most symbols without prompt of which is said who selects them.
+/// The most symbols without prompt whose selecting symbols are named.
 const MOST_SHOWN: usize = 3;
 
 /// The most definitions whose factors are looked through.

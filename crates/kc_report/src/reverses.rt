@@ -167,7 +167,7 @@ pub(crate) fn push_reverses(
     push_rest(text, extent, counted.active.saturating_sub(shown))
 }
 
-/// Whether one more line is shown after so many.
+/// Whether one more line is shown after this count of lines.
 fn is_shown(extent: Extent, is_active: bool, shown: usize) -> bool {
     match extent {
         Extent::Short => is_active && shown < MOST_SHOWN,

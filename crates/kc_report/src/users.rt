@@ -49,7 +49,7 @@ fn count_marked(marks: &[bool]) -> usize {
     marks.iter().filter(|mark| **mark).count()
 }
 
-/// How many are shown of so many.
+/// How many of a count are shown.
 fn shown_of(extent: Extent, count: usize) -> usize {
     match extent {
         Extent::Short => count.min(MOST_SHOWN),
@@ -92,7 +92,7 @@ pub(crate) fn push_users(
     text.push('\n')
 }
 
-/// Adds the names of the first symbols that are marked, so many at most.
+/// Adds the names of the first symbols that are marked, at most as many as the count says.
 fn push_symbols(
     text: &mut String,
     tree: &Tree,
@@ -109,7 +109,7 @@ fn push_symbols(
     Ok(())
 }
 
-/// Adds the first choices that are marked, so many at most.
+/// Adds the first choices that are marked, at most as many as the count says.
 fn push_choices(
     text: &mut String,
     tree: &Tree,

@@ -223,7 +223,7 @@ fn texts_are_merged_in_turn(rt: HostRuntime) -> Result<(), Fail> {
     Ok(())
 }
 
-/// What becomes of three texts of which the second has a line too long, and the value of A after them.
+/// What becomes of three texts, where the second has a line that is too long, and the value of A after them.
 fn show_long(alloc: Global, session: &mut Session) -> Result<String, Fail> {
     let long = "#".repeat(alloc, 65_537)?;
     let found = show_merged(
