@@ -10,7 +10,7 @@
 #
 # - user and system time and memory at its peak at the greater size, and the time for each symbol, line, byte or command;
 # - bytes of memory for a byte of input, without what one symbol takes (wanted: at most 100; 1,013 and 728 of texts that
-#   references put in place);
+#   references put in place; 40 of symbols in 64 blocks that depend on eight names each);
 # - how time and memory for each of them grow from the smaller size (at most 1.3 each);
 # - what conf takes, where it ends within 20 seconds, and the time as times of conf's (at most 2).
 #

@@ -15,8 +15,8 @@ RUNS = 5
 MOST_GROWTH = 1.3
 MOST_TIMES = 2
 MOST_BYTES_EACH = 100
-# Where references put a long text in place again and again, each takes room.
-MOST_BYTES_PLACED = {"long texts": 1_013, "long prompts": 728}
+# Where references put a long text in place again and again, each takes room. What blocks depend on takes it once.
+MOST_BYTES = {"long texts": 1_013, "long prompts": 728, "blocks of eight names": 40}
 MOST_SECONDS = 20
 MOST_MEMORY = 3 << 30
 # Below these a cost is noise: a smaller one counts as this much.
@@ -223,7 +223,7 @@ def measure(shape, target, unit, few, many, status, base):
     memory_growth = growth(few_memory, own_memory, LEAST_MEMORY, many / few)
     bytes_each = own_memory / bytes_of(folder)
     kept = time_growth <= MOST_GROWTH and memory_growth <= MOST_GROWTH
-    kept = kept and (own_memory <= LEAST_MEMORY or bytes_each <= MOST_BYTES_PLACED.get(shape, MOST_BYTES_EACH))
+    kept = kept and (own_memory <= LEAST_MEMORY or bytes_each <= MOST_BYTES.get(shape, MOST_BYTES_EACH))
     times = "-"
     if conf_seconds is not None:
         ratio = growth(conf_seconds, seconds, LEAST_SECONDS, 1)

@@ -468,7 +468,8 @@ VALUES: dict[tuple[str, int], Entry] = {
     ("The text of the `.config`", 1): KCONFIG_OF_NEXT,
     ("The text of the `.config`", 2): Written(),
     ("What uses what, and loops", 1): RULES,
-    ("What uses what, and loops", 2): Without("Kconfigs in words"),
+    ("What uses what, and loops", 2): RULES,
+    ("What uses what, and loops", 3): Without("Kconfigs in words"),
 }
 
 CHOICES: dict[tuple[str, int], Entry] = {

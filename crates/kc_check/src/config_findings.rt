@@ -225,7 +225,7 @@ impl Report<'_, '_, '_, '_> {
     ) -> Result<(), AllocError> {
         let tree = self.view.tree();
         let kind = tree.symbol_type(assign.symbol);
-        let Some(range) = active_range(tree, self.view.values(), assign.symbol) else {
+        let Some(range) = active_range(self.view.known(), assign.symbol) else {
             return Ok(());
         };
         let low = spelled(alloc, kind, range.low)?;
@@ -244,7 +244,7 @@ fn is_outside_range(view: &View<'_>, symbol: SymId) -> bool {
     if (symbol.0 as usize) >= tree.symbols().len() {
         return false;
     }
-    let reason = reason_over(tree, view.user(), view.values(), symbol);
+    let reason = reason_over(view.known(), view.user(), symbol);
     matches!(reason, Reason::OutsideRange { .. })
 }
 

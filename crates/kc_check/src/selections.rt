@@ -96,7 +96,9 @@ pub(crate) fn check_selected(
 
 /// The first of the `select` lines of a symbol that gives it a value.
 fn active_selection(view: &View<'_>, selected: &[Reverse]) -> Option<usize> {
-    selected.iter().position(|line| !reverse_value(view.tree(), view.values(), line).is_no())
+    selected
+        .iter()
+        .position(|line| !reverse_value(view.known(), line).is_no())
 }
 
 /// Adds which symbol selects another by the `select` line of a number, and where: `U (Kconfig:26)`.
@@ -129,7 +131,7 @@ fn push_unmet(
     places: &Places<'_, '_>,
     number: usize,
 ) -> Result<(), AllocError> {
-    let factors = dependency_factors(alloc, view.tree(), view.values(), number)?;
+    let factors = dependency_factors(alloc, view.known(), number)?;
     let Some(factor) = factors.iter().find(|factor| factor.value.is_no()) else {
         return words.push_str("what it depends on");
     };

@@ -32,7 +32,7 @@ pub(crate) fn push_value(
     view: &View<'_>,
     symbol: SymId,
 ) -> Result<(), AllocError> {
-    let text = match view.values().get(view.tree().number(Node::Val(symbol))) {
+    let text = match view.known().get(Node::Val(symbol)) {
         Some(value) => value.as_text(),
         None => "",
     };

@@ -1,10 +1,12 @@
 -- A draft has the text of its pieces.
-use Rattle.std.proofs.Common.{◌≡◌, ℕ, Bool, false, List, [], ◌∷◌, ◌++◌, filter_map, refl, sym, ap, ◌∙◌, append_assoc}
+use Rattle.std.proofs.Common.{◌≡◌, ℕ, Bool, false, List, [], ◌∷◌, ◌++◌, Option, filter_map, refl, sym, ap, ◌∙◌, subst, append_assoc}
 use Rattle.std.proofs.lemmas.List.{append-nil}
 use Rattle.kc_outline.specs.TreeValue.{TreeValue}
+use Rattle.kc_value.specs.declared.value.Value.{Value}
 use Rattle.kc_value.specs.Assignment.{Assignment}
+use Rattle.kc_value.specs.Known.{KnownValue}
 use Rattle.kc_files.specs.ConfigText.{Piece, line_of_symbol, title_of, end_of, piece_bytes, gap, joined, piece_of, config_text_of}
-use Rattle.kc_files.specs.DraftValue.{DraftValue, draft_of, is_end, gap_before, with_piece, with_pieces}
+use Rattle.kc_files.specs.DraftValue.{DraftValue, Agrees, draft_of, is_end, gap_before, with_piece, with_pieces}
 
 -- the bytes that pieces add
 abbrev rest : Bool → List Piece → List ℕ
@@ -59,3 +61,7 @@ text_of_draft t s prefix header a begun ended same begins ends =
     ∙ bytes_rest (draft_of header) pieces
     ∙ ap (λ x. header ++ x) (sym (joined_all pieces))
     ∙ ap (λ (x : TreeValue). config_text_of x prefix header a) same
+
+-- what is known agrees with an assignment with which its values do
+pub agrees_as : (t : TreeValue) (values : List (Option Value)) (k : KnownValue) (a : Assignment) → k.tree ≡ t → k.values ≡ values → Agrees t values a → Agrees k.tree k.values a
+agrees_as t values k a same_tree same_values agrees = subst (λ (x : TreeValue × List (Option Value)). Agrees x.0 x.1 a) (λ i. (sym same_tree i, sym same_values i)) agrees

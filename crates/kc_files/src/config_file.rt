@@ -4,9 +4,9 @@ ghost use Rattle.kc_outline.specs.Entries.{IsEntryOf};
 ghost use Rattle.kc_tree.specs.Nodes.{all_nodes};
 ghost use Rattle.kc_outline.specs.TreeValue.{name_of};
 ghost use Rattle.kc_statement.specs.Tristate.{is_no};
-ghost use Rattle.kc_value.specs.Assignment.{Assignment, assignment_of};
+ghost use Rattle.kc_value.specs.Assignment.{Assignment};
 ghost use Rattle.kc_value.specs.Conditions.{menu_condition, comment_condition};
-ghost use Rattle.kc_value.specs.KnownConditions.{AreSharedBy};
+ghost use Rattle.kc_value.specs.Known.{given};
 ghost use Rattle.kc_value.specs.Solution.{solution, IsOnlySolution};
 ghost use Rattle.kc_tree.specs.Fits.{type_of};
 ghost use Rattle.kc_files.specs.ConfigText.{symbol_line, written_value, title_block, end_line, menu_title, comment_title, line_of_symbol, title_of, end_of, piece_if, piece_of, config_text_of};
@@ -16,38 +16,24 @@ use crate::draft::Draft;
 use crate::prefix::Prefix;
 use crate::symbols::written_value;
 use crate::titles::{comment_title, menu_title};
-use kc_tree::{BlockId, CommentId, Entry, SymId, Tree};
-use kc_value::{
-    NodeValues, Resolver, SharedConditions, all_values, comment_condition, menu_condition,
-};
+use kc_tree::{BlockId, CommentId, Entry, SymId};
+use kc_value::{Known, Resolver, all_values, comment_condition, menu_condition};
 use std::alloc::{AllocError, Global};
 
 /// Whether a menu has its lines: its condition is not n.
-fn menu_shows(
-    tree: &Tree,
-    menu: BlockId,
-    conditions: &SharedConditions,
-    values: &NodeValues,
-) -> bool
-    requires { AreSharedBy tree.now values.now conditions.now }
-    ensures { (a : Assignment) → Agrees tree.now values.now a
-        → result ≡ not (is_no (menu_condition tree.now a menu)) }
+fn menu_shows(known: &Known<'_>, menu: BlockId) -> bool
+    ensures { (a : Assignment) → Agrees known.now.tree known.now.values a
+        → result ≡ not (is_no (menu_condition known.now.tree a menu)) }
 {
-    !menu_condition(tree, menu, conditions, values).is_no()
+    !menu_condition(known, menu).is_no()
 }
 
 /// Whether a comment has its lines: its condition is not n.
-fn comment_shows(
-    tree: &Tree,
-    comment: CommentId,
-    conditions: &SharedConditions,
-    values: &NodeValues,
-) -> bool
-    requires { AreSharedBy tree.now values.now conditions.now }
-    ensures { (a : Assignment) → Agrees tree.now values.now a
-        → result ≡ not (is_no (comment_condition tree.now a comment)) }
+fn comment_shows(known: &Known<'_>, comment: CommentId) -> bool
+    ensures { (a : Assignment) → Agrees known.now.tree known.now.values a
+        → result ≡ not (is_no (comment_condition known.now.tree a comment)) }
 {
-    !comment_condition(tree, comment, conditions, values).is_no()
+    !comment_condition(known, comment).is_no()
 }
 
 /// Whether an entry opens this menu: directly before the menu's end it leaves nothing inside.
@@ -63,36 +49,29 @@ fn opens_menu(menu: BlockId, entry: Option<Entry>) -> bool
 /// Appends the line of a symbol that has one.
 fn push_symbol(
     draft: &mut Draft,
-    tree: &Tree,
+    known: &Known<'_>,
     prefix: &Prefix,
-    values: &NodeValues,
     symbol: SymId,
 ) -> Result<(), AllocError>
     ensures { OnOk result (draft.new ≡ with_option draft.old (option_map
-        (λ v. line_of_symbol (symbol_line prefix.now (name_of tree.now symbol) (type_of tree.now symbol) v))
-        (written_value (assignment_of tree.now values.now) symbol))) }
+        (λ v. line_of_symbol (symbol_line prefix.now (name_of known.now.tree symbol) (type_of known.now.tree symbol) v))
+        (written_value (given known.now) symbol))) }
 {
-    if let Some(value) = written_value(tree, values, symbol) {
+    let tree = known.tree();
+    if let Some(value) = written_value(known, symbol) {
         draft.push_symbol(prefix, tree.name(symbol), tree.symbol_type(symbol), value)?;
     }
     Ok(())
 }
 
 /// Appends the title of a menu that shows.
-fn push_menu(
-    draft: &mut Draft,
-    tree: &Tree,
-    conditions: &SharedConditions,
-    values: &NodeValues,
-    menu: BlockId,
-) -> Result<(), AllocError>
-    requires { AreSharedBy tree.now values.now conditions.now }
-    ensures { OnOk result ((a : Assignment) → Agrees tree.now values.now a
-        → draft.new ≡ with_option draft.old (piece_if (not (is_no (menu_condition tree.now a menu)))
-        (title_of (title_block (menu_title tree.now menu))))) }
+fn push_menu(draft: &mut Draft, known: &Known<'_>, menu: BlockId) -> Result<(), AllocError>
+    ensures { OnOk result ((a : Assignment) → Agrees known.now.tree known.now.values a
+        → draft.new ≡ with_option draft.old (piece_if (not (is_no (menu_condition known.now.tree a menu)))
+        (title_of (title_block (menu_title known.now.tree menu))))) }
 {
-    if menu_shows(tree, menu, conditions, values) {
-        draft.push_title(menu_title(tree, menu))?;
+    if menu_shows(known, menu) {
+        draft.push_title(menu_title(known.tree(), menu))?;
     }
     Ok(())
 }
@@ -100,39 +79,29 @@ fn push_menu(
 /// Appends the end line of a menu that shows and has an entry inside.
 fn push_menu_end(
     draft: &mut Draft,
-    tree: &Tree,
-    conditions: &SharedConditions,
-    values: &NodeValues,
+    known: &Known<'_>,
     before: Option<Entry>,
     menu: BlockId,
 ) -> Result<(), AllocError>
-    requires { AreSharedBy tree.now values.now conditions.now }
-    ensures { OnOk result ((a : Assignment) → Agrees tree.now values.now a
+    ensures { OnOk result ((a : Assignment) → Agrees known.now.tree known.now.values a
         → draft.new ≡ with_option draft.old (piece_if
-        (not (is_no (menu_condition tree.now a menu)) && not (opens_menu menu before))
-        (end_of (end_line (menu_title tree.now menu))))) }
+        (not (is_no (menu_condition known.now.tree a menu)) && not (opens_menu menu before))
+        (end_of (end_line (menu_title known.now.tree menu))))) }
 {
-    if !opens_menu(menu, before) && menu_shows(tree, menu, conditions, values) {
-        draft.push_end(menu_title(tree, menu))?;
+    if !opens_menu(menu, before) && menu_shows(known, menu) {
+        draft.push_end(menu_title(known.tree(), menu))?;
     }
     Ok(())
 }
 
 /// Appends the title of a comment that shows.
-fn push_comment(
-    draft: &mut Draft,
-    tree: &Tree,
-    conditions: &SharedConditions,
-    values: &NodeValues,
-    comment: CommentId,
-) -> Result<(), AllocError>
-    requires { AreSharedBy tree.now values.now conditions.now }
-    ensures { OnOk result ((a : Assignment) → Agrees tree.now values.now a
-        → draft.new ≡ with_option draft.old (piece_if (not (is_no (comment_condition tree.now a comment)))
-        (title_of (title_block (comment_title tree.now comment))))) }
+fn push_comment(draft: &mut Draft, known: &Known<'_>, comment: CommentId) -> Result<(), AllocError>
+    ensures { OnOk result ((a : Assignment) → Agrees known.now.tree known.now.values a
+        → draft.new ≡ with_option draft.old (piece_if (not (is_no (comment_condition known.now.tree a comment)))
+        (title_of (title_block (comment_title known.now.tree comment))))) }
 {
-    if comment_shows(tree, comment, conditions, values) {
-        draft.push_title(comment_title(tree, comment))?;
+    if comment_shows(known, comment) {
+        draft.push_title(comment_title(known.tree(), comment))?;
     }
     Ok(())
 }
@@ -140,62 +109,50 @@ fn push_comment(
 /// Appends what an entry gives, after the entry before it.
 fn push_entry(
     draft: &mut Draft,
-    tree: &Tree,
+    known: &Known<'_>,
     prefix: &Prefix,
-    conditions: &SharedConditions,
-    values: &NodeValues,
     before: Option<Entry>,
     entry: Entry,
 ) -> Result<(), AllocError>
-    requires entry { IsEntryOf tree.now entry }
-    requires conditions { AreSharedBy tree.now values.now conditions.now }
-    ensures { OnOk result ((a : Assignment) → Agrees tree.now values.now a
-        → draft.new ≡ with_option draft.old (piece_after tree.now prefix.now a before entry)) }
+    requires entry { IsEntryOf known.now.tree entry }
+    ensures { OnOk result ((a : Assignment) → Agrees known.now.tree known.now.values a
+        → draft.new ≡ with_option draft.old (piece_after known.now.tree prefix.now a before entry)) }
 {
     match entry {
-        Entry::Symbol(symbol) => push_symbol(draft, tree, prefix, values, symbol),
+        Entry::Symbol(symbol) => push_symbol(draft, known, prefix, symbol),
         Entry::Again(_) | Entry::Choice(_) => Ok(()),
-        Entry::Menu(menu) => push_menu(draft, tree, conditions, values, menu),
-        Entry::EndMenu(menu) => push_menu_end(draft, tree, conditions, values, before, menu),
-        Entry::Comment(comment) => push_comment(draft, tree, conditions, values, comment),
+        Entry::Menu(menu) => push_menu(draft, known, menu),
+        Entry::EndMenu(menu) => push_menu_end(draft, known, before, menu),
+        Entry::Comment(comment) => push_comment(draft, known, comment),
     }
 }
 
 /// Appends what the entries of the tree give.
-fn push_entries(
-    draft: &mut Draft,
-    tree: &Tree,
-    prefix: &Prefix,
-    conditions: &SharedConditions,
-    values: &NodeValues,
-) -> Result<(), AllocError>
-    requires { AreSharedBy tree.now values.now conditions.now }
-    ensures { OnOk result ((a : Assignment) → Agrees tree.now values.now a
-        → draft.new ≡ with_pieces draft.old (filter_map (piece_of tree.now prefix.now a) tree.now.entries)) }
+fn push_entries(draft: &mut Draft, known: &Known<'_>, prefix: &Prefix) -> Result<(), AllocError>
+    ensures { OnOk result ((a : Assignment) → Agrees known.now.tree known.now.values a
+        → draft.new ≡ with_pieces draft.old (filter_map (piece_of known.now.tree prefix.now a) known.now.tree.entries)) }
 {
     let mut before = None;
-    for entry in tree.entries() {
-        push_entry(draft, tree, prefix, conditions, values, before, *entry)?;
+    for entry in known.tree().entries() {
+        push_entry(draft, known, prefix, before, *entry)?;
         before = Some(*entry);
     }
     Ok(())
 }
 
-/// The text of the `.config` over the values of all nodes, which stand in `values` by number: what `config_text` gives
+/// The text of the `.config` over the values of all nodes: what `config_text` gives
 /// where they are those of the solution. The error comes where memory is refused.
 pub fn config_text_over(
     alloc: Global,
-    tree: &Tree,
-    values: &NodeValues,
+    known: &Known<'_>,
     prefix: &Prefix,
     header: &str,
 ) -> Result<String, AllocError>
-    ensures { IfOk result (λ text. (a : Assignment) → Agrees tree.now values.now a
-        → string_bytes text ≡ config_text_of tree.now prefix.now header.now a) }
+    ensures { IfOk result (λ text. (a : Assignment) → Agrees known.now.tree known.now.values a
+        → string_bytes text ≡ config_text_of known.now.tree prefix.now header.now a) }
 {
-    let conditions = SharedConditions::of_blocks(alloc, tree, values)?;
     let mut draft = Draft::new(String::from_str(alloc, header)?);
-    push_entries(&mut draft, tree, prefix, &conditions, values)?;
+    push_entries(&mut draft, known, prefix)?;
     Ok(draft.into_string())
 }
 
@@ -219,6 +176,6 @@ pub fn config_text<R: Resolver>(
     ensures grew { R.grew resolver.old resolver.new (all_nodes (R.tree_of resolver.old)) }
 {
     let values = all_values(alloc, resolver)?;
-    let text = config_text_over(alloc, resolver.tree(), &values, prefix, header)?;
-    Ok(text)
+    let known = Known::of_nodes(resolver.tree(), &values);
+    config_text_over(alloc, &known, prefix, header)
 }

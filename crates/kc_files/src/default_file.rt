@@ -6,113 +6,89 @@ ghost use Rattle.kc_outline.specs.Entries.{IsEntryOf};
 ghost use Rattle.kc_tree.specs.declared.node.Node.TheVariants.{Vis, Val, Sel};
 ghost use Rattle.kc_tree.specs.Accepted.{IsAccepted};
 ghost use Rattle.kc_tree.specs.Nodes.{IsNodeOf, all_nodes};
-ghost use Rattle.kc_value.specs.ChangedValue.{changed_value, ChangesAreJustEnough};
-ghost use Rattle.kc_value.specs.KnownConditions.{AreSharedBy};
+ghost use Rattle.kc_value.specs.ChangedValue.{changed_value};
 ghost use Rattle.kc_value.specs.Replay.{shown_in};
 ghost use Rattle.kc_value.specs.Solution.{solution, AreSolved, IsOnlySolution};
-ghost use Rattle.kc_value.specs.UserValues.{UserValues, IsUserFor};
+ghost use Rattle.kc_value.specs.UserValues.{UserValues};
 ghost use Rattle.kc_files.specs.DefaultLoading.{HasNoFeeds, KeepsChanges};
 ghost use Rattle.kc_files.specs.DefaultText.{is_changed_member, default_value, default_line, default_entry, default_text_of};
 
 use crate::prefix::Prefix;
 use crate::symbol_line::push_symbol_line;
 use crate::symbols::selected_member;
-use kc_tree::{ChoiceId, Entry, Node, SymId, Tree, Tri, UserVal};
-use kc_value::{NodeValues, Resolver, SharedConditions, User, Value, all_values, changed_value};
+use kc_tree::{ChoiceId, Entry, Node, SymId, Tri, UserVal};
+use kc_value::{Resolver, Solved, Value, all_values, changed_value};
 use std::alloc::{AllocError, Global};
 
 /// The value of a symbol, where it is another than without the user's own: it is the same where the user gave none.
 #[tactic(auto, using(crate::proofs::DefaultChanges::own_value))]
 fn changed_symbol(
     alloc: Global,
-    tree: &Tree,
-    user: &User,
-    conditions: &mut SharedConditions,
-    values: &NodeValues,
+    solved: &Solved<'_>,
     symbol: SymId,
 ) -> Result<Option<Value>, AllocError>
-    requires node { IsNodeOf tree.now (Val symbol) }
-    requires changes { ChangesAreJustEnough tree.now user.now }
-    requires conditions { AreSharedBy tree.now values.now conditions.old }
-    ensures value { AreSolved tree.now user.now values.now
-        → IfOk result (λ v. v ≡ changed_value tree.now user.now (Val symbol)) }
-    ensures conditions { AreSharedBy tree.now values.now conditions.new }
+    requires node { IsNodeOf solved.now.tree (Val symbol) }
+    requires solved { AreSolved solved.now.tree solved.now.user solved.now.values }
+    ensures { IfOk result (λ v. v ≡ changed_value solved.now.tree solved.now.user (Val symbol)) }
 {
-    if user.get(symbol).is_none() {
+    if solved.user().get(symbol).is_none() {
         return Ok(None);
     }
-    conditions.find_for(tree, values, symbol);
-    changed_value(alloc, tree, conditions, values, Node::Val(symbol))
+    changed_value(alloc, solved.known(), Node::Val(symbol))
 }
 
 /// The selection of a choice, where it is another than without a chosen member: it is the same where the user chose none.
 #[tactic(auto, using(crate::proofs::DefaultChanges::own_member))]
 fn changed_selection(
     alloc: Global,
-    tree: &Tree,
-    user: &User,
-    conditions: &SharedConditions,
-    values: &NodeValues,
+    solved: &Solved<'_>,
     choice: ChoiceId,
 ) -> Result<Option<Value>, AllocError>
-    requires node { IsNodeOf tree.now (Sel choice) }
-    requires changes { ChangesAreJustEnough tree.now user.now }
-    requires conditions { AreSharedBy tree.now values.now conditions.now }
-    ensures { AreSolved tree.now user.now values.now
-        → IfOk result (λ v. v ≡ changed_value tree.now user.now (Sel choice)) }
+    requires node { IsNodeOf solved.now.tree (Sel choice) }
+    requires solved { AreSolved solved.now.tree solved.now.user solved.now.values }
+    ensures { IfOk result (λ v. v ≡ changed_value solved.now.tree solved.now.user (Sel choice)) }
 {
-    if user.chosen(choice).is_none() {
+    if solved.user().chosen(choice).is_none() {
         return Ok(None);
     }
-    changed_value(alloc, tree, conditions, values, Node::Sel(choice))
+    changed_value(alloc, solved.known(), Node::Sel(choice))
 }
 
 /// Whether a member is the selected one of a choice whose selection is another than without a chosen member.
 fn is_changed_member(
     alloc: Global,
-    tree: &Tree,
-    user: &User,
-    conditions: &SharedConditions,
-    values: &NodeValues,
+    solved: &Solved<'_>,
     choice: ChoiceId,
     member: SymId,
 ) -> Result<bool, AllocError>
-    requires changes { ChangesAreJustEnough tree.now user.now }
-    requires conditions { AreSharedBy tree.now values.now conditions.now }
-    ensures { AreSolved tree.now user.now values.now
-        → IfOk result (λ b. b ≡ is_changed_member tree.now user.now choice member) }
+    requires solved { AreSolved solved.now.tree solved.now.user solved.now.values }
+    ensures { IfOk result (λ b. b ≡ is_changed_member solved.now.tree solved.now.user choice member) }
 {
-    if tree.choices().get(choice.0 as usize).is_none() {
+    if solved.tree().choices().get(choice.0 as usize).is_none() {
         return Ok(false);
     }
-    if selected_member(tree, values, choice) != Some(member) {
+    if selected_member(solved.known(), choice) != Some(member) {
         return Ok(false);
     }
-    let changed = changed_selection(alloc, tree, user, conditions, values, choice)?;
+    let changed = changed_selection(alloc, solved, choice)?;
     Ok(changed.is_some())
 }
 
 /// The value that a symbol has in the default file.
 fn default_value(
     alloc: Global,
-    tree: &Tree,
-    user: &User,
-    conditions: &mut SharedConditions,
-    values: &NodeValues,
+    solved: &Solved<'_>,
     symbol: SymId,
 ) -> Result<Option<UserVal>, AllocError>
-    requires node { IsNodeOf tree.now (Vis symbol) }
-    requires changes { ChangesAreJustEnough tree.now user.now }
-    requires conditions { AreSharedBy tree.now values.now conditions.old }
-    ensures value { AreSolved tree.now user.now values.now
-        → IfOk result (λ v. v ≡ default_value tree.now user.now symbol) }
-    ensures conditions { AreSharedBy tree.now values.now conditions.new }
+    requires node { IsNodeOf solved.now.tree (Vis symbol) }
+    requires solved { AreSolved solved.now.tree solved.now.user solved.now.values }
+    ensures { IfOk result (λ v. v ≡ default_value solved.now.tree solved.now.user symbol) }
 {
-    let Some(choice) = tree.choice_of(symbol) else {
-        let changed = changed_symbol(alloc, tree, user, conditions, values, symbol)?;
+    let Some(choice) = solved.tree().choice_of(symbol) else {
+        let changed = changed_symbol(alloc, solved, symbol)?;
         return Ok(shown_value(changed));
     };
-    if is_changed_member(alloc, tree, user, conditions, values, choice, symbol)? {
+    if is_changed_member(alloc, solved, choice, symbol)? {
         Ok(Some(UserVal::Tri(Tri::Yes)))
     } else {
         Ok(None)
@@ -133,21 +109,17 @@ fn shown_value(value: Option<Value>) -> Option<UserVal>
 fn push_symbol(
     alloc: Global,
     out: &mut String,
-    tree: &Tree,
-    user: &User,
+    solved: &Solved<'_>,
     prefix: &str,
-    conditions: &mut SharedConditions,
-    values: &NodeValues,
     symbol: SymId,
 ) -> Result<(), AllocError>
-    requires node { IsNodeOf tree.now (Vis symbol) }
-    requires changes { ChangesAreJustEnough tree.now user.now }
-    requires conditions { AreSharedBy tree.now values.now conditions.old }
-    ensures text { AreSolved tree.now user.now values.now
-        → OnOk result (string_bytes out.new ≡ string_bytes out.old ++ default_line tree.now user.now prefix.now symbol) }
-    ensures conditions { AreSharedBy tree.now values.now conditions.new }
+    requires node { IsNodeOf solved.now.tree (Vis symbol) }
+    requires solved { AreSolved solved.now.tree solved.now.user solved.now.values }
+    ensures { OnOk result (string_bytes out.new
+        ≡ string_bytes out.old ++ default_line solved.now.tree solved.now.user prefix.now symbol) }
 {
-    if let Some(value) = default_value(alloc, tree, user, conditions, values, symbol)? {
+    if let Some(value) = default_value(alloc, solved, symbol)? {
+        let tree = solved.tree();
         push_symbol_line(
             out,
             prefix,
@@ -163,24 +135,17 @@ fn push_symbol(
 fn push_entry(
     alloc: Global,
     out: &mut String,
-    tree: &Tree,
-    user: &User,
+    solved: &Solved<'_>,
     prefix: &str,
-    conditions: &mut SharedConditions,
-    values: &NodeValues,
     entry: Entry,
 ) -> Result<(), AllocError>
-    requires entry { IsEntryOf tree.now entry }
-    requires changes { ChangesAreJustEnough tree.now user.now }
-    requires conditions { AreSharedBy tree.now values.now conditions.old }
-    ensures text { AreSolved tree.now user.now values.now
-        → OnOk result (string_bytes out.new ≡ string_bytes out.old ++ default_entry tree.now user.now prefix.now entry) }
-    ensures conditions { AreSharedBy tree.now values.now conditions.new }
+    requires entry { IsEntryOf solved.now.tree entry }
+    requires solved { AreSolved solved.now.tree solved.now.user solved.now.values }
+    ensures { OnOk result (string_bytes out.new
+        ≡ string_bytes out.old ++ default_entry solved.now.tree solved.now.user prefix.now entry) }
 {
     match entry {
-        Entry::Symbol(symbol) => push_symbol(
-            alloc, out, tree, user, prefix, conditions, values, symbol,
-        ),
+        Entry::Symbol(symbol) => push_symbol(alloc, out, solved, prefix, symbol),
         Entry::Again(_)
         | Entry::Choice(_)
         | Entry::Menu(_)
@@ -193,51 +158,35 @@ fn push_entry(
 fn push_entries(
     alloc: Global,
     out: &mut String,
-    tree: &Tree,
-    user: &User,
+    solved: &Solved<'_>,
     prefix: &str,
-    conditions: &mut SharedConditions,
-    values: &NodeValues,
 ) -> Result<(), AllocError>
-    requires changes { ChangesAreJustEnough tree.now user.now }
-    requires conditions { AreSharedBy tree.now values.now conditions.old }
-    ensures accepted { IsAccepted tree.now }
-    ensures text { AreSolved tree.now user.now values.now
-        → OnOk result (string_bytes out.new ≡ string_bytes out.old ++ default_text_of tree.now user.now prefix.now) }
+    requires solved { AreSolved solved.now.tree solved.now.user solved.now.values }
+    ensures accepted { IsAccepted solved.now.tree }
+    ensures text { OnOk result (string_bytes out.new
+        ≡ string_bytes out.old ++ default_text_of solved.now.tree solved.now.user prefix.now) }
 {
-    for entry in tree.entries() {
-        push_entry(alloc, out, tree, user, prefix, conditions, values, *entry)?;
+    for entry in solved.tree().entries() {
+        push_entry(alloc, out, solved, prefix, *entry)?;
     }
     Ok(())
 }
 
-/// The text of the default file, over the values of all nodes, which stand in `values` by number: what `defconfig_text`
-/// gives where they are those of the solution for the user values, with what is said there. The error comes where memory is
-/// refused.
+/// The text of the default file, over the values of all nodes: what `defconfig_text` gives, with what is said there. The
+/// error comes where memory is refused.
 pub fn defconfig_text_over(
     alloc: Global,
-    tree: &Tree,
-    user: &User,
-    values: &NodeValues,
+    solved: &Solved<'_>,
     prefix: &Prefix,
 ) -> Result<String, AllocError>
-    requires sized { IsUserFor tree.now user.now }
-    requires solved { AreSolved tree.now user.now values.now }
-    ensures text { IfOk result (λ text. string_bytes text ≡ default_text_of tree.now user.now prefix.now) }
-    ensures keeps { HasNoFeeds user.now
-        → IfOk result (λ text. KeepsChanges tree.now user.now prefix.now (string_bytes text)) }
+    requires { AreSolved solved.now.tree solved.now.user solved.now.values }
+    ensures text { IfOk result (λ text. string_bytes text ≡ default_text_of solved.now.tree solved.now.user prefix.now) }
+    ensures keeps { HasNoFeeds solved.now.user
+        → IfOk result (λ text. KeepsChanges solved.now.tree solved.now.user prefix.now (string_bytes text)) }
 {
-    let mut conditions = SharedConditions::of_blocks_and_asked(alloc, tree, values)?;
+    let _ = solved.user();
     let mut text = String::new(alloc);
-    push_entries(
-        alloc,
-        &mut text,
-        tree,
-        user,
-        prefix.as_str(),
-        &mut conditions,
-        values,
-    )?;
+    push_entries(alloc, &mut text, solved, prefix.as_str())?;
     Ok(text)
 }
 
@@ -267,6 +216,6 @@ pub fn defconfig_text<R: Resolver>(
     ensures grew { R.grew resolver.old resolver.new (all_nodes (R.tree_of resolver.old)) }
 {
     let values = all_values(alloc, resolver)?;
-    let text = defconfig_text_over(alloc, resolver.tree(), resolver.user(), &values, prefix)?;
-    Ok(text)
+    let solved = Solved::of_all(resolver.tree(), resolver.user(), &values);
+    defconfig_text_over(alloc, &solved, prefix)
 }

@@ -5,7 +5,8 @@ ghost use Rattle.std.specs.String.{string_bytes};
 ghost use Rattle.kc_outline.specs.Entries.{IsEntryOf};
 ghost use Rattle.kc_outline.specs.TreeValue.{name_of};
 ghost use Rattle.kc_tree.specs.Nodes.{all_nodes};
-ghost use Rattle.kc_value.specs.Assignment.{Assignment, assignment_of};
+ghost use Rattle.kc_value.specs.Assignment.{Assignment};
+ghost use Rattle.kc_value.specs.Known.{given};
 ghost use Rattle.kc_value.specs.Solution.{solution, IsOnlySolution};
 ghost use Rattle.kc_files.specs.DraftValue.{Agrees};
 ghost use Rattle.kc_files.specs.HeaderText.{has_hex_sign, missing_hex_sign, text_in_c, has_no_macro, macro_line, tri_macro, text_macro, symbol_macro, macro_of, entry_macro, header_text_of};
@@ -13,8 +14,8 @@ ghost use Rattle.kc_files.specs.HeaderText.{has_hex_sign, missing_hex_sign, text
 use crate::prefix::Prefix;
 use crate::quoting::push_quoted;
 use crate::symbols::written_value;
-use kc_tree::{Entry, SymId, SymbolType, Tree, Tri, UserVal};
-use kc_value::{NodeValues, Resolver, all_values};
+use kc_tree::{Entry, SymId, SymbolType, Tri, UserVal};
+use kc_value::{Known, Resolver, all_values};
 use std::alloc::{AllocError, Global};
 
 /// The byte of an index, 0 past the end.
@@ -142,15 +143,15 @@ fn push_symbol_macro(
 /// Appends the macro of a symbol that is written.
 fn push_symbol(
     out: &mut String,
-    tree: &Tree,
+    known: &Known<'_>,
     prefix: &Prefix,
-    values: &NodeValues,
     symbol: SymId,
 ) -> Result<(), AllocError>
     ensures { OnOk result (string_bytes out.new
-        ≡ string_bytes out.old ++ macro_of tree.now prefix.now (assignment_of tree.now values.now) symbol) }
+        ≡ string_bytes out.old ++ macro_of known.now.tree prefix.now (given known.now) symbol) }
 {
-    if let Some(value) = written_value(tree, values, symbol) {
+    let tree = known.tree();
+    if let Some(value) = written_value(known, symbol) {
         push_symbol_macro(
             out,
             prefix,
@@ -165,17 +166,16 @@ fn push_symbol(
 /// Appends what an entry gives.
 fn push_entry(
     out: &mut String,
-    tree: &Tree,
+    known: &Known<'_>,
     prefix: &Prefix,
-    values: &NodeValues,
     entry: Entry,
 ) -> Result<(), AllocError>
-    requires { IsEntryOf tree.now entry }
-    ensures { (a : Assignment) → Agrees tree.now values.now a → OnOk result (string_bytes out.new
-        ≡ string_bytes out.old ++ entry_macro tree.now prefix.now a entry) }
+    requires { IsEntryOf known.now.tree entry }
+    ensures { (a : Assignment) → Agrees known.now.tree known.now.values a → OnOk result (string_bytes out.new
+        ≡ string_bytes out.old ++ entry_macro known.now.tree prefix.now a entry) }
 {
     match entry {
-        Entry::Symbol(symbol) => push_symbol(out, tree, prefix, values, symbol),
+        Entry::Symbol(symbol) => push_symbol(out, known, prefix, symbol),
         Entry::Again(_)
         | Entry::Choice(_)
         | Entry::Menu(_)
@@ -185,34 +185,28 @@ fn push_entry(
 }
 
 /// Appends what the entries of the tree give.
-fn push_entries(
-    out: &mut String,
-    tree: &Tree,
-    prefix: &Prefix,
-    values: &NodeValues,
-) -> Result<(), AllocError>
-    ensures { (a : Assignment) → Agrees tree.now values.now a → OnOk result (string_bytes out.new
-        ≡ string_bytes out.old ++ header_text_of tree.now prefix.now a) }
+fn push_entries(out: &mut String, known: &Known<'_>, prefix: &Prefix) -> Result<(), AllocError>
+    ensures { (a : Assignment) → Agrees known.now.tree known.now.values a → OnOk result (string_bytes out.new
+        ≡ string_bytes out.old ++ header_text_of known.now.tree prefix.now a) }
 {
-    for entry in tree.entries() {
-        push_entry(out, tree, prefix, values, *entry)?;
+    for entry in known.tree().entries() {
+        push_entry(out, known, prefix, *entry)?;
     }
     Ok(())
 }
 
-/// The text of the C header over the values of all nodes, which stand in `values` by number: what `header_text` gives
-/// where they are those of the solution. The error comes where memory is refused.
+/// The text of the C header over the values of all nodes: what `header_text` gives where they are those of the solution.
+/// The error comes where memory is refused.
 pub fn header_text_over(
     alloc: Global,
-    tree: &Tree,
-    values: &NodeValues,
+    known: &Known<'_>,
     prefix: &Prefix,
 ) -> Result<String, AllocError>
-    ensures { IfOk result (λ text. (a : Assignment) → Agrees tree.now values.now a
-        → string_bytes text ≡ header_text_of tree.now prefix.now a) }
+    ensures { IfOk result (λ text. (a : Assignment) → Agrees known.now.tree known.now.values a
+        → string_bytes text ≡ header_text_of known.now.tree prefix.now a) }
 {
     let mut text = String::new(alloc);
-    push_entries(&mut text, tree, prefix, values)?;
+    push_entries(&mut text, known, prefix)?;
     Ok(text)
 }
 
@@ -236,6 +230,6 @@ pub fn header_text<R: Resolver>(
     ensures grew { R.grew resolver.old resolver.new (all_nodes (R.tree_of resolver.old)) }
 {
     let values = all_values(alloc, resolver)?;
-    let text = header_text_over(alloc, resolver.tree(), &values, prefix)?;
-    Ok(text)
+    let known = Known::of_nodes(resolver.tree(), &values);
+    header_text_over(alloc, &known, prefix)
 }

@@ -5,131 +5,92 @@ ghost use Rattle.std.specs.String.{string_bytes};
 ghost use Rattle.kc_outline.specs.Entries.{IsEntryOf};
 ghost use Rattle.kc_tree.specs.declared.node.Node.TheVariants.{Vis};
 ghost use Rattle.kc_tree.specs.Nodes.{IsNodeOf, all_nodes};
-ghost use Rattle.kc_value.specs.Assignment.{assignment_of};
 ghost use Rattle.kc_value.specs.ChoiceRule.{is_visible};
-ghost use Rattle.kc_value.specs.KnownConditions.{AreSharedBy};
+ghost use Rattle.kc_value.specs.Known.{given};
 ghost use Rattle.kc_value.specs.Solution.{solution, AreSolved, IsOnlySolution};
-ghost use Rattle.kc_value.specs.UserValues.{IsUserFor};
 ghost use Rattle.kc_files.specs.NewText.{has_another_value, is_new_symbol, visible_count, is_new_member, is_new, new_line, new_entry, new_text_of};
 
 use crate::prefix::Prefix;
 use crate::symbol_line::push_text_line;
-use crate::symbols::{selected_member, shown_text, visibility};
-use kc_tree::{ChoiceId, Entry, SymId, Tree};
-use kc_value::{NodeValues, Resolver, SharedConditions, User, all_values, assignable_among};
+use crate::symbols::{selected_member, shown_text};
+use kc_tree::{ChoiceId, Entry, Node, SymId};
+use kc_value::{Known, Resolver, Solved, all_values, assignable_among};
 use std::alloc::{AllocError, Global};
 
 /// Whether a user can give the symbol another value than it has.
-fn has_another_value(
-    alloc: Global,
-    tree: &Tree,
-    user: &User,
-    conditions: &mut SharedConditions,
-    values: &NodeValues,
-    symbol: SymId,
-) -> Result<bool, AllocError>
-    requires inside { IsNodeOf tree.now (Vis symbol) }
-    requires sized { IsUserFor tree.now user.now }
-    requires conditions { AreSharedBy tree.now values.now conditions.old }
-    requires solved { AreSolved tree.now user.now values.now }
-    ensures answer { IfOk result (λ b. b ≡ has_another_value tree.now user.now symbol) }
-    ensures conditions { AreSharedBy tree.now values.now conditions.new }
+fn has_another_value(alloc: Global, solved: &Solved<'_>, symbol: SymId) -> Result<bool, AllocError>
+    requires inside { IsNodeOf solved.now.tree (Vis symbol) }
+    requires solved { AreSolved solved.now.tree solved.now.user solved.now.values }
+    ensures { IfOk result (λ b. b ≡ has_another_value solved.now.tree solved.now.user symbol) }
 {
-    if !tree.symbol_type(symbol).is_tri() {
+    if !solved.tree().symbol_type(symbol).is_tri() {
         return Ok(true);
     }
-    conditions.find_for(tree, values, symbol);
-    let assignable = assignable_among(alloc, tree, conditions, values, symbol)?;
+    let assignable = assignable_among(alloc, solved.known(), symbol)?;
     Ok(assignable.len() >= 2)
 }
 
 /// Whether a symbol that is no member of a choice is visible, has no value from the user, and can have another one.
-fn is_new_symbol(
-    alloc: Global,
-    tree: &Tree,
-    user: &User,
-    conditions: &mut SharedConditions,
-    values: &NodeValues,
-    symbol: SymId,
-) -> Result<bool, AllocError>
-    requires inside { IsNodeOf tree.now (Vis symbol) }
-    requires sized { IsUserFor tree.now user.now }
-    requires conditions { AreSharedBy tree.now values.now conditions.old }
-    requires solved { AreSolved tree.now user.now values.now }
-    ensures answer { IfOk result (λ b. b ≡ is_new_symbol tree.now user.now symbol) }
-    ensures conditions { AreSharedBy tree.now values.now conditions.new }
+fn is_new_symbol(alloc: Global, solved: &Solved<'_>, symbol: SymId) -> Result<bool, AllocError>
+    requires inside { IsNodeOf solved.now.tree (Vis symbol) }
+    requires solved { AreSolved solved.now.tree solved.now.user solved.now.values }
+    ensures { IfOk result (λ b. b ≡ is_new_symbol solved.now.tree solved.now.user symbol) }
 {
-    if visibility(tree, values, symbol).is_no() || user.get(symbol).is_some() {
+    if solved.known().tri(Node::Vis(symbol)).is_no() || solved.user().get(symbol).is_some() {
         return Ok(false);
     }
-    has_another_value(alloc, tree, user, conditions, values, symbol)
+    has_another_value(alloc, solved, symbol)
 }
 
 /// Whether a symbol of the tree is visible.
-fn is_visible(tree: &Tree, values: &NodeValues, symbol: SymId) -> bool
-    ensures { result ≡ is_visible tree.now (assignment_of tree.now values.now) symbol }
+fn is_visible(known: &Known<'_>, symbol: SymId) -> bool
+    ensures { result ≡ is_visible known.now.tree (given known.now) symbol }
 {
-    match tree.symbols().get(symbol.0 as usize) {
-        Some(_) => !visibility(tree, values, symbol).is_no(),
+    match known.tree().symbols().get(symbol.0 as usize) {
+        Some(_) => !known.tri(Node::Vis(symbol)).is_no(),
         None => false,
     }
 }
 
 /// How many of the members are visible.
-fn visible_count(tree: &Tree, values: &NodeValues, members: &[SymId]) -> usize
-    ensures { result ≡ count_by (is_visible tree.now (assignment_of tree.now values.now)) members.now }
+fn visible_count(known: &Known<'_>, members: &[SymId]) -> usize
+    ensures { result ≡ count_by (is_visible known.now.tree (given known.now)) members.now }
 {
     members
         .iter()
-        .filter(|member| is_visible(tree, values, **member))
+        .filter(|member| is_visible(known, **member))
         .count()
 }
 
 /// Whether two members of a choice or more are visible.
-fn has_another_member(tree: &Tree, values: &NodeValues, choice: ChoiceId) -> bool
-    ensures { result ≡ nat_le 2 (visible_count tree.now (assignment_of tree.now values.now) choice) }
+fn has_another_member(known: &Known<'_>, choice: ChoiceId) -> bool
+    ensures { result ≡ nat_le 2 (visible_count known.now.tree (given known.now) choice) }
 {
-    match tree.choices().get(choice.0 as usize) {
-        Some(choice) => visible_count(tree, values, choice.members()) >= 2,
+    match known.tree().choices().get(choice.0 as usize) {
+        Some(choice) => visible_count(known, choice.members()) >= 2,
         None => false,
     }
 }
 
 /// Whether a member is the selected one of its choice, the user chose none, and another one is visible, too.
-fn is_new_member(
-    tree: &Tree,
-    user: &User,
-    values: &NodeValues,
-    choice: ChoiceId,
-    member: SymId,
-) -> bool
-    requires { AreSolved tree.now user.now values.now }
-    ensures { result ≡ is_new_member tree.now user.now choice member }
+fn is_new_member(solved: &Solved<'_>, choice: ChoiceId, member: SymId) -> bool
+    requires { AreSolved solved.now.tree solved.now.user solved.now.values }
+    ensures { result ≡ is_new_member solved.now.tree solved.now.user choice member }
 {
-    selected_member(tree, values, choice) == Some(member)
-        && user.chosen(choice).is_none()
-        && has_another_member(tree, values, choice)
+    selected_member(solved.known(), choice) == Some(member)
+        && solved.user().chosen(choice).is_none()
+        && has_another_member(solved.known(), choice)
 }
 
 /// Whether a symbol has a line.
-fn is_new(
-    alloc: Global,
-    tree: &Tree,
-    user: &User,
-    conditions: &mut SharedConditions,
-    values: &NodeValues,
-    symbol: SymId,
-) -> Result<bool, AllocError>
-    requires inside { IsNodeOf tree.now (Vis symbol) }
-    requires sized { IsUserFor tree.now user.now }
-    requires conditions { AreSharedBy tree.now values.now conditions.old }
-    requires solved { AreSolved tree.now user.now values.now }
-    ensures answer { IfOk result (λ b. b ≡ is_new tree.now user.now symbol) }
-    ensures conditions { AreSharedBy tree.now values.now conditions.new }
+fn is_new(alloc: Global, solved: &Solved<'_>, symbol: SymId) -> Result<bool, AllocError>
+    requires inside { IsNodeOf solved.now.tree (Vis symbol) }
+    requires solved { AreSolved solved.now.tree solved.now.user solved.now.values }
+    ensures { IfOk result (λ b. b ≡ is_new solved.now.tree solved.now.user symbol) }
 {
-    match tree.choice_of(symbol) {
-        Some(choice) => Ok(is_new_member(tree, user, values, choice, symbol)),
-        None => is_new_symbol(alloc, tree, user, conditions, values, symbol),
+    match solved.tree().choice_of(symbol) {
+        Some(choice) => Ok(is_new_member(solved, choice, symbol)),
+        None => is_new_symbol(alloc, solved, symbol),
     }
 }
 
@@ -137,23 +98,18 @@ fn is_new(
 fn push_symbol(
     alloc: Global,
     out: &mut String,
-    tree: &Tree,
-    user: &User,
+    solved: &Solved<'_>,
     prefix: &Prefix,
-    conditions: &mut SharedConditions,
-    values: &NodeValues,
     symbol: SymId,
 ) -> Result<(), AllocError>
-    requires inside { IsNodeOf tree.now (Vis symbol) }
-    requires sized { IsUserFor tree.now user.now }
-    requires conditions { AreSharedBy tree.now values.now conditions.old }
-    requires solved { AreSolved tree.now user.now values.now }
-    ensures text { OnOk result (string_bytes out.new
-        ≡ string_bytes out.old ++ new_line tree.now user.now prefix.now symbol) }
-    ensures conditions { AreSharedBy tree.now values.now conditions.new }
+    requires inside { IsNodeOf solved.now.tree (Vis symbol) }
+    requires solved { AreSolved solved.now.tree solved.now.user solved.now.values }
+    ensures { OnOk result (string_bytes out.new
+        ≡ string_bytes out.old ++ new_line solved.now.tree solved.now.user prefix.now symbol) }
 {
-    if is_new(alloc, tree, user, conditions, values, symbol)? {
-        let value = shown_text(tree, values, symbol);
+    if is_new(alloc, solved, symbol)? {
+        let tree = solved.tree();
+        let value = shown_text(solved.known(), symbol);
         push_text_line(
             out,
             prefix.as_str(),
@@ -169,25 +125,17 @@ fn push_symbol(
 fn push_entry(
     alloc: Global,
     out: &mut String,
-    tree: &Tree,
-    user: &User,
+    solved: &Solved<'_>,
     prefix: &Prefix,
-    conditions: &mut SharedConditions,
-    values: &NodeValues,
     entry: Entry,
 ) -> Result<(), AllocError>
-    requires inside { IsEntryOf tree.now entry }
-    requires sized { IsUserFor tree.now user.now }
-    requires conditions { AreSharedBy tree.now values.now conditions.old }
-    requires solved { AreSolved tree.now user.now values.now }
-    ensures text { OnOk result (string_bytes out.new
-        ≡ string_bytes out.old ++ new_entry tree.now user.now prefix.now entry) }
-    ensures conditions { AreSharedBy tree.now values.now conditions.new }
+    requires inside { IsEntryOf solved.now.tree entry }
+    requires solved { AreSolved solved.now.tree solved.now.user solved.now.values }
+    ensures { OnOk result (string_bytes out.new
+        ≡ string_bytes out.old ++ new_entry solved.now.tree solved.now.user prefix.now entry) }
 {
     match entry {
-        Entry::Symbol(symbol) => push_symbol(
-            alloc, out, tree, user, prefix, conditions, values, symbol,
-        ),
+        Entry::Symbol(symbol) => push_symbol(alloc, out, solved, prefix, symbol),
         Entry::Again(_)
         | Entry::Choice(_)
         | Entry::Menu(_)
@@ -200,49 +148,31 @@ fn push_entry(
 fn push_entries(
     alloc: Global,
     out: &mut String,
-    tree: &Tree,
-    user: &User,
+    solved: &Solved<'_>,
     prefix: &Prefix,
-    conditions: &mut SharedConditions,
-    values: &NodeValues,
 ) -> Result<(), AllocError>
-    requires sized { IsUserFor tree.now user.now }
-    requires conditions { AreSharedBy tree.now values.now conditions.old }
-    requires solved { AreSolved tree.now user.now values.now }
+    requires solved { AreSolved solved.now.tree solved.now.user solved.now.values }
     ensures { OnOk result (string_bytes out.new
-        ≡ string_bytes out.old ++ new_text_of tree.now user.now prefix.now) }
+        ≡ string_bytes out.old ++ new_text_of solved.now.tree solved.now.user prefix.now) }
 {
-    for entry in tree.entries() {
-        push_entry(alloc, out, tree, user, prefix, conditions, values, *entry)?;
+    for entry in solved.tree().entries() {
+        push_entry(alloc, out, solved, prefix, *entry)?;
     }
     Ok(())
 }
 
-/// The list of symbols that the user can still decide on, over the values of all nodes, which stand in `values` by number:
-/// what `new_text` gives where they are those of the solution for the user values. The error comes where memory is
-/// refused.
+/// The list of symbols that the user can still decide on, over the values of all nodes: what `new_text` gives. The error
+/// comes where memory is refused.
 pub fn new_text_over(
     alloc: Global,
-    tree: &Tree,
-    user: &User,
-    values: &NodeValues,
+    solved: &Solved<'_>,
     prefix: &Prefix,
 ) -> Result<String, AllocError>
-    requires sized { IsUserFor tree.now user.now }
-    requires solved { AreSolved tree.now user.now values.now }
-    ensures { IfOk result (λ text. string_bytes text ≡ new_text_of tree.now user.now prefix.now) }
+    requires { AreSolved solved.now.tree solved.now.user solved.now.values }
+    ensures { IfOk result (λ text. string_bytes text ≡ new_text_of solved.now.tree solved.now.user prefix.now) }
 {
-    let mut conditions = SharedConditions::of_blocks_and_asked(alloc, tree, values)?;
     let mut text = String::new(alloc);
-    push_entries(
-        alloc,
-        &mut text,
-        tree,
-        user,
-        prefix,
-        &mut conditions,
-        values,
-    )?;
+    push_entries(alloc, &mut text, solved, prefix)?;
     Ok(text)
 }
 
@@ -265,6 +195,6 @@ pub fn new_text<R: Resolver>(
     ensures grew { R.grew resolver.old resolver.new (all_nodes (R.tree_of resolver.old)) }
 {
     let values = all_values(alloc, resolver)?;
-    let text = new_text_over(alloc, resolver.tree(), resolver.user(), &values, prefix)?;
-    Ok(text)
+    let solved = Solved::of_all(resolver.tree(), resolver.user(), &values);
+    new_text_over(alloc, &solved, prefix)
 }

@@ -1,13 +1,8 @@
-pub mod FilterPlaces
 pub mod GraphLaws
 pub mod ListLaws
 pub mod MarkLaws
 pub mod RoomLaws
 pub mod RowLaws
 pub mod SearchSteps
-pub mod SharedLaws
-pub mod SharedLoops
-pub mod SharedOrder
-pub mod SharedUsers
 pub mod UseCounts
 pub mod UsersSteps

@@ -2,5 +2,4 @@ pub mod Graph
 pub mod OrderFault
 pub mod Rows
 pub mod Search
-pub mod Shared
 pub mod Users

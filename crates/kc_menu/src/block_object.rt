@@ -13,8 +13,7 @@ use crate::places_as_text::{help_text, place_text};
 use crate::row::Row;
 use kc_tree::{BlockId, BlockKind, Choice, ChoiceId, CommentId, Node, SymId, Tree, Tri};
 use kc_value::{
-    Factor, NodeValues, choice_factors, comment_condition, comment_factors, menu_condition,
-    menu_factors,
+    Factor, Known, choice_factors, comment_condition, comment_factors, menu_condition, menu_factors,
 };
 use serde::Serialize;
 use std::alloc::{AllocError, Global};
@@ -103,8 +102,8 @@ pub(crate) fn menu_object<'m>(
     ensures shown { IfOk result (λ o. o.shown.now ≡ letter (menu_condition inputs.now.view.tree
         (assignment_of inputs.now.view.tree inputs.now.view.values) menu)) }
 {
-    let (tree, values) = (inputs.view().tree(), inputs.view().values());
-    let factors = menu_factors(alloc, tree, values, menu)?;
+    let (tree, known) = (inputs.view().tree(), inputs.view().known());
+    let factors = menu_factors(alloc, known, menu)?;
     let factors = factors.as_slice();
     Ok(TitleObject {
         id: row.id,
@@ -114,7 +113,7 @@ pub(crate) fn menu_object<'m>(
         at: place_text(alloc, inputs.places().block(menu))?,
         depends: factors_text(alloc, tree, factors, FactorsOf::Dependencies)?,
         visible_if: factors_text(alloc, tree, factors, FactorsOf::Prompt)?,
-        shown: menu_condition(tree, menu, inputs.conditions(), values).letter(),
+        shown: menu_condition(known, menu).letter(),
     })
 }
 
@@ -130,8 +129,8 @@ pub(crate) fn comment_object<'m>(
     ensures shown { IfOk result (λ o. o.shown.now ≡ letter (comment_condition inputs.now.view.tree
         (assignment_of inputs.now.view.tree inputs.now.view.values) comment)) }
 {
-    let (tree, values) = (inputs.view().tree(), inputs.view().values());
-    let factors = comment_factors(alloc, tree, values, comment)?;
+    let (tree, known) = (inputs.view().tree(), inputs.view().known());
+    let factors = comment_factors(alloc, known, comment)?;
     Ok(TitleObject {
         id: row.id,
         parent: row.parent,
@@ -140,7 +139,7 @@ pub(crate) fn comment_object<'m>(
         at: place_text(alloc, inputs.places().comment(comment))?,
         depends: factors_text(alloc, tree, factors.as_slice(), FactorsOf::Dependencies)?,
         visible_if: None,
-        shown: comment_condition(tree, comment, inputs.conditions(), values).letter(),
+        shown: comment_condition(known, comment).letter(),
     })
 }
 
@@ -156,9 +155,9 @@ pub(crate) fn choice_object<'m>(
     ensures help { IfOk result (λ o. option_map string_bytes o.help ≡ choice_help inputs.now.help inputs.now.lines id) }
 {
     let (view, places) = (inputs.view(), inputs.places());
-    let (tree, values) = (view.tree(), view.values());
+    let (tree, known) = (view.tree(), view.known());
     let choice = tree.choices().get(id.0 as usize);
-    let factors = choice_factors(alloc, tree, values, id)?;
+    let factors = choice_factors(alloc, known, id)?;
     let factors = factors.as_slice();
     Ok(ChoiceObject {
         id: row.id,
@@ -171,8 +170,8 @@ pub(crate) fn choice_object<'m>(
         optional: is_optional(choice),
         members: member_names(alloc, tree, choice)?,
         shown: shown(choice, factors).letter(),
-        mode: values.tri(tree.number(Node::Mode(id))).letter(),
-        sel: selected(tree, values, id),
+        mode: known.tri(Node::Mode(id)).letter(),
+        sel: selected(known, id),
         user: name_of(tree, view.user().chosen(id)),
         help: help_text(alloc, inputs.help(), places.attributes_of_choice(id))?,
     })
@@ -227,7 +226,6 @@ fn name_of(tree: &Tree, symbol: Option<SymId>) -> Option<&str> {
 }
 
 /// The name of the member that a choice selects, if it selects one.
-fn selected<'t>(tree: &'t Tree, values: &NodeValues, choice: ChoiceId) -> Option<&'t str> {
-    let value = values.get(tree.number(Node::Sel(choice)))?;
-    name_of(tree, value.as_member())
+fn selected<'t>(known: &Known<'t>, choice: ChoiceId) -> Option<&'t str> {
+    name_of(known.tree(), known.get(Node::Sel(choice))?.as_member())
 }

@@ -11,7 +11,6 @@ use crate::rows::menu_rows;
 use crate::symbol_object::symbol_object;
 use kc_report::{Places, View};
 use kc_tree::{Entry, SymId};
-use kc_value::SharedConditions;
 use serde::Serialize;
 use std::alloc::{AllocError, Global};
 use std::marker::Model;
@@ -48,9 +47,8 @@ impl<'m> MenuLines<'m> {
         ensures rows { IfOk result (λ lines. AreRowsOf view.now.tree lines.rows) }
         ensures next { IfOk result (λ lines. lines.next ≡ 0) }
     {
-        let conditions = SharedConditions::of(alloc, view.tree(), view.values())?;
         Ok(MenuLines {
-            inputs: MenuInputs::new(view, places, conditions, help),
+            inputs: MenuInputs::new(view, places, help),
             rows: menu_rows(alloc, view.tree())?,
             next: 0,
         })
@@ -86,8 +84,7 @@ pub fn menu_text(
     places: &Places<'_, '_>,
     help: Help,
 ) -> Result<String, AllocError> {
-    let conditions = SharedConditions::of(alloc, view.tree(), view.values())?;
-    let inputs = MenuInputs::new(view, places, conditions, help);
+    let inputs = MenuInputs::new(view, places, help);
     let rows = menu_rows(alloc, view.tree())?;
     let mut text = String::new(alloc);
     for row in &rows {

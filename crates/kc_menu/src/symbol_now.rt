@@ -5,12 +5,13 @@ ghost use Rattle.kc_statement.specs.Tristate.{letter};
 ghost use Rattle.kc_tree.specs.declared.node.Node.TheVariants.{Vis, Val};
 ghost use Rattle.kc_value.specs.Assignment.{as_text, as_tri, assignment_of};
 ghost use Rattle.kc_value.specs.BoundsRange.{IsSmall};
+ghost use Rattle.kc_value.specs.Known.{given as given_values};
 ghost use Rattle.kc_menu.specs.Objects.{given, user_part};
 
 use crate::menu_inputs::MenuInputs;
 use crate::tri_letters::letters;
 use kc_tree::{Node, SymId, SymbolType, Tree, Tri, UserVal};
-use kc_value::{ActiveRange, NodeValues, User, active_range, assignable_among, spelled};
+use kc_value::{ActiveRange, Known, User, active_range, assignable_among, spelled};
 use serde::Serialize;
 use std::alloc::{AllocError, Global};
 
@@ -49,22 +50,22 @@ pub(crate) fn symbol_now<'m>(
         ≡ user_part inputs.now.view.tree inputs.now.view.user symbol) }
 {
     let view = inputs.view();
-    let (tree, values) = (view.tree(), view.values());
+    let known = view.known();
     Ok(SymbolNow {
         shown: shown.letter(),
-        vis: values.tri(tree.number(Node::Vis(symbol))).letter(),
-        value: value_text(tree, values, symbol),
-        can: assignable_letters(alloc, inputs, symbol)?,
-        user: user_text(tree, view.user(), symbol),
-        range: range_texts(alloc, tree, values, symbol)?,
+        vis: known.tri(Node::Vis(symbol)).letter(),
+        value: value_text(known, symbol),
+        can: assignable_letters(alloc, known, symbol)?,
+        user: user_text(view.tree(), view.user(), symbol),
+        range: range_texts(alloc, known, symbol)?,
     })
 }
 
 /// The text of the value that a symbol shows.
-fn value_text<'m>(tree: &Tree, values: &'m NodeValues, symbol: SymId) -> &'m str
-    ensures { result.now ≡ as_text (assignment_of tree.now values.now (Val symbol)) }
+fn value_text<'m>(known: &Known<'m>, symbol: SymId) -> &'m str
+    ensures { result.now ≡ as_text (given_values known.now (Val symbol)) }
 {
-    match values.get(tree.number(Node::Val(symbol))) {
+    match known.get(Node::Val(symbol)) {
         Some(value) => value.as_text(),
         None => "n",
     }
@@ -73,16 +74,15 @@ fn value_text<'m>(tree: &Tree, values: &'m NodeValues, symbol: SymId) -> &'m str
 /// The letters of the values that a user can give a bool or a tristate with an effect.
 fn assignable_letters(
     alloc: Global,
-    inputs: &MenuInputs<'_>,
+    known: &Known<'_>,
     symbol: SymId,
 ) -> Result<Option<Vec<&'static str>>, AllocError> {
-    let view = inputs.view();
-    let tree = view.tree();
+    let tree = known.tree();
     let is_inside = (symbol.0 as usize) < tree.symbols().len();
     if !is_inside || !tree.symbol_type(symbol).is_tri() {
         return Ok(None);
     }
-    let values = assignable_among(alloc, tree, inputs.conditions(), view.values(), symbol)?;
+    let values = assignable_among(alloc, known, symbol)?;
     Ok(Some(letters(alloc, values.as_slice())?))
 }
 
@@ -112,12 +112,11 @@ fn given(value: &UserVal) -> &str
 /// The bounds of the active range of an int or a hex. Other types have none.
 fn range_texts(
     alloc: Global,
-    tree: &Tree,
-    values: &NodeValues,
+    known: &Known<'_>,
     symbol: SymId,
 ) -> Result<Option<(String, String)>, AllocError> {
-    match active_range(tree, values, symbol) {
-        Some(range) => bounds(alloc, tree.symbol_type(symbol), range),
+    match active_range(known, symbol) {
+        Some(range) => bounds(alloc, known.tree().symbol_type(symbol), range),
         None => Ok(None),
     }
 }

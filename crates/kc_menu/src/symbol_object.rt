@@ -81,8 +81,8 @@ pub(crate) fn symbol_object<'m>(
     let (tree, places) = (view.tree(), inputs.places());
     let definition = definition_at(tree, number);
     let attributes = places.attributes_of_definition(number);
-    let dependencies = dependency_factors(alloc, tree, view.values(), number)?;
-    let prompt = prompt_factors(alloc, tree, view.values(), number)?;
+    let dependencies = dependency_factors(alloc, view.known(), number)?;
+    let prompt = prompt_factors(alloc, view.known(), number)?;
     let title = prompt_title(definition);
     Ok(SymbolObject {
         id: row.id,

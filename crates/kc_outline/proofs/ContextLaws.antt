@@ -56,7 +56,7 @@ no_opener_of : (k : Keyword) → (is_attribute_word k && is_opener_word k) ≡ f
 no_opener_of keyword.Menu = refl
 no_opener_of _ = refl
 
-no_opener : (k : Keyword) → is_attribute_word k ≡ true → is_opener_word k ≡ false
+pub no_opener : (k : Keyword) → is_attribute_word k ≡ true → is_opener_word k ≡ false
 no_opener k attribute = ap (λ b. b && is_opener_word k) (sym attribute) ∙ no_opener_of k
 
 no_closer_of : (k : Keyword) → (is_attribute_word k && is_closer_word k) ≡ false

@@ -35,7 +35,7 @@ use Rattle.kc_outline.proofs.PlaceLaws.{fewer, read_in_order}
 use Rattle.kc_outline.proofs.ReadingLaws.{form_word}
 
 -- ---- few blocks are open where no line opens one too deep
-not_deep : (no_name deep past : Bool) → (if no_name then Some Malformed else (if deep || past then Some Limit else None)) ≡ None → deep ≡ false
+pub not_deep : (no_name deep past : Bool) → (if no_name then Some Malformed else (if deep || past then Some Limit else None)) ≡ None → deep ≡ false
 not_deep true deep past h = cc
 not_deep false true past h = cc
 not_deep false false true h = cc
@@ -60,10 +60,10 @@ module _ (names : List (List ℕ)) where
       (few_open (following + 1) earlier qs h.1)
 
 -- ---- the parent of a block is the next of those around it
-abbrev parents : List Reading → List (Option BlockId)
+abbrev pub parents : List Reading → List (Option BlockId)
 parents rs = map (λ h. h.parent) (block_lines rs)
 
-abbrev AreChained : List (Option BlockId) → List OpenBlock → Type 0
+abbrev pub AreChained : List (Option BlockId) → List OpenBlock → Type 0
 AreChained ps [] = Unit {0}
 AreChained ps (b ∷ bs) = (slice_get ps b.id.0 ≡ Some (innermost bs)) × AreChained ps bs
 
@@ -82,7 +82,7 @@ chained_next ps false true b bs number h = chained_more ps [] (drop 1 bs) (chain
 chained_next ps false false b bs number h = chained_more ps [] bs h
 
 -- what one reading adds to the parents
-own_parent : (block : Option BlockId) (s : Statement) (x : BlockLine) → block_line block s ≡ Some x → x.parent ≡ block
+pub own_parent : (block : Option BlockId) (s : Statement) (x : BlockLine) → block_line block s ≡ Some x → x.parent ≡ block
 own_parent block (statement.Menu title) x is = ap (λ h. h.parent) (sym (same_Some (record { kind = block_kind.Menu title; depends = []; parent = block }) x is))
 own_parent block (statement.If e) x is = ap (λ h. h.parent) (sym (same_Some (record { kind = block_kind.If; depends = e ∷ []; parent = block }) x is))
 own_parent block statement.Choice x is = ap (λ h. h.parent) (sym (same_Some (record { kind = block_kind.Choice; depends = []; parent = block }) x is))
@@ -106,7 +106,7 @@ module _ (names : List (List ℕ)) where
       ∙ ap (λ ps. parents rs ++ ps) (parents_made (is_opener l) r.block r.statement (block_line r.block r.statement) refl one)
       ∙ ap (λ b. parents rs ++ cond (is_opener l) (b ∷ []) []) reads.block
 
-  chained : (following : ℕ) (earlier : List LineValue) (qs : List Reading) → AreReadingsBefore names following earlier qs → AreChained (parents (reverse qs)) (open_blocks earlier)
+  pub chained : (following : ℕ) (earlier : List LineValue) (qs : List Reading) → AreReadingsBefore names following earlier qs → AreChained (parents (reverse qs)) (open_blocks earlier)
   chained following [] qs h = tt
   chained following (l ∷ earlier) [] h = absurd h
   chained following (l ∷ earlier) (q ∷ qs) h =
@@ -122,24 +122,24 @@ parents_append rs qs =
     ∙ map-append (λ h. h.parent) (block_lines rs) (block_lines qs)
 
 -- ---- a part of the tree and the reading that makes it
-at_placed : {A B : Type 0} (f : ℕ → A → B) (k : ℕ) (xs : List A) (n : ℕ) → slice_get (map_placed f k xs) n ≡ option_map (f (k + n)) (slice_get xs n)
+pub at_placed : {A B : Type 0} (f : ℕ → A → B) (k : ℕ) (xs : List A) (n : ℕ) → slice_get (map_placed f k xs) n ≡ option_map (f (k + n)) (slice_get xs n)
 at_placed f k [] n = refl
 at_placed f k (x ∷ xs) zero = let same : k ≡ k + 0 = omega arith in ap (λ i. Some (f i x)) same
 at_placed f k (x ∷ xs) (suc n) =
     let same : k + 1 + n ≡ k + suc n = omega arith in
     at_placed f (k + 1) xs n ∙ ap (λ i. option_map (f i) (slice_get xs n)) same
 
-mapped_some : {A B : Type 0} (f : A → B) (o : Option A) (y : B) → option_map f o ≡ Some y → (x : A) × (o ≡ Some x) × (f x ≡ y)
+pub mapped_some : {A B : Type 0} (f : A → B) (o : Option A) (y : B) → option_map f o ≡ Some y → (x : A) × (o ≡ Some x) × (f x ≡ y)
 mapped_some f None y is = absurd (none-some y is)
 mapped_some f (Some x) y is = (x, refl, same_Some (f x) y is)
 
 -- the n-th of what readings make is made by one of them
-record IsMadeAt {X : Type 0} (head : Reading → Option X) (rs : List Reading) (n : ℕ) (x : X) : Type 0 where
-  place : ℕ
-  maker : Reading
-  there : slice_get rs place ≡ Some maker
-  made : head maker ≡ Some x
-  number : length (filter_map head (take place rs)) ≡ n
+pub record IsMadeAt {X : Type 0} (head : Reading → Option X) (rs : List Reading) (n : ℕ) (x : X) : Type 0 where
+  pub place : ℕ
+  pub maker : Reading
+  pub there : slice_get rs place ≡ Some maker
+  pub made : head maker ≡ Some x
+  pub number : length (filter_map head (take place rs)) ≡ n
 
 made_step : {X : Type 0} (head : Reading → Option X) (r : Reading) (rs : List Reading) (x : X) → ((m : ℕ) → slice_get (filter_map head rs) m ≡ Some x → IsMadeAt head rs m x)
     → (o : Option X) → head r ≡ o → (n : ℕ) → slice_get (cons_option o (filter_map head rs)) n ≡ Some x → IsMadeAt head (r ∷ rs) n x
@@ -163,12 +163,12 @@ made_step head r rs x rest (Some y) e (suc m) is =
       number = ap (λ o. length (cons_option o (filter_map head (take h.place rs)))) e ∙ ap suc h.number;
     }
 
-made_at : {X : Type 0} (head : Reading → Option X) (rs : List Reading) (x : X) (n : ℕ) → slice_get (filter_map head rs) n ≡ Some x → IsMadeAt head rs n x
+pub made_at : {X : Type 0} (head : Reading → Option X) (rs : List Reading) (x : X) (n : ℕ) → slice_get (filter_map head rs) n ≡ Some x → IsMadeAt head rs n x
 made_at head [] x n is = absurd (none-some x is)
 made_at head (r ∷ rs) x n is = made_step head r rs x (made_at head rs x) (head r) refl n is
 
 -- a block of the tree has the parent that its reading says
-parent_block : (rs : List Reading) (n : ℕ) (p : Option BlockId) → slice_get (parents rs) n ≡ Some p → (x : BlockValue) × (slice_get (blocks_in rs) n ≡ Some x) × (x.parent ≡ p)
+pub parent_block : (rs : List Reading) (n : ℕ) (p : Option BlockId) → slice_get (parents rs) n ≡ Some p → (x : BlockValue) × (slice_get (blocks_in rs) n ≡ Some x) × (x.parent ≡ p)
 parent_block rs n p is =
     let head = mapped_some (λ h. h.parent) (slice_get (block_lines rs) n) p (sym (slice_get-map (λ h. h.parent) (block_lines rs) n) ∙ is) in (
       block_at rs (0 + n) head.0,
@@ -192,15 +192,15 @@ module _ (lines : List LineValue) (rs : List Reading) (read : AreReadings lines 
   abbrev names : List (List ℕ)
   names = names_of lines
 
-  in_order : (i : ℕ) → i ≤ length lines → AreReadingsBefore names (length lines - i) (before lines i) (reverse (take i rs))
+  pub in_order : (i : ℕ) → i ≤ length lines → AreReadingsBefore names (length lines - i) (before lines i) (reverse (take i rs))
   in_order i few =
       read_in_order lines i (reverse (take i rs)) (subst (AreFirstReadings lines i) (sym (reverse-reverse (take i rs))) (fewer lines (length lines) i rs few read))
 
-  counts : (i : ℕ) → i ≤ length lines → AreCounted names (before lines i) (take i rs)
+  pub counts : (i : ℕ) → i ≤ length lines → AreCounted names (before lines i) (take i rs)
   counts i few =
       subst (AreCounted names (before lines i)) (reverse-reverse (take i rs)) (counted names (length lines - i) (before lines i) (reverse (take i rs)) (in_order i few))
 
-  chain_at : (i : ℕ) → i ≤ length lines → AreChained (parents rs) (open_blocks (before lines i))
+  pub chain_at : (i : ℕ) → i ≤ length lines → AreChained (parents rs) (open_blocks (before lines i))
   chain_at i few =
       let front = subst (λ qs. AreChained (parents qs) (open_blocks (before lines i))) (reverse-reverse (take i rs)) (chained names (length lines - i) (before lines i) (reverse (take i rs)) (in_order i few)) in
       let all = chained_more (parents (take i rs)) (parents (drop i rs)) (open_blocks (before lines i)) front in
@@ -243,7 +243,7 @@ module _ (lines : List LineValue) (rs : List Reading) (read : AreReadings lines 
       }
 
   module _ {X : Type 0} (head : Reading → Option X) (test : LineValue → Bool) (many : (i : ℕ) → i ≤ length lines → length (filter_map head (take i rs)) ≡ count_by test (take i lines)) where
-    numbered : (n : ℕ) (x : X) (h : IsMadeAt head rs n x) → IsNumbered test lines n h.place
+    pub numbered : (n : ℕ) (x : X) (h : IsMadeAt head rs n x) → IsNumbered test lines n h.place
     numbered n x h =
         let i = h.place in
         let reads = read.each i h.maker h.there in
@@ -282,7 +282,7 @@ module _ (lines : List LineValue) (rs : List Reading) (read : AreReadings lines 
         enclosed_in made.place made.maker d.block made.there (inside ∙ says),
       )
 
-  of_block : (n : ℕ) (b : BlockValue) → slice_get (blocks_in rs) n ≡ Some b → (i : ℕ) × IsNumbered is_opener lines n i × IsEnclosed lines the_tree i b.parent
+  pub of_block : (n : ℕ) (b : BlockValue) → slice_get (blocks_in rs) n ≡ Some b → (i : ℕ) × IsNumbered is_opener lines n i × IsEnclosed lines the_tree i b.parent
   of_block n b is =
       let head = λ (q : Reading). block_line q.block q.statement in
       let part = mapped_some (block_at rs (0 + n)) (slice_get (block_lines rs) n) b (sym (at_placed (block_at rs) 0 (block_lines rs) n) ∙ is) in

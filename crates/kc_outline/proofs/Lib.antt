@@ -1,3 +1,4 @@
+pub mod AddedLaws
 pub mod AddingChoices
 pub mod AddingEntries
 pub mod AddingParts
@@ -15,6 +16,7 @@ pub mod FormLaws
 pub mod MemberLaws
 pub mod MenuLaws
 pub mod NameLaws
+pub mod NestedLaws
 pub mod OnlyLaws
 pub mod OpenChoices
 pub mod OutlineFacts

@@ -26,8 +26,8 @@ use Rattle.kc_outline.specs.Outline.{IsNamedIn}
 use Rattle.kc_outline.specs.declared.fault.LineFault.{LineFault}
 use Rattle.kc_outline.specs.declared.fault.LineFault.TheVariants as fault
 use Rattle.kc_outline.specs.declared.context.Context.{Context}
-use Rattle.kc_outline.specs.declared.all_lines.Stop.{Stop}
-use Rattle.kc_outline.specs.declared.all_lines.Stop.TheVariants.{Problem, NoMemory}
+use Rattle.kc_outline.specs.declared.stop.Stop.{Stop}
+use Rattle.kc_outline.specs.declared.stop.Stop.TheVariants.{Problem, NoMemory}
 use Rattle.kc_outline.specs.Enclosing.{before}
 use Rattle.kc_outline.specs.FirstProblem.{IsReadFault, AreRefusedFor}
 use Rattle.kc_statement.specs.Names.{names_of}

@@ -9,6 +9,7 @@ pub mod Grouped
 pub mod LineFaults
 pub mod Members
 pub mod NameList
+pub mod Nested
 pub mod Outline
 pub mod Reader
 pub mod TreeOf

@@ -1,15 +1,22 @@
 -- Steps: what is known while lines are read. No public contract reaches it.
-use Rattle.std.specs.Prelude.{◌≡◌, ℕ, ◌+◌, ◌==◌, Bool, List, [], ◌∷◌, ◌++◌, Option, Some, None, reverse}
+use Rattle.std.specs.Prelude.{◌≡◌, ◌⊎◌, ℕ, ◌+◌, ◌==◌, Bool, true, false, List, [], ◌∷◌, ◌++◌, Option, Some, None, reverse}
 use Rattle.kc_text.specs.LineValue.{LineValue}
 use Rattle.kc_outline.specs.declared.fault.FaultyLine.{FaultyLine}
 use Rattle.kc_outline.specs.declared.fault.LineFault.{LineFault}
 use Rattle.kc_outline.specs.declared.fault.LineFault.TheVariants as fault
 use Rattle.kc_outline.specs.declared.fault.LineProblem.{LineProblem}
-use Rattle.kc_outline.specs.declared.all_lines.Stop.{Stop}
-use Rattle.kc_outline.specs.declared.all_lines.Stop.TheVariants.{Problem, NoMemory}
+use Rattle.kc_outline.specs.declared.fault.LineProblem.TheVariants.{Malformed}
+use Rattle.kc_outline.specs.declared.id.BlockId.{BlockId}
+use Rattle.kc_outline.specs.declared.id.ChoiceId.{ChoiceId}
+use Rattle.kc_outline.specs.declared.context.Owner.{Owner}
+use Rattle.kc_statement.specs.declared.keyword.Keyword.{Keyword}
+use Rattle.kc_outline.specs.declared.stop.Stop.{Stop}
+use Rattle.kc_outline.specs.declared.stop.Stop.TheVariants.{Problem, NoMemory}
 use Rattle.kc_statement.specs.declared.statement.Statement.{Statement}
-use Rattle.kc_statement.specs.Statements.{HasForm}
-use Rattle.kc_outline.specs.LineFaults.{HasProblem, IsSound}
+use Rattle.kc_statement.specs.LineParts.{SaysOnly}
+use Rattle.kc_statement.specs.Statements.{HasForm, HasNoForm}
+use Rattle.kc_outline.specs.Adding.{with_reading}
+use Rattle.kc_outline.specs.LineFaults.{HasProblem, IsSound, is_no_choice_default, is_past_limit}
 use Rattle.kc_outline.specs.TreeOf.{Reading, IsReading, tree_of}
 use Rattle.kc_outline.specs.Outline.{AreMade}
 use Rattle.kc_outline.specs.TreeValue.{TreeValue}
@@ -45,6 +52,22 @@ pub record IsOnlyProblem (names : List (List ℕ)) (earlier : List LineValue) (i
   pub has : HasProblem names earlier is_last l problem
   pub only : (other : LineProblem) → HasProblem names earlier is_last l other → other ≡ problem
   pub unsound : (s : Statement) → IsSound names earlier is_last l s → ⊥
+
+-- the line says one statement, which a `choice` as the nearest one before it does not refuse, and the outline got its reading
+pub record IsAdded (nearest : Option Keyword) (block : Option BlockId) (choice : Option ChoiceId) (owner : Option Owner) (l : LineValue) (old new : TreeValue) : Type 0 where
+  pub statement : Statement
+  pub says : SaysOnly old.names l statement
+  pub fits : is_no_choice_default nearest statement ≡ false
+  pub few : is_past_limit statement ≡ false
+  pub tree : new ≡ with_reading old (record { statement = statement; block = block; choice = choice; owner = owner })
+
+-- the line has no form, or says one statement, which such a `choice` refuses
+abbrev pub IsMalformed : Option Keyword → List (List ℕ) → LineValue → Type 0
+IsMalformed nearest names l = HasNoForm names l ⊎ ((s : Statement) × SaysOnly names l s × (is_no_choice_default nearest s ≡ true))
+
+abbrev pub IsNotAdded : Option Keyword → List (List ℕ) → LineValue → Stop → Type 0
+IsNotAdded nearest names l (Problem problem) = (problem ≡ Malformed) × IsMalformed nearest names l
+IsNotAdded nearest names l NoMemory = Unit {0}
 
 -- a line is not taken for a problem that it has, or for lack of memory
 abbrev pub IsStop : List (List ℕ) → List LineValue → Bool → LineValue → Stop → Type 0

@@ -4,6 +4,7 @@ ghost use Rattle.std.specs.Prelude.{◌≡◌, ℕ, ◌≤◌, ◌+◌, ◌^◌,
 ghost use Rattle.kc_outline.specs.Entries.{AreMenusClosed, IsEntryOf, first_symbols, symbol_ids};
 ghost use Rattle.kc_outline.specs.Members.{AreMembersListed};
 ghost use Rattle.kc_outline.specs.NameList.{AreNames};
+ghost use Rattle.kc_outline.specs.Nested.{AreNested};
 ghost use Rattle.kc_text.specs.LineValue.{LineValue};
 ghost use Rattle.kc_statement.specs.Keywords.{is_choice};
 ghost use Rattle.kc_outline.specs.TreeOf.{IsOutlineOf};
@@ -18,81 +19,13 @@ ghost use Rattle.kc_statement.specs.declared.limits.TheConstants.{MOST_SYMBOLS};
 ghost use Rattle.kc_text.specs.declared.reading.TheConstants.{MOST_LINES};
 
 use crate::context::Context;
-use crate::fault::{LineFault, LineProblem};
-use crate::line_faults::{early_problem, late_problem};
+use crate::fault::LineFault;
+use crate::one_line::read_line;
 use crate::outline::Outline;
-use kc_statement::{Seed, Statement, read_keyword, read_names, read_statement};
+use crate::stop::Stop;
+use kc_statement::{Seed, read_names};
 use kc_text::{Line, Text};
-use std::alloc::{AllocError, Global};
-
-/// Why a line was not added.
-#[derive(Clone, Copy, PartialEq, Eq)]
-enum Stop {
-    Problem(LineProblem),
-    NoMemory,
-}
-
-impl From<AllocError> for Stop {
-    ghost use Rattle.std.specs.Prelude.{◌≡◌};
-    ghost use Rattle.kc_outline.specs.declared.all_lines.Stop.TheVariants.{NoMemory};
-
-    ghost from_gives = { λ _ e. e ≡ NoMemory };
-
-    fn from(_error: AllocError) -> Stop {
-        Stop::NoMemory
-    }
-}
-
-/// Why a line of this statement is not added. The statement is dropped here, since a function that may drop one makes
-/// room for all of its parts on each call, and most lines are added.
-fn refused(statement: Statement, stop: Stop) -> Stop
-    ensures { result ≡ stop }
-{
-    drop(statement);
-    stop
-}
-
-/// Reads a line after those that the outline and the context come from. `following` lines come after it.
-fn read_line(
-    alloc: Global,
-    outline: &mut Outline,
-    context: &mut Context,
-    line: &Line<'_>,
-    following: usize,
-) -> Result<(), Stop>
-    requires few { length outline.old.names ≤ MOST_SYMBOLS }
-    requires room { HasRoom context.old }
-    ensures outline { OnOk result ((earlier : List LineValue)
-        → IsOutlineAfter outline.old.names (following + 1) earlier outline.old → IsContextAfter outline.old.names earlier context.old
-        → IsOutlineAfter outline.old.names following (line.now ∷ earlier) outline.new) }
-    ensures context { OnOk result ((earlier : List LineValue)
-        → IsContextAfter outline.old.names earlier context.old
-        → IsContextAfter outline.old.names (line.now ∷ earlier) context.new) }
-    ensures stop { IfErr result (λ stop. (earlier : List LineValue)
-        → IsContextAfter outline.old.names earlier context.old
-        → IsStop outline.old.names earlier (following == 0) line.now stop) }
-{
-    let keyword = read_keyword(line);
-    if let Some(problem) = early_problem(context, line, keyword, following == 0) {
-        return Err(Stop::Problem(problem));
-    }
-    let likely = outline.likely_symbol();
-    let statement = match read_statement(alloc, &outline.names, line, keyword, likely) {
-        Ok(Some(statement)) => statement,
-        Ok(None) => return Err(Stop::Problem(LineProblem::Malformed)),
-        Err(_) => return Err(Stop::NoMemory),
-    };
-    if let Some(problem) = late_problem(context, line, keyword, &statement) {
-        return Err(refused(statement, Stop::Problem(problem)));
-    }
-    let (block, choice) = (context.innermost(), context.choice());
-    let passed = context.pass(line, keyword, &statement);
-    if passed.is_err() {
-        return Err(refused(statement, Stop::NoMemory));
-    }
-    outline.add_line(alloc, statement, block, choice, context.owner())?;
-    Ok(())
-}
+use std::alloc::Global;
 
 /// The fault of a line that was not added, or that its path could not be copied.
 fn line_fault(alloc: Global, stop: Stop, line: &Line<'_>) -> LineFault
@@ -126,12 +59,15 @@ pub fn read_outline(alloc: Global, seed: Seed, lines: &[Line<'_>]) -> Result<Out
     ensures outline { IfOk result (IsOutlineOf lines.now) }
     ensures few { IfOk result (λ o. length o.symbols ≤ MOST_SYMBOLS) }
     ensures few_choices { IfOk result (λ o. length o.choices ≤ 2 ^ 30) }
+    ensures few_definitions { IfOk result (λ o. length o.definitions ≤ 2 ^ 26) }
+    ensures few_blocks { IfOk result (λ o. length o.blocks ≤ 2 ^ 26) }
     ensures choices { IfOk result (λ o. length o.choices ≡ count_by is_choice lines.now) }
     ensures named { IfOk result (λ o. length o.names ≡ length o.symbols) }
     ensures entries { IfOk result (λ o. All (IsEntryOf o) o.entries) }
     ensures members { IfOk result AreMembersListed }
     ensures firsts { IfOk result (λ o. first_symbols o.entries ≡ symbol_ids o) }
     ensures menus { IfOk result AreMenusClosed }
+    ensures nested { IfOk result AreNested }
     ensures names { IfOk result (λ o. AreNames o.names) }
     ensures open_blocks { (j : ℕ) → j ≤ length lines.now → AreOpenAt lines.now j }
     ensures enclosing { IfOk result (AreBlocksEnclosing lines.now) }

@@ -141,7 +141,7 @@ impl OpenBlocks {
 }
 
 /// The symbol of a definition.
-fn defined_symbol(statement: &Statement) -> Option<SymId>
+pub(crate) fn defined_symbol(statement: &Statement) -> Option<SymId>
     ensures { result ≡ defined_in statement.now }
 {
     match statement {
@@ -282,17 +282,17 @@ impl Context {
         }
     }
 
-    /// Goes past a line of this keyword, which says this.
+    /// Goes past a line of this keyword, which has a form and may define a symbol.
     pub(crate) fn pass(
         &mut self,
         line: &Line<'_>,
         keyword: Option<Keyword>,
-        statement: &Statement,
+        symbol: Option<SymId>,
     ) -> Result<(), AllocError>
         requires room { HasRoom self.old }
         requires keyword { keyword ≡ keyword_of line.now }
-        ensures { OnOk result ((names : List (List ℕ)) (earlier : List LineValue)
-            → IsContextAfter names earlier self.old → HasForm names line.now statement.now
+        ensures { OnOk result ((names : List (List ℕ)) (earlier : List LineValue) (statement : Statement)
+            → IsContextAfter names earlier self.old → HasForm names line.now statement → symbol ≡ defined_in statement
             → IsContextAfter names (line.now ∷ earlier) self.new) }
     {
         let Some(word) = keyword else {
@@ -306,7 +306,7 @@ impl Context {
         let block = self.block_opened(word, line.run());
         self.stack.pass(word, block)?;
         self.statement = keyword;
-        self.owner = self.made_by(word, defined_symbol(statement));
+        self.owner = self.made_by(word, symbol);
         self.count(word);
         Ok(())
     }

@@ -13,8 +13,10 @@ mod id;
 mod limits;
 mod line_faults;
 mod lines_at_fault;
+mod one_line;
 mod outline;
 mod room;
+mod stop;
 mod symbol;
 
 pub use all_lines::read_outline;

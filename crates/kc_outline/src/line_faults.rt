@@ -53,12 +53,10 @@ fn after_first<'a, 'b>(tokens: &'a [Token<'b>]) -> &'a [Token<'b>]
 }
 
 /// Whether the nearest statement is a `choice`.
-fn is_of_choice(context: &Context) -> bool
-    ensures { result ≡ is_of_choice context.now.statement }
+pub(crate) fn is_of_choice(nearest: Option<Keyword>) -> bool
+    ensures { result ≡ is_of_choice nearest }
 {
-    context
-        .statement()
-        .is_some_and(|statement| statement == Keyword::Choice)
+    nearest.is_some_and(|statement| statement == Keyword::Choice)
 }
 
 /// Whether a form is unsupported, by where it is, its keyword and the tokens after that.
@@ -69,7 +67,7 @@ fn is_unsupported(context: &Context, keyword: Keyword, tokens: &[Token<'_>]) -> 
         Keyword::Unsupported => true,
         Keyword::Choice => !tokens.is_empty() || context.choice().is_some(),
         Keyword::Menu => starts_unquoted(tokens) || context.choice().is_some(),
-        Keyword::Tristate => starts_unquoted(tokens) || is_of_choice(context),
+        Keyword::Tristate => starts_unquoted(tokens) || is_of_choice(context.statement()),
         Keyword::Option => {
             starts_with_word(tokens, "env") || starts_with_word(tokens, "defconfig_list")
         }
@@ -185,7 +183,7 @@ fn is_past_limit(statement: &Statement) -> bool
 }
 
 /// Whether a term is a name, of a symbol or of none.
-fn is_name_term(term: Option<&Term>) -> bool
+pub(crate) fn is_name_term(term: Option<&Term>) -> bool
     ensures { result ≡ is_name_term (option_copied term.entry) }
 {
     match term {
@@ -201,7 +199,7 @@ fn is_no_choice_default(context: &Context, statement: &Statement) -> bool
 {
     match statement {
         Statement::Default(default) => {
-            is_of_choice(context) && !is_name_term(term_alone(&default.value))
+            is_of_choice(context.statement()) && !is_name_term(term_alone(&default.value))
         }
         _ => false,
     }

@@ -6,6 +6,7 @@ ghost use Rattle.kc_outline.specs.Outline.{AreMade, IsNamedIn};
 ghost use Rattle.kc_statement.specs.declared.limits.TheConstants.{MOST_SYMBOLS};
 
 mod adding;
+mod frequent;
 
 use crate::block::{Block, Comment};
 use crate::choice::Choice;

@@ -12,7 +12,7 @@ fn show_counts(alloc: Global, tree: &Tree) -> Result<String, AllocError> {
     let blocks = tree.blocks().len();
     let comments = tree.comments().len();
     let entries = tree.entries().len();
-    let nodes = tree.order().len();
+    let nodes = tree.order().count();
     format!(in alloc; "{symbols} {definitions} {blocks} {comments} {entries} {nodes}")
 }
 

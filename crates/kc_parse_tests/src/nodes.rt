@@ -6,7 +6,7 @@ use crate::parsing::shown;
 use crate::table::{rows, two_fields};
 use crate::tree_showing::node_word;
 use kc_graph::Rows;
-use kc_tree::{Node, NodeRow, Tree};
+use kc_tree::{Node, NodeRow, NodeUsers, Tree};
 use std::alloc::{AllocError, Global};
 use std::test::Fail;
 
@@ -18,7 +18,7 @@ config A\nbool "a"\ndepends on B\nconfig B\nbool "b"\ndepends on C\nconfig C\nbo
 // A uses B and C, and both use D.
 config A\nbool\ndefault B && C\nconfig B\nbool\ndefault D\nconfig C\nbool\ndefault D\nconfig D\nbool | 8
 config A\nbool "a"\nchoice\nprompt "c" if A\ndefault Q if A\nconfig P\nbool "p"\nconfig Q\nbool "q"\nselect B\nendchoice\nconfig B\nbool | 10
-// The lines of a menu read more than a row copies, with one of the names twice.
+// The lines of a menu read many symbols, with one of the names twice.
 config A\nbool "a"\nconfig B\nbool "b"\nconfig C\nbool "c"\nconfig D\nbool "d"\nconfig E\nbool "e"\nconfig F\nbool "f"\nconfig G\nbool "g"\nconfig H\nbool "h"\nconfig I\nbool "i"\nconfig J\nbool "j"\nmenu "m"\ndepends on A || B || C || D || E || F || G || H || I || A\nvisible if A && B && C && D && E && F && G && H && J\nconfig P\nbool "p" if A\nchoice\nprompt "c"\nconfig Q\nbool "q"\nselect R\nendchoice\nendmenu\nconfig R\nbool | 28
 config N\nint "n" if S = "on"\nrange M 9\nconfig M\nint\ndefault 1\nconfig S\nstring "s" | 6
 "#;
@@ -43,7 +43,7 @@ fn uses(tree: &Tree, node: Node) -> Option<NodeRow<'_>> {
 }
 
 /// What uses a node of a tree, nothing where it is not one of its nodes.
-fn used_by(tree: &Tree, node: Node) -> Option<NodeRow<'_>> {
+fn used_by(tree: &Tree, node: Node) -> Option<NodeUsers<'_>> {
     if is_node_of(tree, node) {
         Some(tree.used_by(node))
     } else {
@@ -52,9 +52,9 @@ fn used_by(tree: &Tree, node: Node) -> Option<NodeRow<'_>> {
 }
 
 /// Whether each node of a tree is in its order, and none twice.
-fn has_each_node_once(tree: &Tree) -> bool {
-    let order = tree.order();
-    order.len() == tree.node_count() && tree.nodes().all(|node| order.contains(&node))
+fn has_each_node_once(alloc: Global, tree: &Tree) -> Result<bool, AllocError> {
+    let order: Vec<Node> = tree.order().collect(alloc)?;
+    Ok(order.len() == tree.node_count() && tree.nodes().all(|node| order.contains(&node)))
 }
 
 /// Whether all that a node of a tree uses is among these nodes.
@@ -69,10 +69,10 @@ fn uses_only(tree: &Tree, node: Node, nodes: &[Node]) -> bool {
 fn comes_after_uses(alloc: Global, tree: &Tree) -> Result<bool, AllocError> {
     let mut before = Vec::new(alloc);
     for node in tree.order() {
-        if !uses_only(tree, *node, before.as_slice()) {
+        if !uses_only(tree, node, before.as_slice()) {
             return Ok(false);
         }
-        before.push(*node)?;
+        before.push(node)?;
     }
     Ok(true)
 }
@@ -87,39 +87,37 @@ fn is_use_from_both_sides(tree: &Tree, node: Node, other: Node) -> bool {
     }
 }
 
-/// Whether a row of a table has a number, itself or in a list that rows share.
-fn holds(table: &Rows, count: usize, row: usize, number: usize) -> bool {
-    table.row(row).iter().any(|own| {
-        let own = *own as usize;
-        own == number
-            || (own >= count
-                && table
-                    .row(own)
-                    .iter()
-                    .any(|shared| *shared as usize == number))
-    })
+/// Whether a row of a table has a number.
+fn holds(table: &Rows, row: usize, number: usize) -> bool {
+    table.row(row).iter().any(|own| *own as usize == number)
 }
 
-/// Whether the tables of a tree say of two nodes what `uses` says.
-fn is_use_in_tables(tree: &Tree, node: Node, other: Node) -> bool {
-    let (count, from, to) = (tree.node_count(), tree.number(node), tree.number(other));
-    let is_use = match uses(tree, node) {
-        Some(mut used) => used.any(|used| used == other),
-        None => false,
-    };
-    holds(tree.use_table(), count, from, to) == is_use
-        && holds(tree.user_table(), count, to, from) == is_use
+/// Whether the two tables of a tree say the same of two cells, by their numbers.
+fn is_read_in_both(tree: &Tree, reader: usize, read: usize) -> bool {
+    holds(tree.use_table(), reader, read) == holds(tree.user_table(), read, reader)
+}
+
+/// Whether the cells that a cell reads, by its number, are those that it is among the readers of.
+fn is_among_readers(tree: &Tree, reader: usize) -> bool {
+    (0..tree.cell_count()).all(|read| is_read_in_both(tree, reader, read))
+}
+
+/// Whether each cell of a tree is in the order of the cells, and none twice.
+fn has_cells_in_order(tree: &Tree) -> bool {
+    let order = tree.cell_order();
+    (0..tree.cell_count()).all(|number| order.iter().any(|placed| *placed as usize == number))
+        && order.len() == tree.cell_count()
 }
 
 /// Whether the nodes that a node uses are those that it is among the users of.
 fn is_among_users(tree: &Tree, node: Node) -> bool {
-    tree.nodes().all(|other| is_use_from_both_sides(tree, node, other)
-        && is_use_in_tables(tree, node, other))
+    tree.nodes()
+        .all(|other| is_use_from_both_sides(tree, node, other))
 }
 
 /// How many nodes a tree has, or what is wrong with their order or their uses.
 fn show_order(alloc: Global, tree: &Tree) -> Result<String, AllocError> {
-    if !has_each_node_once(tree) {
+    if !has_each_node_once(alloc, tree)? || !has_cells_in_order(tree) {
         return String::from_str(alloc, "not each node once");
     }
     if !comes_after_uses(alloc, tree)? {
@@ -127,6 +125,9 @@ fn show_order(alloc: Global, tree: &Tree) -> Result<String, AllocError> {
     }
     if !tree.nodes().all(|node| is_among_users(tree, node)) {
         return String::from_str(alloc, "a use from one side");
+    }
+    if !(0..tree.cell_count()).all(|reader| is_among_readers(tree, reader)) {
+        return String::from_str(alloc, "a cell that is read in one table alone");
     }
     let count = tree.node_count();
     format!(in alloc; "{count}")
@@ -212,18 +213,14 @@ fn nodes_text(alloc: Global, tree: &Tree, nodes: &[Node]) -> Result<String, Allo
     Ok(out)
 }
 
-/// What a node of a tree uses, and that it uses something twice, where it does.
+/// What a node of a tree uses, each node once.
 fn used_text(alloc: Global, tree: &Tree, node: Node) -> Result<String, AllocError> {
     let Some(used) = uses(tree, node) else {
         return String::from_str(alloc, "no node of the tree");
     };
     let used: Vec<Node> = used.collect(alloc)?;
     let sorted = sorted(alloc, tree, used.as_slice())?;
-    let mut out = nodes_text(alloc, tree, sorted.as_slice())?;
-    if used.len() != sorted.len() {
-        out.push_str(" twice")?;
-    }
-    Ok(out)
+    nodes_text(alloc, tree, sorted.as_slice())
 }
 
 /// The nodes of a tree, each with all that it uses.

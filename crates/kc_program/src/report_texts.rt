@@ -35,7 +35,7 @@ pub(crate) fn why_outcome(
         });
     }
     session.fill()?;
-    let view = View::new(session.tree(), session.user(), session.values());
+    let view = View::new(session.solved());
     let places = Places::new(alloc, inputs.lines)?;
     let output = why_texts(alloc, inputs, &view, &places)?;
     Ok(Outcome::of_output(alloc, output, warnings))
@@ -98,7 +98,7 @@ pub(crate) fn check_outcome(
     session: &mut Session,
 ) -> Result<Outcome, AllocError> {
     session.fill()?;
-    let view = View::new(session.tree(), session.user(), session.values());
+    let view = View::new(session.solved());
     let places = Places::new(alloc, inputs.lines)?;
     let given = names_of(alloc, inputs.variables)?;
     let sources = source_texts(alloc, inputs)?;
@@ -179,11 +179,11 @@ pub(crate) fn merge_outcome(
     let prefix = &inputs.arguments.prefix;
     let config = input_of(inputs.config);
     session.fill()?;
-    let view = View::new(session.tree(), session.user(), session.values());
+    let view = View::new(session.solved());
     let before = read_again(effects_before(alloc, &view, prefix, &config))?;
     let output = merged_text(alloc, inputs.fragments, session)?;
     session.fill()?;
-    let view = View::new(session.tree(), session.user(), session.values());
+    let view = View::new(session.solved());
     let places = Places::new(alloc, inputs.lines)?;
     let fragments = inputs_of(alloc, inputs.fragments)?;
     let report = read_again(merge_report(
@@ -215,7 +215,7 @@ pub(crate) fn menu_outcome(
     warnings: Vec<Warning>,
 ) -> Result<Outcome, AllocError> {
     session.fill()?;
-    let view = View::new(session.tree(), session.user(), session.values());
+    let view = View::new(session.solved());
     let places = Places::new(alloc, inputs.lines)?;
     let help = if inputs.arguments.has_help {
         Help::With

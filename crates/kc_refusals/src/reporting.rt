@@ -44,7 +44,7 @@ fn fill(alloc: Global, session: &mut Session, before: &Held, time: Time) -> Resu
 /// Checks `lines_without_effect`, of the lines of the body over the values that another `.config` gives.
 pub(crate) fn check_effects(texts: &Texts, session: &mut Session) -> Result<Call, Stop> {
     session.fill()?;
-    check_lost(texts, session.tree(), session.values())
+    check_lost(texts, session.tree(), session.solved().values())
 }
 
 /// Checks it over these values.

@@ -64,9 +64,9 @@ pub(crate) fn definition_factors<'s>(
     definition: &Definition,
 ) -> Result<Vec<Factor<'s>>, AllocError> {
     if definition.prompt().is_some() {
-        prompt_factors(alloc, view.tree(), view.values(), number)
+        prompt_factors(alloc, view.known(), number)
     } else {
-        dependency_factors(alloc, view.tree(), view.values(), number)
+        dependency_factors(alloc, view.known(), number)
     }
 }
 

@@ -1,8 +1,9 @@
 //! Expressions as Kconfig writes them.
 
+use crate::words::value_text;
 use kc_statement::{Comparison, Expr, ExprNode, Term, numeral};
-use kc_tree::{Node, SymId, SymbolType, Tree, Tri};
-use kc_value::NodeValues;
+use kc_tree::{SymId, SymbolType, Tree};
+use kc_value::Known;
 use std::alloc::AllocError;
 
 /// What is written after each symbol of an expression.
@@ -10,8 +11,8 @@ use std::alloc::AllocError;
 enum Written<'v> {
     /// Nothing.
     Plain,
-    /// Its value among these.
-    Valued(&'v NodeValues),
+    /// Its value.
+    Valued(&'v Known<'v>),
 }
 
 /// Adds an expression as Kconfig writes it (kconfig-language.rst, "Menu dependencies"): `A && (B || !C)`, `A = "x"`.
@@ -31,11 +32,10 @@ pub fn push_expr(text: &mut String, tree: &Tree, expr: &Expr) -> Result<(), Allo
 /// `AllocError` where memory is refused.
 pub fn push_valued_expr(
     text: &mut String,
-    tree: &Tree,
-    values: &NodeValues,
+    known: &Known<'_>,
     expr: &Expr,
 ) -> Result<(), AllocError> {
-    push_written(text, tree, Written::Valued(values), expr)
+    push_written(text, known.tree(), Written::Valued(known), expr)
 }
 
 /// Adds a term as Kconfig writes it.
@@ -59,31 +59,22 @@ pub fn push_term(text: &mut String, tree: &Tree, term: &Term) -> Result<(), Allo
 /// `AllocError` where memory is refused.
 pub fn push_valued_term(
     text: &mut String,
-    tree: &Tree,
-    values: &NodeValues,
+    known: &Known<'_>,
     term: &Term,
 ) -> Result<(), AllocError> {
-    push_term(text, tree, term)?;
+    push_term(text, known.tree(), term)?;
     match term {
-        Term::Symbol(symbol) => push_value_after(text, tree, values, *symbol),
+        Term::Symbol(symbol) => push_value_after(text, known, *symbol),
         Term::Undefined(word) if !is_number(word.as_str()) => text.push_str("=undefined"),
         Term::Undefined(_) | Term::Tri(_) | Term::Text(_) => Ok(()),
     }
 }
 
 /// Adds the value of a symbol, after `=`.
-fn push_value_after(
-    text: &mut String,
-    tree: &Tree,
-    values: &NodeValues,
-    symbol: SymId,
-) -> Result<(), AllocError> {
+fn push_value_after(text: &mut String, known: &Known<'_>, symbol: SymId) -> Result<(), AllocError> {
     text.push('=')?;
-    let value = match values.get(tree.number(Node::Val(symbol))) {
-        Some(value) => value.as_text(),
-        None => Tri::No.letter(),
-    };
-    match tree.symbol_type(symbol) {
+    let value = value_text(known, symbol);
+    match known.tree().symbol_type(symbol) {
         SymbolType::String => push_quoted(text, value),
         _ => text.push_str(value),
     }
@@ -122,7 +113,7 @@ fn push_written_term(
 ) -> Result<(), AllocError> {
     match written {
         Written::Plain => push_term(text, tree, term),
-        Written::Valued(values) => push_valued_term(text, tree, values, term),
+        Written::Valued(known) => push_valued_term(text, known, term),
     }
 }
 

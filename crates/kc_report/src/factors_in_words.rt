@@ -62,7 +62,7 @@ pub(crate) fn push_valued_factor(
             if is_any && !is_alone {
                 text.push('(')?;
             }
-            push_valued_expr(text, view.tree(), view.values(), expr)?;
+            push_valued_expr(text, view.known(), expr)?;
             if is_any && !is_alone {
                 text.push(')')?;
             }

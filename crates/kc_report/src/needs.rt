@@ -79,13 +79,13 @@ fn add_expr(
 ) -> Result<(), AllocError> {
     let ExprNode::All(parts) = expr.node() else {
         let mut words = String::new(alloc);
-        push_valued_expr(&mut words, view.tree(), view.values(), expr)?;
+        push_valued_expr(&mut words, view.known(), expr)?;
         return needs.add(words);
     };
     for part in parts {
-        if is_below(tri(view.tree(), part, view.values()), asked) {
+        if is_below(tri(view.known(), part), asked) {
             let mut words = String::new(alloc);
-            push_valued_expr(&mut words, view.tree(), view.values(), part)?;
+            push_valued_expr(&mut words, view.known(), part)?;
             needs.add(words)?;
         }
     }
@@ -162,7 +162,7 @@ fn factors_of<'s>(
     if !has_prompt {
         return Ok(None);
     }
-    let factors = prompt_factors(alloc, tree, view.values(), number)?;
+    let factors = prompt_factors(alloc, view.known(), number)?;
     Ok(Some(factors))
 }
 
@@ -178,7 +178,7 @@ pub(crate) fn push_needs(
     let Some(number) = nearest_prompt(alloc, view, symbol, asked)? else {
         return Ok(false);
     };
-    let factors = prompt_factors(alloc, view.tree(), view.values(), number)?;
+    let factors = prompt_factors(alloc, view.known(), number)?;
     let mut needs = Needs::new(alloc);
     add_factors(alloc, &mut needs, view, factors.as_slice(), asked)?;
     if needs.words.is_empty() {

@@ -4,7 +4,6 @@ use crate::definitions_in_words::definition_factors;
 use crate::needs::has_prompt;
 use crate::reverses::{ReverseKind, push_reverse_row};
 use crate::view::View;
-use crate::words::node_tri;
 use kc_statement::{ExprNode, Operands, Term};
 use kc_tree::{Expr, Node, SymId, Symbol};
 use kc_value::FactorPart;
@@ -22,7 +21,7 @@ fn is_wanted(view: &View<'_>, symbol: SymId) -> bool {
     let Some(found) = tree.symbols().get(symbol.0 as usize) else {
         return false;
     };
-    node_tri(tree, view.values(), Node::Val(symbol)).is_no()
+    view.known().tri(Node::Val(symbol)).is_no()
         && !found.selected().is_empty()
         && !has_prompt(view, found)
 }

@@ -38,7 +38,7 @@ fn push_condition(
 ) -> Result<(), AllocError> {
     if let Some(condition) = condition {
         text.push_str(" if ")?;
-        push_valued_expr(text, view.tree(), view.values(), condition)?;
+        push_valued_expr(text, view.known(), condition)?;
     }
     Ok(())
 }
@@ -55,7 +55,7 @@ fn push_default(
         return Ok(());
     };
     let mut words = String::from_str(alloc, "default ")?;
-    push_valued_expr(&mut words, view.tree(), view.values(), &default.value)?;
+    push_valued_expr(&mut words, view.known(), &default.value)?;
     push_condition(&mut words, view, default.condition.as_ref())?;
     text.push_str("    ")?;
     let attributes = places.attributes_of_definition(place.definition);
@@ -99,7 +99,7 @@ pub(crate) fn push_bounds(
     symbol: SymId,
 ) -> Result<(), AllocError> {
     let tree = view.tree();
-    match active_range(tree, view.values(), symbol) {
+    match active_range(view.known(), symbol) {
         Some(range) => push_spelled(alloc, text, tree.symbol_type(symbol), range),
         None => Ok(()),
     }
@@ -137,7 +137,7 @@ fn push_default_value(
     default: Option<DefaultPlace>,
 ) -> Result<(), AllocError> {
     match default.and_then(|place| default_at(view.tree(), place)) {
-        Some(default) => push_valued_expr(text, view.tree(), view.values(), &default.value),
+        Some(default) => push_valued_expr(text, view.known(), &default.value),
         None => Ok(()),
     }
 }

@@ -100,8 +100,8 @@ pub(crate) fn push_reverse(
         return Ok(());
     };
     let mut words = String::new(alloc);
-    push_valued(&mut words, tree, view.values(), line.by)?;
-    let factors = reverse_factors(alloc, tree, view.values(), line)?;
+    push_valued(&mut words, view.known(), line.by)?;
+    let factors = reverse_factors(alloc, view.known(), line)?;
     if !factors.is_empty() {
         words.push_str(" if ")?;
         push_valued_factors(&mut words, view, factors.as_slice())?;
@@ -126,7 +126,7 @@ fn count_lines(view: &View<'_>, lines: &[Reverse]) -> Tally {
     let mut active: usize = 0;
     let mut greatest = Tri::No;
     for line in lines {
-        let value = reverse_value(view.tree(), view.values(), line);
+        let value = reverse_value(view.known(), line);
         if !value.is_no() {
             active = active.saturating_add(1);
         }
@@ -156,7 +156,7 @@ pub(crate) fn push_reverses(
     push_tally(text, list.kind, counted, lines.len())?;
     let mut shown: usize = 0;
     for (number, line) in lines.iter().enumerate() {
-        let is_active = !reverse_value(view.tree(), view.values(), line).is_no();
+        let is_active = !reverse_value(view.known(), line).is_no();
         if !is_shown(extent, is_active, shown) {
             continue;
         }
@@ -213,7 +213,7 @@ pub(crate) fn push_reverse_row(
     };
     let mut count: usize = 0;
     for line in kind.of(found) {
-        let value = reverse_value(view.tree(), view.values(), line);
+        let value = reverse_value(view.known(), line);
         if !is_above(value, above) {
             continue;
         }
@@ -224,7 +224,7 @@ pub(crate) fn push_reverse_row(
             text.push_str(", ")?;
         }
         if count < MOST_SHOWN {
-            push_valued(text, view.tree(), view.values(), line.by)?;
+            push_valued(text, view.known(), line.by)?;
         }
         count = count.saturating_add(1);
     }

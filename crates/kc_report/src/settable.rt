@@ -5,9 +5,9 @@ ghost use Rattle.kc_tree.specs.Nodes.{IsNodeOf};
 
 use crate::reasons_in_words::push_bounds;
 use crate::view::View;
-use crate::words::{node_tri, push_user};
+use crate::words::push_user;
 use kc_tree::{Node, SymId, SymbolType};
-use kc_value::{SharedConditions, active_range, assignable_among};
+use kc_value::{active_range, assignable_among};
 use std::alloc::{AllocError, Global};
 
 /// Adds the values that a user can give a bool or a tristate with an effect.
@@ -19,8 +19,7 @@ fn push_tristates(
 ) -> Result<(), AllocError>
     requires { IsNodeOf view.now.tree (Vis symbol) }
 {
-    let conditions = SharedConditions::none(alloc);
-    let values = assignable_among(alloc, view.tree(), &conditions, view.values(), symbol)?;
+    let values = assignable_among(alloc, view.known(), symbol)?;
     if values.is_empty() {
         return Ok(());
     }
@@ -40,7 +39,7 @@ fn push_numbers(
     symbol: SymId,
 ) -> Result<(), AllocError> {
     text.push_str("  can be set to a number")?;
-    if active_range(view.tree(), view.values(), symbol).is_some() {
+    if active_range(view.known(), symbol).is_some() {
         text.push_str(" of the range ")?;
         push_bounds(alloc, text, view, symbol)?;
     }
@@ -58,7 +57,7 @@ pub(crate) fn push_settable(
     let Some(_found) = tree.symbols().get(symbol.0 as usize) else {
         return Ok(());
     };
-    if node_tri(tree, view.values(), Node::Vis(symbol)).is_no() {
+    if view.known().tri(Node::Vis(symbol)).is_no() {
         return push_waiting(text, view, symbol);
     }
     match tree.symbol_type(symbol) {

@@ -5,7 +5,7 @@ use crate::places::Places;
 use crate::reasons_in_words::{push_bounds, push_reason_words};
 use crate::reverses::{ReverseKind, push_reverse_row};
 use crate::view::View;
-use crate::words::{node_tri, push_valued};
+use crate::words::push_valued;
 use kc_tree::{Node, SymId, Symbol, SymbolType, Tri, UserVal};
 use kc_value::Reason;
 use std::alloc::{AllocError, Global};
@@ -57,7 +57,7 @@ fn push_member(
     symbol: SymId,
     reason: Reason,
 ) -> Result<(), AllocError> {
-    let is_visible = !node_tri(view.tree(), view.values(), Node::Vis(symbol)).is_no();
+    let is_visible = !view.known().tri(Node::Vis(symbol)).is_no();
     if !is_visible && push_needs(alloc, text, view, found, Tri::Yes)? {
         return Ok(());
     }
@@ -73,7 +73,7 @@ fn push_tristate(
     asked: Tri,
     reason: Reason,
 ) -> Result<(), AllocError> {
-    let value = node_tri(view.tree(), view.values(), Node::Val(symbol));
+    let value = view.known().tri(Node::Val(symbol));
     let is_more = is_below(asked, value);
     if is_more && lacks_modules(view, symbol, asked) {
         return push_modules(text, view);
@@ -89,7 +89,7 @@ fn push_tristate(
 fn lacks_modules(view: &View<'_>, symbol: SymId, asked: Tri) -> bool {
     let tree = view.tree();
     let modules = match tree.modules() {
-        Some(modules) => node_tri(tree, view.values(), Node::Val(modules)),
+        Some(modules) => view.known().tri(Node::Val(modules)),
         None => Tri::No,
     };
     asked == Tri::Module && tree.symbol_type(symbol) == SymbolType::Tristate && modules.is_no()
@@ -98,7 +98,7 @@ fn lacks_modules(view: &View<'_>, symbol: SymId, asked: Tri) -> bool {
 /// Adds the value of MODULES.
 fn push_modules(text: &mut String, view: &View<'_>) -> Result<(), AllocError> {
     match view.tree().modules() {
-        Some(modules) => push_valued(text, view.tree(), view.values(), modules),
+        Some(modules) => push_valued(text, view.known(), modules),
         None => text.push_str("MODULES=undefined"),
     }
 }

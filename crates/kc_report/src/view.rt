@@ -5,40 +5,38 @@ ghost use Rattle.kc_value.specs.Reasons.{IsReason};
 ghost use Rattle.kc_value.specs.Solution.{AreSolved, solution};
 
 use kc_tree::{SymId, Tree};
-use kc_value::{NodeValues, Reason, User, reason_over};
+use kc_value::{Known, NodeValues, Reason, Solved, User, reason_over};
 use std::marker::Model;
 
 /// A tree, the values that a user gave, and the values of all nodes, which are those of the only solution. Contracts see
 /// the record of the three.
 #[derive(Drop)]
 pub struct View<'s> {
-    tree: &'s Tree,
-    user: &'s User,
-    values: &'s NodeValues,
+    solved: Solved<'s>,
 }
 
 impl<'s> Model for View<'s> {
-    ghost use Rattle.kc_report.specs.View.{ViewValue};
     ghost use Rattle.kc_value.specs.Solution.{AreSolved};
+    ghost use Rattle.kc_value.specs.Solved.{SolvedValue};
     ghost use Rattle.kc_statement.specs.contracts.expr.Expr as expr;
     ghost use Rattle.std.specs.Coded.{codes};
 
-    ghost Value = { ViewValue };
+    ghost Value = { SolvedValue };
 
     ghost coded = { Prim.hlevel (codes, expr.the_row.coded) };
 
-    ghost view = { λ v. record { tree = v.tree.now; user = v.user.now; values = v.values.now } };
+    ghost view = { λ v. v.solved };
 
-    ghost invariant = { λ v. AreSolved v.tree.now v.user.now v.values.now };
+    ghost invariant = { λ v. AreSolved v.solved.tree v.solved.user v.solved.values };
 }
 
 impl<'s> View<'s> {
-    /// Of a tree with the values that a user gave, whose solution the values are.
-    pub fn new(tree: &'s Tree, user: &'s User, values: &'s NodeValues) -> View<'s>
-        requires { AreSolved tree.now user.now values.now }
-        ensures { result ≡ record { tree = tree.entry.now; user = user.entry.now; values = values.entry.now } }
+    /// Of a tree with user values, where the values of all nodes are there.
+    pub fn new(solved: Solved<'s>) -> View<'s>
+        requires { AreSolved solved.tree solved.user solved.values }
+        ensures { result ≡ solved.entry }
     {
-        View { tree, user, values }
+        View { solved }
     }
 
     /// The tree.
@@ -46,7 +44,7 @@ impl<'s> View<'s> {
         ensures tree { result.now ≡ self.now.tree }
         ensures solved { AreSolved self.now.tree self.now.user self.now.values }
     {
-        self.tree
+        self.solved.tree()
     }
 
     /// The values that the user gave, and the members that he chose.
@@ -54,7 +52,7 @@ impl<'s> View<'s> {
         ensures user { result.now ≡ self.now.user }
         ensures solved { AreSolved self.now.tree self.now.user self.now.values }
     {
-        self.user
+        self.solved.user()
     }
 
     /// The values of all nodes, by number.
@@ -62,7 +60,15 @@ impl<'s> View<'s> {
         ensures values { result.now ≡ self.now.values }
         ensures solved { AreSolved self.now.tree self.now.user self.now.values }
     {
-        self.values
+        self.solved.values()
+    }
+
+    /// What rules read.
+    pub fn known(&self) -> &Known<'s>
+        ensures tree { result.now.tree ≡ self.now.tree }
+        ensures values { result.now.values ≡ self.now.values }
+    {
+        self.solved.known()
     }
 
     /// Why a symbol has its value, none for one that the tree doesn't have: the branch of the rule that gives it.
@@ -70,7 +76,7 @@ impl<'s> View<'s> {
         ensures reason { IfSome result (IsReason self.now.tree self.now.user (solution self.now.tree self.now.user) symbol) }
         ensures there { is_some result ≡ is_some (slice_get self.now.tree.symbols symbol.0) }
     {
-        let _found = self.tree.symbols().get(symbol.0 as usize)?;
-        Some(reason_over(self.tree, self.user, self.values, symbol))
+        let _found = self.tree().symbols().get(symbol.0 as usize)?;
+        Some(reason_over(self.known(), self.user(), symbol))
     }
 }

@@ -9,7 +9,7 @@ use crate::reverses::{ReverseKind, ReverseList, push_reverses};
 use crate::settable::push_settable;
 use crate::users::push_users;
 use crate::view::View;
-use crate::words::{node_tri, push_user, push_value, type_name};
+use crate::words::{push_user, push_value, type_name};
 use kc_tree::{Node, SymId};
 use kc_value::Reason;
 use std::alloc::{AllocError, Global};
@@ -20,9 +20,9 @@ fn push_head(text: &mut String, view: &View<'_>, symbol: SymId) -> Result<(), Al
     let kind = tree.symbol_type(symbol);
     text.push_str(tree.name(symbol))?;
     text.push_str(" = ")?;
-    push_value(text, tree, view.values(), symbol)?;
+    push_value(text, view.known(), symbol)?;
     let name = type_name(kind);
-    let visible = node_tri(tree, view.values(), Node::Vis(symbol)).letter();
+    let visible = view.known().tri(Node::Vis(symbol)).letter();
     write!(text, " ({name}, visible {visible}, user ")?;
     match view.user().get(symbol) {
         Some(value) => push_user(text, kind, value)?,

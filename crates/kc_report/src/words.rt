@@ -2,8 +2,8 @@
 
 use crate::expressions::push_quoted;
 use kc_explain::shown_line;
-use kc_tree::{Node, SymId, SymbolType, Tree, Tri, UserVal};
-use kc_value::NodeValues;
+use kc_tree::{Node, SymId, SymbolType, Tri, UserVal};
+use kc_value::Known;
 use std::alloc::{AllocError, Global};
 
 /// The name of a type.
@@ -15,11 +15,6 @@ pub(crate) fn type_name(kind: SymbolType) -> &'static str {
         SymbolType::Int => "int",
         SymbolType::Hex => "hex",
     }
-}
-
-/// The tristate value of a node.
-pub(crate) fn node_tri(tree: &Tree, values: &NodeValues, node: Node) -> Tri {
-    values.tri(tree.number(node))
 }
 
 /// Adds a text as a value of a type is written: a string in quotes, at most 160 bytes of it.
@@ -36,30 +31,33 @@ pub(crate) fn push_text_value(
     }
 }
 
+/// The text of the value of a symbol.
+pub(crate) fn value_text<'k>(known: &Known<'k>, symbol: SymId) -> &'k str {
+    match known.get(Node::Val(symbol)) {
+        Some(value) => value.as_text(),
+        None => Tri::No.letter(),
+    }
+}
+
 /// Adds the value of a symbol.
 pub(crate) fn push_value(
     text: &mut String,
-    tree: &Tree,
-    values: &NodeValues,
+    known: &Known<'_>,
     symbol: SymId,
 ) -> Result<(), AllocError> {
-    let value = match values.get(tree.number(Node::Val(symbol))) {
-        Some(value) => value.as_text(),
-        None => Tri::No.letter(),
-    };
-    push_text_value(text, tree.symbol_type(symbol), value)
+    let kind = known.tree().symbol_type(symbol);
+    push_text_value(text, kind, value_text(known, symbol))
 }
 
 /// Adds a symbol with its value, as `A=y`.
 pub(crate) fn push_valued(
     text: &mut String,
-    tree: &Tree,
-    values: &NodeValues,
+    known: &Known<'_>,
     symbol: SymId,
 ) -> Result<(), AllocError> {
-    text.push_str(tree.name(symbol))?;
+    text.push_str(known.tree().name(symbol))?;
     text.push('=')?;
-    push_value(text, tree, values, symbol)
+    push_value(text, known, symbol)
 }
 
 /// Adds a user value.

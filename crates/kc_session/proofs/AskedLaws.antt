@@ -1,20 +1,23 @@
 -- What is kept once the nodes of symbols or of choices were asked, one after the other.
-use Rattle.std.proofs.Common.{◌≡◌, ℕ, zero, suc, ◌+◌, ◌-◌, ◌*◌, ◌<◌, ◌≤◌, List, [], ◌∷◌, Option, Result, Ok, Err, OnOk, map, length, get_or, refl, sym, ◌∙◌, subst, arith}
+use Rattle.std.proofs.Common.{◌≡◌, ℕ, zero, suc, ◌+◌, ◌-◌, ◌*◌, ◌<◌, ◌≤◌, List, [], ◌∷◌, Option, Result, Ok, Err, OnOk, map, length, get_or, refl, sym, ap, ◌∙◌, subst, arith}
 use Rattle.std.specs.List.{Contains, range_with_len}
 use Rattle.std.proofs.lemmas.List.FromFn.{get_or-map-range_with_len, length-map-range_with_len}
 use Rattle.kc_statement.specs.declared.id.SymId.{SymId}
 use Rattle.kc_outline.specs.declared.id.ChoiceId.{ChoiceId}
 use Rattle.kc_outline.specs.TreeValue.{TreeValue}
 use Rattle.kc_tree.specs.declared.node.Node.{Node}
-use Rattle.kc_tree.specs.declared.node.Node.TheVariants.{Vis, Val, Sel}
+use Rattle.kc_tree.specs.declared.node.Node.TheVariants.{Vis, Val, Mode, Sel}
 use Rattle.kc_tree.specs.Nodes.{AreNumbered, IsNodeOf, all_nodes, node_at, node_count, number_of}
 use Rattle.kc_value.specs.declared.value.Value.{Value}
 use Rattle.kc_value.specs.Assignment.{assignment_of}
 use Rattle.kc_value.specs.Kept.{IsKept}
+use Rattle.kc_value.specs.Known.{KnownValue}
 use Rattle.kc_value.specs.Solution.{AreSolved, solution}
+use Rattle.kc_value.specs.Solved.{SolvedValue}
 use Rattle.kc_value.specs.FillLaws.{fills_again, fills_nothing, fills_wider, kept_after}
+use Rattle.kc_files.specs.DraftValue.{Agrees}
 use Rattle.kc_session.specs.Keeping.{choice_nodes, symbol_nodes}
-use Rattle.kc_session.specs.KeptResolver.{AreAllKept, Asked, IsResolving, ResolverState}
+use Rattle.kc_session.specs.KeptResolver.{AreAllKept, Asked, IsResolving, ResolverState, solved_of}
 
 -- ---- nodes by number
 abbrev numbered : TreeValue → ℕ → ℕ → List Node
@@ -63,9 +66,15 @@ asked_nothing p r = record {
 symbol_in : (t : TreeValue) → AreNumbered t → (s : SymId) → s.0 < length t.symbols → Contains (symbol_nodes t) (Val s)
 symbol_in t is s inside = in_numbered t is 0 (2 * length t.symbols) (Val s) inside (omega arith) (omega (arith, inside))
 
+visibility_in : (t : TreeValue) → AreNumbered t → (s : SymId) → s.0 < length t.symbols → Contains (symbol_nodes t) (Vis s)
+visibility_in t is s inside = in_numbered t is 0 (2 * length t.symbols) (Vis s) inside (omega arith) (omega (arith, inside))
+
 -- ---- choices
 choice_in : (t : TreeValue) → AreNumbered t → (c : ChoiceId) → c.0 < length t.choices → Contains (choice_nodes t) (Sel c)
 choice_in t is c inside = in_numbered t is (2 * length t.symbols) (2 * length t.choices) (Sel c) inside (omega arith) (omega (arith, inside))
+
+mode_in : (t : TreeValue) → AreNumbered t → (c : ChoiceId) → c.0 < length t.choices → Contains (choice_nodes t) (Mode c)
+mode_in t is c inside = in_numbered t is (2 * length t.symbols) (2 * length t.choices) (Mode c) inside (omega arith) (omega (arith, inside))
 
 -- ---- all nodes
 pub all_here : (t : TreeValue) → AreNumbered t → (n : Node) → IsNodeOf t n → Contains (all_nodes t) n
@@ -90,29 +99,28 @@ all_stay old mid new is f kept g n c =
     kept_after mid.tree new.tree (all_nodes mid.tree) mid.kept new.kept n g.tree inside (kept n c) g.fills
 
 -- ---- what a text is made from is kept
-pub symbols_there : (old new : ResolverState) (t : TreeValue) (kept : List (Option Value)) → AreNumbered old.tree → t ≡ new.tree → kept ≡ new.kept.values → Asked (symbol_nodes old.tree) old new
-    → AreAllKept (symbol_nodes old.tree) new → (s : SymId) → IsNodeOf t (Val s) → IsKept t kept (Val s)
-symbols_there old new t kept is is_t is_kept f all s inside =
-    let within : s.0 < length old.tree.symbols = subst (λ x. s.0 < length x.symbols) (is_t ∙ f.tree) inside in
-    subst (λ x. IsKept x kept (Val s)) (sym is_t) (subst (λ k. IsKept new.tree k (Val s)) (sym is_kept) (all (Val s) (symbol_in old.tree is s within)))
+same_tree : (nodes : List Node) (old new : ResolverState) (s : SolvedValue) → s ≡ solved_of new → Asked nodes old new → s.tree ≡ old.tree
+same_tree nodes old new s is f = ap (λ (x : SolvedValue). x.tree) is ∙ f.tree
 
-pub choices_there : (old new : ResolverState) (t : TreeValue) (kept : List (Option Value)) → AreNumbered old.tree → t ≡ new.tree → kept ≡ new.kept.values → Asked (choice_nodes old.tree) old new
-    → AreAllKept (choice_nodes old.tree) new → (c : ChoiceId) → IsNodeOf t (Sel c) → IsKept t kept (Sel c)
-choices_there old new t kept is is_t is_kept f all c inside =
-    let within : c.0 < length old.tree.choices = subst (λ x. c.0 < length x.choices) (is_t ∙ f.tree) inside in
-    subst (λ x. IsKept x kept (Sel c)) (sym is_t) (subst (λ k. IsKept new.tree k (Sel c)) (sym is_kept) (all (Sel c) (choice_in old.tree is c within)))
+there : (nodes : List Node) (new : ResolverState) (s : SolvedValue) → s ≡ solved_of new → AreAllKept nodes new → (n : Node) → Contains nodes n → IsKept s.tree s.values n
+there nodes new s is all n c = subst (λ (x : SolvedValue). IsKept x.tree x.values n) (sym is) (all n c)
 
--- the values of all nodes are those of the solution
-pub all_solved : (old new : ResolverState) (t : TreeValue) (kept : List (Option Value)) → t ≡ new.tree → kept ≡ new.kept.values → Asked (all_nodes old.tree) old new
-    → AreAllKept (all_nodes old.tree) new → IsResolving new → AreSolved t old.user kept
-all_solved old new t kept is_t is_kept f all sound n inside =
-    let within : IsNodeOf new.tree n = subst (λ x. IsNodeOf x n) is_t inside in
-    let before : IsNodeOf old.tree n = subst (λ x. IsNodeOf x n) f.tree within in
-    let numbers : AreNumbered old.tree = subst AreNumbered f.tree sound.laws.numbered in
-    let here : Contains (all_nodes old.tree) n = all_here old.tree numbers n before in
-    (λ i. assignment_of (is_t i) (is_kept i) n)
-    ∙ sound.laws.right new.user new.kept.values sound.kept n within (all n here)
-    ∙ (λ i. solution (sym is_t i) (f.user i) n)
+module _ (old new : ResolverState) (s : SolvedValue) (numbers : AreNumbered old.tree) (is : s ≡ solved_of new) where
+  pub values_there : Asked (symbol_nodes old.tree) old new → AreAllKept (symbol_nodes old.tree) new → (x : SymId) → IsNodeOf s.tree (Val x) → IsKept s.tree s.values (Val x)
+  values_there f all x inside =
+      there (symbol_nodes old.tree) new s is all (Val x) (symbol_in old.tree numbers x (subst (λ (t : TreeValue). x.0 < length t.symbols) (same_tree (symbol_nodes old.tree) old new s is f) inside))
+
+  pub visibilities_there : Asked (symbol_nodes old.tree) old new → AreAllKept (symbol_nodes old.tree) new → (x : SymId) → IsNodeOf s.tree (Vis x) → IsKept s.tree s.values (Vis x)
+  visibilities_there f all x inside =
+      there (symbol_nodes old.tree) new s is all (Vis x) (visibility_in old.tree numbers x (subst (λ (t : TreeValue). x.0 < length t.symbols) (same_tree (symbol_nodes old.tree) old new s is f) inside))
+
+  pub selections_there : Asked (choice_nodes old.tree) old new → AreAllKept (choice_nodes old.tree) new → (x : ChoiceId) → IsNodeOf s.tree (Sel x) → IsKept s.tree s.values (Sel x)
+  selections_there f all x inside =
+      there (choice_nodes old.tree) new s is all (Sel x) (choice_in old.tree numbers x (subst (λ (t : TreeValue). x.0 < length t.choices) (same_tree (choice_nodes old.tree) old new s is f) inside))
+
+  pub modes_there : Asked (choice_nodes old.tree) old new → AreAllKept (choice_nodes old.tree) new → (x : ChoiceId) → IsNodeOf s.tree (Mode x) → IsKept s.tree s.values (Mode x)
+  modes_there f all x inside =
+      there (choice_nodes old.tree) new s is all (Mode x) (mode_in old.tree numbers x (subst (λ (t : TreeValue). x.0 < length t.choices) (same_tree (choice_nodes old.tree) old new s is f) inside))
 
 -- ---- where a call is done
 pub on_ok : {A E P Q : Type 0} (r : Result A E) → (P → Q) → OnOk r P → OnOk r Q
@@ -140,9 +148,31 @@ shown_kept s old new inside f own sound n h = go h.0 h.1 h.2
     go (suc zero) within is = subst (λ x. IsKept new.tree new.kept.values x) is value
     go (suc (suc k)) within is = absurd (omega (arith, within))
 
+pub shown_there : (x : SymId) (old new : ResolverState) (s : SolvedValue) → s ≡ solved_of new → x.0 < length old.tree.symbols → Asked (Val x ∷ []) old new → IsKept old.tree new.kept.values (Val x)
+    → IsResolving new → IsKept s.tree s.values (Val x) × IsKept s.tree s.values (Vis x)
+shown_there x old new s is inside f own sound =
+    let nodes = Vis x ∷ Val x ∷ [] in
+    let all : AreAllKept nodes new = shown_kept x old new inside f own sound in
+    (there nodes new s is all (Val x) (1, omega arith, refl), there nodes new s is all (Vis x) (0, omega arith, refl))
+
 -- ---- a session that keeps all nodes
 pub session_kept : (old new : ResolverState) → AreNumbered old.tree → Asked (all_nodes old.tree) old new → AreAllKept (all_nodes old.tree) new → (n : Node) → IsNodeOf new.tree n → IsKept new.tree new.kept.values n
 session_kept old new is f all n inside = all n (all_here old.tree is n (subst (λ x. IsNodeOf x n) f.tree inside))
 
 pub kept_solved : (r : ResolverState) → IsResolving r → ((n : Node) → IsNodeOf r.tree n → IsKept r.tree r.kept.values n) → AreSolved r.tree r.user r.kept.values
 kept_solved r sound all n inside = sound.laws.right r.user r.kept.values sound.kept n inside (all n inside)
+
+-- ---- all values are those of the solution
+pub all_solved : (old new : ResolverState) (s : SolvedValue) → s ≡ solved_of new → Asked (all_nodes old.tree) old new → AreAllKept (all_nodes old.tree) new → IsResolving new
+    → AreSolved s.tree s.user s.values
+all_solved old new s is f all sound =
+    subst (λ (x : SolvedValue). AreSolved x.tree x.user x.values) (sym is) (kept_solved new sound (session_kept old new (subst AreNumbered f.tree sound.laws.numbered) f all))
+
+pub known_agrees : (old new : ResolverState) (s : SolvedValue) (k : KnownValue) → s ≡ solved_of new → k.tree ≡ s.tree → k.values ≡ s.values → Asked (all_nodes old.tree) old new
+    → AreAllKept (all_nodes old.tree) new → IsResolving new → Agrees k.tree k.values (solution old.tree old.user)
+known_agrees old new s k is tree values f all sound n inside =
+    let same : s.tree ≡ old.tree = same_tree (all_nodes old.tree) old new s is f in
+    let user : s.user ≡ old.user = ap (λ (x : SolvedValue). x.user) is ∙ f.user in
+    (λ i. assignment_of (tree i) (values i) n)
+    ∙ all_solved old new s is f all sound n (subst (λ x. IsNodeOf x n) tree inside)
+    ∙ (λ i. solution (same i) (user i) n)

@@ -30,23 +30,27 @@ module _ (old new : SessionState) (laws : KeptLaws old.session.tree) (tree : new
   closed : IsClosed old.session.tree new.kept.values
   closed = subst (λ t. IsClosed t new.kept.values) tree right.closed
 
+  -- and so does the count of what is kept
+  kept : kept_count new.session.tree new.kept.values ≡ kept_count old.session.tree new.kept.values
+  kept = ap (λ t. kept_count t new.kept.values) tree
+
   asks_bounded : (nodes : List Node) → Asks nodes old r new → IsBounded old new
   asks_bounded nodes asks dirty has =
       let count : node_count new.session.tree ≡ node_count old.session.tree = ap node_count tree in
-      let before : ℕ = kept_count old.kept.values in
-      let after : ℕ = kept_count new.kept.values in
+      let before : ℕ = kept_count old.session.tree old.kept.values in
+      let after : ℕ = kept_count old.session.tree new.kept.values in
       let bound : raised old.kept.evals (after - before) + (node_count old.session.tree - after) ≤ old.kept.evals + missing_count old + length dirty =
       added_within old.kept.evals before after (node_count old.session.tree) (length dirty) asks.fills.adds.more (laws.count_within new.kept.values closed) in
       let evals : new.kept.evals ≡ raised old.kept.evals (after - before) = asks.fills.counted in
-      omega (arith, bound, evals, count)
+      omega (arith, bound, evals, count, kept)
 
   -- only dirty nodes are dropped
   edits_bounded : EditsKept old new → IsBounded old new
   edits_bounded edits dirty has =
       let count : node_count new.session.tree ≡ node_count old.session.tree = ap node_count tree in
-      let fewer : kept_count old.kept.values ≤ kept_count new.kept.values + length dirty =
+      let fewer : kept_count old.session.tree old.kept.values ≤ kept_count old.session.tree new.kept.values + length dirty =
       laws.count_dropped old.session.user new.session.user old.kept new.kept dirty right_before.closed closed has edits in
-      omega (arith, fewer, edits.evals, count)
+      omega (arith, fewer, edits.evals, count, kept)
 
   keeps_bounded : (c : Command) → Keeps old c r new → IsBounded old new
   unfolding Keeps

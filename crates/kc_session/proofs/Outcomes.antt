@@ -1,5 +1,5 @@
 -- What an edit did, with or without its memory.
-use Rattle.std.proofs.Common.{◌≡◌, ◌≤◌, Bool, true, false, not, if◌then◌else◌, ℕ, List, [], length, Option, Some, None, is_some, IsTrue, refl, sym, ap, ◌∙◌, subst, arith, replicate}
+use Rattle.std.proofs.Common.{◌≡◌, ◌≤◌, Bool, true, false, not, if◌then◌else◌, ℕ, List, [], length, Option, Some, None, Result, Ok, Err, IfOk, OnErr, is_some, IsTrue, refl, sym, ap, ◌∙◌, subst, arith, replicate}
 use Rattle.std.proofs.lemmas.Bool.{false≢true}
 use Rattle.std.proofs.lemmas.List.{set_past}
 use Rattle.std.specs.Option.{option_map_or}
@@ -20,7 +20,7 @@ use Rattle.kc_value.specs.Dirty.{Edits}
 use Rattle.kc_session.specs.KeptResolver.{Edited, ResolverState}
 use Rattle.kc_session.specs.Session.{SessionValue, with_user}
 use Rattle.kc_session.specs.Values.{value_of}
-use Rattle.kc_session.specs.Effect.{Outcome, IsOutcome, IsApplied, perform, keeps_text, refuse, give_value, set_member, set_value, set_symbol, set_outcome, loaded, load_outcome}
+use Rattle.kc_session.specs.Effect.{Outcome, IsOutcome, IsReplyTo, IsApplied, answer, perform, keeps_text, refuse, give_value, set_member, set_value, set_symbol, set_outcome, loaded, load_outcome}
 use Rattle.kc_files.specs.OneReading.{assigns_in}
 use Rattle.kc_session.specs.Bodies.{fits_body, warnings_text_of, IsReadRefusal}
 use Rattle.kc_files.specs.declared.assign.Assign.{Assign}
@@ -36,6 +36,12 @@ done_as_due s due r n replied session = record { starved = false; may = λ h. ab
 
 pub same_due : (s : SessionValue) (due other : Outcome) (r : Reply) (n : SessionValue) → due ≡ other → IsOutcome s due r n → IsOutcome s other r n
 same_due s due other r n d o = subst (λ x. IsOutcome s x r n) d o
+
+-- ---- a text that a query asks for
+pub text_answered : {T E : Type 0} (bytes : T → List ℕ) (s : SessionValue) (due : List ℕ) (r : Result T E) (reply : Reply) → IfOk r (λ t. bytes t ≡ due)
+    → IfOk r (λ t. reply ≡ Done (bytes t)) → OnErr r (reply ≡ Refused NoMemory) → IsReplyTo reply (answer s due)
+text_answered bytes s due (Ok t) reply is done starved = record { starved = false; may = λ h. refl; is = done ∙ ap Done is }
+text_answered bytes s due (Err e) reply is done starved = record { starved = true; may = λ h. refl; is = starved }
 
 -- ---- the value of a symbol
 pub value_refused : (s : SessionValue) (k : SymId) (value : List ℕ) (r : Reply) (n : SessionValue) → value_of (type_of s.tree k) value ≡ None

@@ -12,7 +12,7 @@ use Rattle.kc_session.specs.StreamCommands.{StreamCommand}
 
 -- how many nodes are not kept
 abbrev pub missing_count : SessionState → ℕ
-missing_count s = node_count s.session.tree - kept_count s.kept.values
+missing_count s = node_count s.session.tree - kept_count s.session.tree s.kept.values
 
 -- A list that has all nodes whose values can change where user values become others. The least such list has as many
 -- nodes as can change; where the user values stay the empty list will do.

@@ -5,6 +5,7 @@ use Rattle.kc_tree.specs.declared.node.Node.{Node}
 use Rattle.kc_value.specs.Dirty.{Edits}
 use Rattle.kc_value.specs.Kept.{AreKept, IsKept, KeptValue, Fills, nothing_kept}
 use Rattle.kc_value.specs.KeptLaws.{KeptLaws}
+use Rattle.kc_value.specs.Solved.{SolvedValue}
 use Rattle.kc_value.specs.UserValues.{UserValues, IsUserFor}
 
 -- the tree, the user values, and the values of nodes that are kept
@@ -16,6 +17,10 @@ pub record ResolverState : Type 0 where
 -- of these user values, with nothing kept yet
 abbrev pub new_resolver : TreeValue → UserValues → ResolverState
 new_resolver t u = record { tree = t; user = u; kept = nothing_kept t }
+
+-- with the values that are kept, without the count
+abbrev pub solved_of : ResolverState → SolvedValue
+solved_of r = record { tree = r.tree; user = r.user; values = r.kept.values }
 
 -- the user values are those of a user of the tree, and what is kept is right, by the laws of what is kept
 pub record IsResolving (r : ResolverState) : Type 0 where

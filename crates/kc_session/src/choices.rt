@@ -5,15 +5,13 @@ ghost use Rattle.kc_outline.specs.declared.id.ChoiceId.{ChoiceId};
 ghost use Rattle.kc_tree.specs.declared.node.Node.TheVariants.{Mode, Sel};
 ghost use Rattle.kc_tree.specs.Nodes.{IsNodeOf};
 ghost use Rattle.kc_outline.specs.TreeValue.{choice_title};
-ghost use Rattle.kc_value.specs.Kept.{IsKept, AreKept};
-ghost use Rattle.kc_value.specs.KeptLaws.{KeptLaws};
+ghost use Rattle.kc_value.specs.Kept.{IsKept};
 ghost use Rattle.kc_files.specs.Quoting.{quoted};
 ghost use Rattle.kc_session.specs.ChoiceLine.{choice_line_of, choices_text_of, member_text};
 
-use crate::kept::kept_value;
 use kc_files::push_quoted;
 use kc_tree::{ChoiceId, Node, SymId, Tree};
-use kc_value::{NodeValues, User};
+use kc_value::Solved;
 use std::alloc::{AllocError, Global};
 
 /// The prompt of a choice, empty where it has none.
@@ -50,32 +48,26 @@ fn line_start(alloc: Global, tree: &Tree, choice: ChoiceId) -> Result<String, Al
     Ok(text)
 }
 
-/// The line about a choice whose selection is kept, and with it its mode.
+/// The line about a choice whose selection and mode are kept.
 ///
 /// The error comes where memory is refused.
 #[tactic(auto, unfolding(crate::specs::ChoiceLine::choice_line_of))]
-fn choice_line(
-    alloc: Global,
-    tree: &Tree,
-    user: &User,
-    values: &NodeValues,
-    choice: ChoiceId,
-) -> Result<String, AllocError>
-    requires inside { IsNodeOf tree.now (Mode choice) }
-    requires kept { AreKept tree.now user.now values.now }
-    requires laws { KeptLaws tree.now }
-    requires asked { IsKept tree.now values.now (Sel choice) }
-    ensures { IfOk result (λ text. string_bytes text ≡ choice_line_of tree.now user.now choice) }
+fn choice_line(alloc: Global, solved: &Solved<'_>, choice: ChoiceId) -> Result<String, AllocError>
+    requires inside { IsNodeOf solved.now.tree (Mode choice) }
+    requires asked { IsKept solved.now.tree solved.now.values (Sel choice) }
+    requires mode { IsKept solved.now.tree solved.now.values (Mode choice) }
+    ensures { IfOk result (λ text. string_bytes text ≡ choice_line_of solved.now.tree solved.now.user choice) }
 {
-    let mode = kept_value(tree, values, Node::Mode(choice)).as_tri();
-    let selected = kept_value(tree, values, Node::Sel(choice)).as_member();
+    let tree = solved.tree();
+    let mode = solved.value(Node::Mode(choice)).as_tri();
+    let selected = solved.value(Node::Sel(choice)).as_member();
     let mut text = line_start(alloc, tree, choice)?;
     text.push_str(" mode=")?;
     text.push_str(mode.letter())?;
     text.push_str(" sel=")?;
     text.push_str(member_name(tree, selected))?;
     text.push_str(" user=")?;
-    text.push_str(member_name(tree, user.chosen(choice)))?;
+    text.push_str(member_name(tree, solved.user().chosen(choice)))?;
     text.push_str("\n")?;
     Ok(text)
 }
@@ -87,24 +79,18 @@ pub(crate) fn choice_count(tree: &Tree) -> u32
     tree.choices().len() as u32
 }
 
-/// The lines about all choices, by number. The selections of all choices are kept.
+/// The lines about all choices, by number. The selections and the modes of all choices are kept.
 ///
 /// The error comes where memory is refused.
 #[tactic(auto, unfolding(crate::specs::ChoiceLine::choices_text_of))]
-pub(crate) fn choices_text(
-    alloc: Global,
-    tree: &Tree,
-    user: &User,
-    values: &NodeValues,
-) -> Result<String, AllocError>
-    requires kept { AreKept tree.now user.now values.now }
-    requires laws { KeptLaws tree.now }
-    requires asked { (c : ChoiceId) → IsNodeOf tree.now (Sel c) → IsKept tree.now values.now (Sel c) }
-    ensures { IfOk result (λ text. string_bytes text ≡ choices_text_of tree.now user.now) }
+pub(crate) fn choices_text(alloc: Global, solved: &Solved<'_>) -> Result<String, AllocError>
+    requires asked { (c : ChoiceId) → IsNodeOf solved.now.tree (Sel c) → IsKept solved.now.tree solved.now.values (Sel c) }
+    requires modes { (c : ChoiceId) → IsNodeOf solved.now.tree (Mode c) → IsKept solved.now.tree solved.now.values (Mode c) }
+    ensures { IfOk result (λ text. string_bytes text ≡ choices_text_of solved.now.tree solved.now.user) }
 {
     let mut text = String::new(alloc);
-    for number in 0..choice_count(tree) {
-        let line = choice_line(alloc, tree, user, values, ChoiceId(number))?;
+    for number in 0..choice_count(solved.tree()) {
+        let line = choice_line(alloc, solved, ChoiceId(number))?;
         text.push_str(line.as_str())?;
     }
     Ok(text)

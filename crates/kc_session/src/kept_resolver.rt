@@ -2,7 +2,7 @@
 
 ghost use Rattle.std.specs.Prelude.{◌≡◌, [], ◌∷◌, IfOk, IfErr, OnOk, IsOk};
 ghost use Rattle.kc_session.specs.Keeping.{symbol_nodes, choice_nodes};
-ghost use Rattle.kc_session.specs.KeptResolver.{new_resolver, AreAllKept, Asked, IsResolving};
+ghost use Rattle.kc_session.specs.KeptResolver.{new_resolver, solved_of, AreAllKept, Asked, IsResolving};
 ghost use Rattle.kc_tree.specs.Nodes.{IsNodeOf, all_nodes};
 ghost use Rattle.kc_value.specs.Dirty.{Edits};
 ghost use Rattle.kc_value.specs.Kept.{is_kept, nothing_kept, AreKept, IsKept};
@@ -11,7 +11,7 @@ ghost use Rattle.kc_value.specs.Solution.{solution, IsOnlySolution};
 ghost use Rattle.kc_value.specs.UserValues.{UserValues, IsUserFor, no_values};
 
 use kc_tree::{Node, Tree};
-use kc_value::{KeptValues, NodeValues, Resolver, User, Value};
+use kc_value::{KeptValues, Resolver, Solved, User, Value};
 use std::alloc::{AllocError, Global};
 use std::marker::Model;
 
@@ -118,12 +118,12 @@ impl KeptResolver {
         self.kept.is_kept(&self.tree, node)
     }
 
-    /// The values that are kept, by number. They are right, whatever was done before.
-    pub(crate) fn values(&self) -> &NodeValues
-        ensures values { result.now ≡ self.now.kept.values }
+    /// The tree with the user values and the values that are kept. They are right, whatever was done before.
+    pub(crate) fn solved(&self) -> Solved<'_>
+        ensures solved { result ≡ solved_of self.now }
         ensures sound { IsResolving self.now }
     {
-        self.kept.values()
+        Solved::of_kept(&self.tree, &self.user, self.kept.values())
     }
 
     /// The value of a node that is kept.
@@ -132,7 +132,7 @@ impl KeptResolver {
         requires kept { IsKept self.now.tree self.now.kept.values node }
         ensures { result.now ≡ solution self.now.tree self.now.user node }
     {
-        self.kept.value(&self.tree, node)
+        self.solved().value(node)
     }
 
     /// Evaluates what a node is computed from, and the node, as far as it is not kept.

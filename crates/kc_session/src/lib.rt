@@ -12,7 +12,6 @@ mod command;
 mod command_line;
 mod fault;
 mod input;
-mod kept;
 mod kept_resolver;
 mod line;
 mod load;

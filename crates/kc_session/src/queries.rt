@@ -20,7 +20,6 @@ use crate::kept_resolver::KeptResolver;
 use crate::show::{list_text, show_line};
 use kc_files::{Prefix, config_text_over, defconfig_text_over, header_text_over, new_text_over};
 use kc_tree::{Node, SymId};
-use kc_value::{Resolver, SharedConditions};
 use std::alloc::{AllocError, Global};
 
 impl KeptResolver {
@@ -33,15 +32,7 @@ impl KeptResolver {
         ensures done { OnOk result (AreAllKept (Vis symbol ∷ Val symbol ∷ []) self.new) }
     {
         self.fill(Node::Val(symbol))?;
-        let conditions = SharedConditions::none(alloc);
-        show_line(
-            alloc,
-            self.tree(),
-            self.user(),
-            &conditions,
-            self.values(),
-            symbol,
-        )
+        show_line(alloc, &self.solved(), symbol)
     }
 
     /// The lines about all symbols.
@@ -51,7 +42,7 @@ impl KeptResolver {
         ensures done { OnOk result (AreAllKept (symbol_nodes self.old.tree) self.new) }
     {
         self.fill_symbols()?;
-        list_text(alloc, self.tree(), self.user(), self.values())
+        list_text(alloc, &self.solved())
     }
 
     /// The lines about all choices.
@@ -61,7 +52,7 @@ impl KeptResolver {
         ensures done { OnOk result (AreAllKept (choice_nodes self.old.tree) self.new) }
     {
         self.fill_choices()?;
-        choices_text(alloc, self.tree(), self.user(), self.values())
+        choices_text(alloc, &self.solved())
     }
 
     /// The `.config`, without a header.
@@ -72,8 +63,7 @@ impl KeptResolver {
         ensures done { OnOk result (AreAllKept (all_nodes self.old.tree) self.new) }
     {
         self.fill_all()?;
-        let text = config_text_over(alloc, self.tree(), self.values(), prefix, "")?;
-        Ok(text)
+        config_text_over(alloc, self.solved().known(), prefix, "")
     }
 
     /// The C header.
@@ -84,8 +74,7 @@ impl KeptResolver {
         ensures done { OnOk result (AreAllKept (all_nodes self.old.tree) self.new) }
     {
         self.fill_all()?;
-        let text = header_text_over(alloc, self.tree(), self.values(), prefix)?;
-        Ok(text)
+        header_text_over(alloc, self.solved().known(), prefix)
     }
 
     /// The default file: where no text of the user has a line feed, it keeps what the user changed.
@@ -98,8 +87,7 @@ impl KeptResolver {
         ensures done { OnOk result (AreAllKept (all_nodes self.old.tree) self.new) }
     {
         self.fill_all()?;
-        let text = defconfig_text_over(alloc, self.tree(), self.user(), self.values(), prefix)?;
-        Ok(text)
+        defconfig_text_over(alloc, &self.solved(), prefix)
     }
 
     /// The list of new symbols.
@@ -110,7 +98,6 @@ impl KeptResolver {
         ensures done { OnOk result (AreAllKept (all_nodes self.old.tree) self.new) }
     {
         self.fill_all()?;
-        let text = new_text_over(alloc, self.tree(), self.user(), self.values(), prefix)?;
-        Ok(text)
+        new_text_over(alloc, &self.solved(), prefix)
     }
 }

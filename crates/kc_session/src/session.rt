@@ -14,7 +14,7 @@ use crate::values::value_of;
 use kc_files::{Assign, Load, Prefix};
 use kc_text::Text;
 use kc_tree::{ChoiceId, Node, SymId, Tree};
-use kc_value::{NodeValues, Resolver, User, Value};
+use kc_value::{Resolver, Solved, User, Value};
 use std::alloc::{AllocError, Global};
 use std::marker::Model;
 
@@ -113,7 +113,7 @@ impl Session {
     }
 
     /// Evaluates all nodes, as far as they are not kept: each once, and the values are kept, also where memory is refused
-    /// for others. Then `values` has the value of each node.
+    /// for others. Then `solved` has the value of each node.
     ///
     /// # Errors
     ///
@@ -130,17 +130,17 @@ impl Session {
         filled
     }
 
-    /// The values that are kept, by number, with nothing for a node that is not kept. They are the solution's: of all nodes
-    /// where all are kept, as after `fill`.
+    /// The tree with the user values and the values that are kept. They are the solution's: of all nodes where all are kept,
+    /// as after `fill`.
     #[tactic(auto, using(crate::proofs::AskedLaws::kept_solved))]
-    pub fn values(&self) -> &NodeValues
-        ensures values { result.now ≡ self.now.kept.values }
-        ensures solved { KeepsAll self.now → AreSolved self.now.session.tree self.now.session.user result.now }
+    pub fn solved(&self) -> Solved<'_>
+        ensures solved { result ≡ record { tree = self.now.session.tree; user = self.now.session.user; values = self.now.kept.values } }
+        ensures all { KeepsAll self.now → AreSolved self.now.session.tree self.now.session.user self.now.kept.values }
         ensures only { IsOnlySolution self.now.session.tree self.now.session.user (solution self.now.session.tree self.now.session.user) }
         ensures right { KeepsRight self.now }
     {
         self.facts();
-        self.resolver.values()
+        self.resolver.solved()
     }
 
     /// What is true of a session, whatever was done before: what is kept is right; whatever the user values are, the tree

@@ -6,17 +6,14 @@ ghost use Rattle.kc_statement.specs.declared.id.SymId.{SymId};
 ghost use Rattle.kc_tree.specs.declared.node.Node.TheVariants.{Vis, Val};
 ghost use Rattle.kc_tree.specs.Nodes.{IsNodeOf};
 ghost use Rattle.kc_outline.specs.TreeValue.{name_of};
-ghost use Rattle.kc_value.specs.Kept.{IsKept, AreKept};
-ghost use Rattle.kc_value.specs.KeptLaws.{KeptLaws};
-ghost use Rattle.kc_value.specs.KnownConditions.{AreSharedBy};
-ghost use Rattle.kc_value.specs.UserValues.{IsUserFor};
+ghost use Rattle.kc_value.specs.Kept.{IsKept};
+ghost use Rattle.kc_value.specs.Solution.{solution};
 ghost use Rattle.kc_tree.specs.Fits.{type_of};
 ghost use Rattle.kc_session.specs.ShowLine.{show_line_of, list_text_of, line_text, type_text, tri_text, values_text, user_part, given_text};
 
-use crate::kept::kept_value;
 use kc_files::push_text_in;
 use kc_tree::{Node, SymId, SymbolType, Tree, Tri, UserVal};
-use kc_value::{NodeValues, SharedConditions, User, Value, assignable_among};
+use kc_value::{Solved, User, assignable_among};
 use std::alloc::{AllocError, Global};
 
 /// The line of `show` about a symbol whose value is kept, as [`push_show_line`] appends it.
@@ -24,85 +21,65 @@ use std::alloc::{AllocError, Global};
 /// The error comes where memory is refused.
 pub(crate) fn show_line(
     alloc: Global,
-    tree: &Tree,
-    user: &User,
-    conditions: &SharedConditions,
-    values: &NodeValues,
+    solved: &Solved<'_>,
     symbol: SymId,
 ) -> Result<String, AllocError>
-    requires inside { IsNodeOf tree.now (Vis symbol) }
-    requires user { IsUserFor tree.now user.now }
-    requires conditions { AreSharedBy tree.now values.now conditions.now }
-    requires kept { AreKept tree.now user.now values.now }
-    requires laws { KeptLaws tree.now }
-    requires asked { IsKept tree.now values.now (Val symbol) }
-    ensures { IfOk result (λ text. string_bytes text ≡ show_line_of tree.now user.now symbol) }
+    requires inside { IsNodeOf solved.now.tree (Vis symbol) }
+    requires asked { IsKept solved.now.tree solved.now.values (Val symbol) }
+    requires visibility { IsKept solved.now.tree solved.now.values (Vis symbol) }
+    ensures { IfOk result (λ text. string_bytes text ≡ show_line_of solved.now.tree solved.now.user symbol) }
 {
     let mut text = String::new(alloc);
-    push_show_line(&mut text, alloc, tree, user, conditions, values, symbol)?;
+    push_show_line(&mut text, alloc, solved, symbol)?;
     Ok(text)
 }
 
-/// Appends the line of `show` about a symbol whose value is kept. What it is computed from, as its visibility, is kept
-/// with it. `conditions` is what the values give many nodes, as far as it is known.
+/// Appends the line of `show` about a symbol whose value and visibility are kept.
 ///
 /// The error comes where memory is refused.
 #[tactic(auto, unfolding(crate::specs::ShowLine::show_line_of))]
 pub(crate) fn push_show_line(
     text: &mut String,
     alloc: Global,
-    tree: &Tree,
-    user: &User,
-    conditions: &SharedConditions,
-    values: &NodeValues,
+    solved: &Solved<'_>,
     symbol: SymId,
 ) -> Result<(), AllocError>
-    requires inside { IsNodeOf tree.now (Vis symbol) }
-    requires user { IsUserFor tree.now user.now }
-    requires conditions { AreSharedBy tree.now values.now conditions.now }
-    requires kept { AreKept tree.now user.now values.now }
-    requires laws { KeptLaws tree.now }
-    requires asked { IsKept tree.now values.now (Val symbol) }
-    ensures { OnOk result (string_bytes text.new ≡ string_bytes text.old ++ show_line_of tree.now user.now symbol) }
+    requires inside { IsNodeOf solved.now.tree (Vis symbol) }
+    requires asked { IsKept solved.now.tree solved.now.values (Val symbol) }
+    requires visibility { IsKept solved.now.tree solved.now.values (Vis symbol) }
+    ensures { OnOk result (string_bytes text.new
+        ≡ string_bytes text.old ++ show_line_of solved.now.tree solved.now.user symbol) }
 {
-    let value = kept_value(tree, values, Node::Val(symbol));
-    let visibility = kept_value(tree, values, Node::Vis(symbol)).as_tri();
-    let assignable = assignable_among(alloc, tree, conditions, values, symbol)?;
-    push_line(
-        text,
-        tree,
-        user,
-        symbol,
-        value,
-        visibility,
-        assignable.as_slice(),
-    )
+    let visibility = solved.value(Node::Vis(symbol)).as_tri();
+    let assignable = assignable_among(alloc, solved.known(), symbol)?;
+    push_line(text, solved, symbol, visibility, assignable.as_slice())
 }
 
-/// Appends the line about a symbol of a tree, from its value, its visibility and the values that it can be given.
+/// Appends the line about a symbol whose value is kept, with its visibility and the values that it can be given.
 #[tactic(auto, unfolding(crate::specs::ShowLine::line_text))]
 fn push_line(
     text: &mut String,
-    tree: &Tree,
-    user: &User,
+    solved: &Solved<'_>,
     symbol: SymId,
-    value: &Value,
     visibility: Tri,
     values: &[Tri],
 ) -> Result<(), AllocError>
-    requires { IsNodeOf tree.now (Vis symbol) }
+    requires inside { IsNodeOf solved.now.tree (Vis symbol) }
+    requires asked { IsKept solved.now.tree solved.now.values (Val symbol) }
     ensures { OnOk result (string_bytes text.new ≡ string_bytes text.old
-        ++ line_text (name_of tree.now symbol) (type_of tree.now symbol) value.now visibility values.now
-        (user_part tree.now user.now symbol)) }
+        ++ line_text (name_of solved.now.tree symbol) (type_of solved.now.tree symbol)
+        (solution solved.now.tree solved.now.user (Val symbol)) visibility values.now
+        (user_part solved.now.tree solved.now.user symbol)) }
 {
+    let tree = solved.tree();
     let kind = tree.symbol_type(symbol);
     text.push_str(tree.name(symbol))?;
     text.push_str(type_part(kind))?;
-    push_text_in(text, kind, value.as_text())?;
+    push_text_in(text, kind, solved.value(Node::Val(symbol)).as_text())?;
     text.push_str(visibility_part(visibility))?;
     push_values(text, values)?;
     text.push_str(" user=")?;
-    push_user_part(text, tree, user, symbol)?;
+    push_user_part(text, tree, solved.user(), symbol)?;
     text.push_str("\n")
 }
 
@@ -145,34 +122,18 @@ pub(crate) fn symbol_count(tree: &Tree) -> u32
     tree.symbols().len() as u32
 }
 
-/// The lines of `list`: one about each symbol, by number. The values of all symbols are kept.
+/// The lines of `list`: one about each symbol, by number. The values and the visibilities of all symbols are kept.
 ///
 /// The error comes where memory is refused.
 #[tactic(auto, unfolding(crate::specs::ShowLine::list_text_of))]
-pub(crate) fn list_text(
-    alloc: Global,
-    tree: &Tree,
-    user: &User,
-    values: &NodeValues,
-) -> Result<String, AllocError>
-    requires user { IsUserFor tree.now user.now }
-    requires kept { AreKept tree.now user.now values.now }
-    requires laws { KeptLaws tree.now }
-    requires asked { (s : SymId) → IsNodeOf tree.now (Val s) → IsKept tree.now values.now (Val s) }
-    ensures { IfOk result (λ text. string_bytes text ≡ list_text_of tree.now user.now) }
+pub(crate) fn list_text(alloc: Global, solved: &Solved<'_>) -> Result<String, AllocError>
+    requires asked { (s : SymId) → IsNodeOf solved.now.tree (Val s) → IsKept solved.now.tree solved.now.values (Val s) }
+    requires visibility { (s : SymId) → IsNodeOf solved.now.tree (Vis s) → IsKept solved.now.tree solved.now.values (Vis s) }
+    ensures { IfOk result (λ text. string_bytes text ≡ list_text_of solved.now.tree solved.now.user) }
 {
-    let conditions = SharedConditions::of(alloc, tree, values)?;
     let mut text = String::new(alloc);
-    for number in 0..symbol_count(tree) {
-        push_show_line(
-            &mut text,
-            alloc,
-            tree,
-            user,
-            &conditions,
-            values,
-            SymId(number),
-        )?;
+    for number in 0..symbol_count(solved.tree()) {
+        push_show_line(&mut text, alloc, solved, SymId(number))?;
     }
     Ok(text)
 }

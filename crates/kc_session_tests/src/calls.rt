@@ -9,7 +9,7 @@ use crate::table::{rows, three_fields, two_fields};
 use kc_session::Session;
 use kc_tree::{ChoiceId, Node, SymId, Tree, Tri};
 use kc_value::{
-    Fresh, KeptValues, Meter, NodeValues, Resolver, User, Value, all_values, assignable, eval, tri,
+    Fresh, KeptValues, Known, Meter, Resolver, User, Value, all_values, assignable, eval, tri,
     without_user,
 };
 use std::alloc::Global;
@@ -199,19 +199,19 @@ I != "10" | n
 "#;
 
 /// The value of the condition of the first block of a tree.
-fn first_condition(tree: &Tree, values: &NodeValues) -> Result<Tri, Fail> {
-    let block = tree.blocks().first().ok_or("no block")?;
+fn first_condition(known: &Known<'_>) -> Result<Tri, Fail> {
+    let block = known.tree().blocks().first().ok_or("no block")?;
     let condition = block.depends().first().ok_or("no condition")?;
-    Ok(tri(tree, condition, values))
+    Ok(tri(known, condition))
 }
 
 /// The value of the condition of the first block, and the visibility of the symbol in it.
 fn condition<R: Resolver>(alloc: Global, resolver: &mut R) -> Result<String, Fail> {
     let values = all_values(alloc, resolver)?;
-    let tree = resolver.tree();
-    let inside = tree.find("INSIDE").ok_or("no symbol INSIDE")?;
-    let condition = first_condition(tree, &values)?.letter();
-    let visibility = values.tri(tree.number(Node::Vis(inside))).letter();
+    let known = Known::of_nodes(resolver.tree(), &values);
+    let inside = known.tree().find("INSIDE").ok_or("no symbol INSIDE")?;
+    let condition = first_condition(&known)?.letter();
+    let visibility = known.tri(Node::Vis(inside)).letter();
     Ok(format!(in alloc; "{condition} {visibility}")?)
 }
 
@@ -262,16 +262,16 @@ fn show_value(alloc: Global, tree: &Tree, value: Option<&Value>) -> Result<Strin
 /// The nodes whose rules give other values over these than they have among them.
 fn nodes_at_odds(
     alloc: Global,
-    tree: &Tree,
+    known: &Known<'_>,
     user: &User,
-    values: &NodeValues,
     meter: &mut Meter,
 ) -> Result<usize, Fail> {
+    let tree = known.tree();
     let mut count: usize = 0;
     for node in tree.nodes() {
-        let given = eval(alloc, tree, user, values, node, meter)?;
+        let given = eval(alloc, known, user, node, meter)?;
         let given = show_value(alloc, tree, Some(&given))?;
-        let had = show_value(alloc, tree, values.get(tree.number(node)))?;
+        let had = show_value(alloc, tree, known.get(node))?;
         if given.as_str() != had.as_str() {
             count = count.saturating_add(1);
         }
@@ -284,7 +284,7 @@ fn show_rules<R: Resolver>(alloc: Global, resolver: &mut R) -> Result<String, Fa
     let values = all_values(alloc, resolver)?;
     let (_, mut meter) = KeptValues::new(alloc, resolver.tree())?.into_parts();
     let (tree, user) = (resolver.tree(), resolver.user());
-    let at_odds = nodes_at_odds(alloc, tree, user, &values, &mut meter)?;
+    let at_odds = nodes_at_odds(alloc, &Known::of_nodes(tree, &values), user, &mut meter)?;
     let counted = meter.count() == tree.node_count() as u64;
     Ok(format!(in alloc; "{at_odds} {counted}")?)
 }

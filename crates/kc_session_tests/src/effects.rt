@@ -123,7 +123,7 @@ fn effects_in(
 fn effects_after(alloc: Global, session: &mut Session, config: &[u8]) -> Result<String, Fail> {
     let _ = merged(session, &[Body::new(config)])?;
     session.fill()?;
-    effects_in(alloc, session.tree(), session.values(), config)
+    effects_in(alloc, session.tree(), session.solved().values(), config)
 }
 
 /// Kconfigs, the lines of a `.config`, of each whether it has its effect, and those that count and have none.

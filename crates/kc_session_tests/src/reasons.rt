@@ -8,8 +8,8 @@ use crate::table::{rows, three_fields};
 use kc_session::Session;
 use kc_tree::{SymId, Tree};
 use kc_value::{
-    DefaultPlace, Factor, Fresh, Origin, RangePlace, Reason, Resolver, all_values, prompt_factors,
-    reason_of,
+    DefaultPlace, Factor, Fresh, Known, Origin, RangePlace, Reason, Resolver, all_values,
+    prompt_factors, reason_of,
 };
 use std::alloc::{AllocError, Global};
 use std::test::Fail;
@@ -187,8 +187,9 @@ fn factor_words(alloc: Global, factor: Factor<'_>) -> Result<String, AllocError>
 /// The factors of the prompt of the third definition, a line each.
 fn prompt_words(alloc: Global, session: &mut Session) -> Result<String, Fail> {
     let values = all_values(alloc, session)?;
+    let known = Known::of_nodes(session.tree(), &values);
     let mut out = String::new(alloc);
-    for factor in prompt_factors(alloc, session.tree(), &values, 2)?.as_slice() {
+    for factor in prompt_factors(alloc, &known, 2)?.as_slice() {
         out.push_str(factor_words(alloc, *factor)?.as_str())?;
     }
     Ok(out)

@@ -2,7 +2,7 @@
 use crate::table::{rows, three_fields};
 use crate::trees::shown;
 use kc_tree::{Node, Tree};
-use kc_value::{Fresh, KeptValues, NodeValues, Resolver, User, eval};
+use kc_value::{Fresh, KeptValues, Known, NodeValues, Resolver, User, eval};
 use std::alloc::Global;
 use std::test::Fail;
 
@@ -46,7 +46,13 @@ fn show_rule(alloc: Global, tree: &Tree) -> Result<String, Fail> {
     let user = User::empty(alloc, tree)?;
     let none = NodeValues::empty(alloc, 0)?;
     let (_, mut meter) = KeptValues::new(alloc, tree)?.into_parts();
-    let value = eval(alloc, tree, &user, &none, Node::Val(symbol), &mut meter)?;
+    let value = eval(
+        alloc,
+        &Known::of_nodes(tree, &none),
+        &user,
+        Node::Val(symbol),
+        &mut meter,
+    )?;
     let (text, is_written, count) = (value.as_text(), value.is_written(), meter.count());
     Ok(format!(in alloc; "{text} {is_written} {count}")?)
 }

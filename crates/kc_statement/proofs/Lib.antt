@@ -11,6 +11,7 @@ pub mod NumeralLaws
 pub mod ZeroLaws
 pub mod OneFormula
 pub mod OneStatement
+pub mod PartLaws
 pub mod ReservedLaws
 pub mod ShapeLaws
 pub mod StatementLaws

@@ -4,6 +4,8 @@ pub mod Grammar
 pub mod Keywords
 pub mod Names
 pub mod LentText
+pub mod LineParts
+pub mod PromptText
 pub mod Nesting
 pub mod NestingDepth
 pub mod Numerals

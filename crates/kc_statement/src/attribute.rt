@@ -1,6 +1,7 @@
 //! The parts that attributes have: prompts, defaults and ranges, each with its condition.
 
 use crate::expr::{Expr, Term};
+use crate::prompt_text::PromptText;
 use kc_text::Text;
 use std::alloc::Global;
 use std::default::MadeWith;
@@ -8,7 +9,7 @@ use std::default::MadeWith;
 /// The prompt of a definition: `bool "text" if E`, or a `prompt` line (kconfig-language.rst, "Menu attributes").
 #[derive(Debug, Drop)]
 pub struct Prompt {
-    pub text: Text,
+    pub text: PromptText,
     /// The condition after `if`.
     pub condition: Option<Expr>,
 }
@@ -17,7 +18,7 @@ pub struct Prompt {
 impl MadeWith<Global> for Prompt {
     fn made_with(alloc: Global) -> Prompt {
         Prompt {
-            text: Text::new(String::new(alloc)),
+            text: PromptText::new(Text::new(String::new(alloc))),
             condition: None,
         }
     }

@@ -274,7 +274,7 @@ pub(crate) fn term_of(
             }
         }
         Token::Expanded(word) => Ok(Some(word_term(alloc, names, word.as_str())?)),
-        Token::Quoted(text) => Ok(Some(quoted_term(alloc, text.as_str())?)),
+        Token::Quoted(text) => Ok(Some(quoted_term(alloc, names, text.as_str())?)),
         Token::Operator(_) => Ok(None),
     }
 }

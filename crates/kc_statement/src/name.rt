@@ -11,7 +11,6 @@ use crate::keyword::is_config;
 use crate::limits::MOST_SYMBOLS;
 use crate::names::Names;
 use crate::seed::Seed;
-use crate::shared_text::SharedText;
 use crate::tri::Tri;
 use kc_text::{Line, TextRef, Token};
 use std::alloc::{AllocError, Global};
@@ -99,16 +98,16 @@ pub(crate) fn word_term(alloc: Global, names: &Names, word: &str) -> Result<Term
         "y" => Ok(Term::Tri(Tri::Yes)),
         _ => match names.symbol(word) {
             Some(symbol) => Ok(Term::Symbol(symbol)),
-            None => Ok(Term::Undefined(SharedText::copy_of(alloc, word)?)),
+            None => Ok(Term::Undefined(names.shared_text(alloc, word)?)),
         },
     }
 }
 
 /// The term of a text in quotes.
-pub(crate) fn quoted_term(alloc: Global, text: &str) -> Result<Term, AllocError>
+pub(crate) fn quoted_term(alloc: Global, names: &Names, text: &str) -> Result<Term, AllocError>
     ensures { IfOk result (λ t. t ≡ quoted_term text.now) }
 {
-    Ok(Term::Text(SharedText::copy_of(alloc, text)?))
+    Ok(Term::Text(names.shared_text(alloc, text)?))
 }
 
 /// The name that a line defines: the line is its keyword and the name alone.
@@ -135,6 +134,19 @@ fn add_defined(alloc: Global, line: &Line<'_>, names: &mut Names) -> Result<(), 
     Ok(())
 }
 
+/// Keeps the long texts among tokens.
+fn keep_texts(alloc: Global, tokens: &[Token<'_>], names: &mut Names) -> Result<(), AllocError>
+    ensures { OnOk result (names.new ≡ names.old) }
+{
+    for token in tokens {
+        match token {
+            Token::Expanded(text) | Token::Quoted(text) => names.keep_text(alloc, text.as_str())?,
+            Token::Word(_) | Token::Operator(_) => {}
+        }
+    }
+    Ok(())
+}
+
 /// The names that lines define (kconfig-language.rst, "Menu entries"), in the order of their first definitions, as many
 /// as a tree may have, kept under the hash of a seed; or `AllocError` where there is no memory for them.
 #[tactic(auto, using(crate::proofs::NamesLemmas::few_names))]
@@ -146,6 +158,7 @@ pub fn read_names(alloc: Global, seed: Seed, lines: &[Line<'_>]) -> Result<Names
     let mut names = Names::with_capacity(alloc, seed, room)?;
     for line in lines {
         add_defined(alloc, line, &mut names)?;
+        keep_texts(alloc, line.tokens(), &mut names)?;
     }
     Ok(names)
 }

@@ -5,8 +5,12 @@ ghost use Rattle.kc_statement.specs.Names.{symbol_among, with_name};
 
 use crate::id::SymId;
 use crate::limits::MOST_SYMBOLS;
+use crate::long_texts::LongTexts;
+use crate::prompt_text::PromptText;
 use crate::seed::{NameSeed, Seed};
+use crate::shared_text::SharedText;
 use indexmap::IndexSet;
+use kc_text::Text;
 use std::alloc::{AllocError, Global};
 use std::marker::Model;
 
@@ -15,6 +19,8 @@ use std::marker::Model;
 #[derive(Drop)]
 pub struct Names {
     set: IndexSet<String, NameSeed>,
+    /// The long texts of the lines that the names are read from.
+    long: LongTexts,
 }
 
 impl Model for Names {
@@ -41,6 +47,7 @@ impl Names {
     {
         Ok(Names {
             set: IndexSet::with_capacity_and_hasher(alloc, room, seed.names())?,
+            long: LongTexts::new(alloc, seed.names()),
         })
     }
 
@@ -89,6 +96,30 @@ impl Names {
             self.set.insert(name)?;
         }
         Ok(())
+    }
+
+    /// Keeps a text of the lines, if it is a long one.
+    pub(crate) fn keep_text(&mut self, alloc: Global, text: &str) -> Result<(), AllocError>
+        ensures { OnOk result (self.new ≡ self.old) }
+    {
+        self.long.keep(alloc, text)
+    }
+
+    /// A text, which is shared where it is kept. The error comes where memory is refused.
+    pub(crate) fn shared_text(&self, alloc: Global, text: &str) -> Result<SharedText, AllocError>
+        ensures { IfOk result (λ t. t ≡ text.now) }
+    {
+        self.long.shared(alloc, text)
+    }
+
+    /// The text of a prompt, which is shared where it is kept. The error comes where memory is refused.
+    pub(crate) fn prompt_text(&self, alloc: Global, text: &str) -> Result<PromptText, AllocError>
+        ensures { IfOk result (λ t. t ≡ text.now) }
+    {
+        match self.long.kept(text) {
+            Some(kept) => Ok(PromptText::shared(kept.share()?)),
+            None => Ok(PromptText::new(Text::copy_of(alloc, text)?)),
+        }
     }
 
     /// The name of a number, empty past the last.

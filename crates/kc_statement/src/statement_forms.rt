@@ -12,6 +12,7 @@ mod range;
 mod selection;
 
 use crate::expr::ExprKind;
+use crate::id::SymId;
 use crate::keyword::Keyword;
 use crate::name::name_word;
 use crate::names::Names;
@@ -130,6 +131,20 @@ impl Parser<'_> {
         Ok(self.range(tokens)?.map(Statement::Range))
     }
 
+    /// The symbol that is defined, none where it is one more than a tree may have. It is likely to have the number
+    /// `likely`.
+    pub(crate) fn definition(&self, tokens: &[Token<'_>], likely: usize) -> Option<Option<SymId>>
+        ensures { IsReading (λ symbol. HasFormAfter self.now.names.now Keyword.Config tokens.now (Statement.Config symbol)) result }
+    {
+        let [token] = tokens else {
+            return None;
+        };
+        let Some(name) = name_word(token) else {
+            return None;
+        };
+        Some(self.names.symbol_at(name.as_str(), likely))
+    }
+
     /// A symbol's definition.
     fn read_config(
         &self,
@@ -138,14 +153,7 @@ impl Parser<'_> {
     ) -> Result<Option<Statement>, AllocError>
         ensures { IfOk result (IsReading (HasFormAfter self.now.names.now Keyword.Config tokens.now)) }
     {
-        let [token] = tokens else {
-            return Ok(None);
-        };
-        let Some(name) = name_word(token) else {
-            return Ok(None);
-        };
-        let symbol = self.names.symbol_at(name.as_str(), likely);
-        Ok(Some(Statement::Config(symbol)))
+        Ok(self.definition(tokens, likely).map(Statement::Config))
     }
 
     /// A type, alone or with a prompt.

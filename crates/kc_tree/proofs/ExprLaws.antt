@@ -4,7 +4,7 @@ use Rattle.std.specs.List.{flat_map}
 use Rattle.kc_statement.specs.Formula.{Formula, all_joined, any_joined, negations}
 use Rattle.kc_outline.specs.TreeValue.{TreeValue}
 use Rattle.kc_tree.specs.Uses.{formula_nodes}
-use Rattle.kc_tree.proofs.CollectedLaws.{joined_both, joined_either}
+use Rattle.kc_tree.proofs.RowLaws.{joined_both, joined_either}
 
 -- ---- runs of `!`
 nodes_negations : (t : TreeValue) (n : ℕ) (f : Formula) → formula_nodes t (negations n f) ≡ formula_nodes t f

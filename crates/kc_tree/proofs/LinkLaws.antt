@@ -1,15 +1,17 @@
 -- From an order or a loop of numbers to what the tree says of its nodes.
-use Rattle.std.proofs.Common.{subst, ◌∙◌, Some, None, ◌^◌, ◌∷◌, ◌≡◌, ℕ, ◌+◌, ◌-◌, ◌<◌, ◌≤◌, List, [], length, get_or, map, refl, sym, ap, inl, inr, ◌⊎◌, arith}
-use Rattle.std.specs.List.{All, Contains}
-use Rattle.std.proofs.lemmas.List.{get_or_past}
-use Rattle.std.proofs.lemmas.List.Elements.{All-from_get_or, All-map}
-use Rattle.std.proofs.lemmas.Bool.{cases_lt}
+use Rattle.std.proofs.Common.{subst, ◌∙◌, Some, None, ◌^◌, ◌∷◌, ◌≡◌, ℕ, ◌<◌, ◌≤◌, List, [], length, map, filter, refl, sym, ap}
+use Rattle.std.specs.List.{All}
+use Rattle.std.proofs.lemmas.List.Elements.{All-map}
 use Rattle.kc_tree.specs.declared.problem.ChoiceProblem.{ChoiceProblem}
 use Rattle.kc_tree.specs.declared.fault.NamedNode.{NamedNode}
 use Rattle.kc_tree.specs.Accepted.{IsAccepted}
 use Rattle.kc_tree.specs.declared.node.Node.{Node}
 use Rattle.kc_outline.specs.TreeValue.{modules_symbol, TreeValue}
-use Rattle.kc_tree.specs.Nodes.{number_of, node_at}
+use Rattle.kc_tree.specs.Nodes.{node_at, node_count, number_of}
+use Rattle.kc_tree.specs.Cells.{cell_count}
+use Rattle.kc_tree.specs.CellRows.{AreRowsTo}
+use Rattle.kc_tree.specs.WholeRows.{is_node, whole_rows}
+use Rattle.kc_outline.specs.Nested.{AreNested}
 use Rattle.kc_tree.specs.Order.{IsOrder, IsLoop}
 use Rattle.kc_tree.specs.declared.tree.Tree.TheInside.{Inside}
 use Rattle.kc_tree.specs.Inside.{IsWellMade}
@@ -27,42 +29,11 @@ use Rattle.kc_tree.specs.Linked.{named_node, IsLinkFault, IsReported}
 use Rattle.kc_graph.specs.Graph as graph
 use Rattle.kc_tree.specs.NodeGraph.{IsGraphOf}
 use Rattle.kc_tree.proofs.GroupLaws.{grouped}
-use Rattle.kc_tree.proofs.NodeNumbers.{at_below, below_at}
 use Rattle.kc_tree.proofs.WithinLaws.{used_within}
-use Rattle.kc_tree.proofs.NodeGraphLaws.{loop_of_nodes, loop_of_numbers, table_of_uses, table_of_users}
-
--- a node that uses one has a row
-pub has_row : (g : List (List ℕ)) (p q : ℕ) → graph.Uses g p q → p < length g
-has_row g p q u = at (cases_lt p (length g))
-  where
-    at : (p < length g) ⊎ (length g ≤ p) → p < length g
-    at (inl l) = l
-    at (inr l) =
-        let P : List ℕ → Type 0 = λ ks. Contains ks q in
-        let none = subst P (get_or_past g p [] l) u in
-        absurd (omega (arith, none.1))
-
-pub closed_graph : (t : TreeValue) (g : List (List ℕ)) → IsGraphOf t g → graph.IsClosed g
-closed_graph t g i p q u =
-    let row = has_row g p q u in
-    let below = at_below t p (omega (arith, i.whole)) in
-    let there = used_within t (node_at t p) (node_at t q) below ((i.exact p q).0 u) in
-    omega (arith, i.whole, below_at t q there)
-
-pub order_below : (g : List (List ℕ)) (b : ℕ) (order : List ℕ) → length g < b → graph.IsOrder g order → All (λ k. k < b) order
-order_below g b order l o = All-from_get_or (λ k. k < b) order 0 (λ i h. let below = o.within i h in omega arith)
-
-pub loop_below : (g : List (List ℕ)) (b : ℕ) (nodes : List ℕ) → length g < b → graph.IsLoop g nodes → All (λ k. k < b) nodes
-loop_below g b nodes l o = All-from_get_or (λ k. k < b) nodes 0 (λ i h. below i h (cases_lt (i + 1) (length nodes)))
-  where
-    below : (i : ℕ) → i < length nodes → (i + 1 < length nodes) ⊎ (length nodes ≤ i + 1) → get_or nodes i 0 < b
-    below i h (inl k) = let row = has_row g _ _ (o.next i k) in omega arith
-    below i h (inr k) =
-        let row = has_row g _ _ o.last in
-        let P : ℕ → Type 0 = λ j. get_or nodes j 0 < length g in
-        let last : length nodes - 1 ≡ i = omega arith in
-        let there = subst P last row in
-        omega arith
+use Rattle.kc_tree.proofs.NodeGraphLaws.{loop_of_nodes, loop_of_numbers, order_of_nodes}
+use Rattle.kc_tree.proofs.CellTables.{chains, few_nodes, graph_of_rows}
+use Rattle.kc_tree.proofs.WholeLoops.{IsLoop-whole_rows}
+use Rattle.kc_tree.proofs.WholeOrder.{HasNoLoop-whole_rows, IsOrder-whole_rows}
 
 nodes_named : (t : TreeValue) (numbers : List ℕ) → map (λ x. x.node) (map (named_node t) numbers) ≡ map (node_at t) numbers
 nodes_named t [] = refl
@@ -116,6 +87,7 @@ pub record IsSoundOutline (t : TreeValue) : Type 0 where
   pub menus : AreMenusClosed t
   pub members : AreMembersListed t
   pub faultless : outline_fault t ≡ None
+  pub nested : AreNested t
 
 pub accepted : (t : TreeValue) (order : List Node) → IsSoundOutline t → IsOrder t order → IsAccepted t
 accepted t order sound in_order = record {
@@ -129,15 +101,37 @@ accepted t order sound in_order = record {
   entries = sound.entries;
   firsts = sound.firsts;
   menus = sound.menus;
+  nested = sound.nested;
 }
 
--- the fields of a tree, from the graph of its nodes and the users in it
-pub well_made : (a : Inside) → IsSoundOutline a.outline → a.modules ≡ modules_symbol a.outline
-    → IsGraphOf a.outline a.uses → IsOrder a.outline a.order.items → graph.IsConverse a.uses a.used_by → IsWellMade a
-well_made a sound modules h order converse = record {
-  accepted = accepted a.outline a.order.items sound order;
+-- ---- from the rows of cells
+module _ (t : TreeValue) (g : List (List ℕ)) (rows : AreRowsTo t (cell_count t) g) (nested : AreNested t) where
+  abbrev whole : List (List ℕ)
+  whole = whole_rows (node_count t) g
+
+  -- the nodes of an order of cells are in order
+  pub nodes_ordered : (order : List ℕ) → graph.IsOrder g order → IsOrder t (map (node_at t) (filter (is_node (node_count t)) order))
+  nodes_ordered order is_order =
+      order_of_nodes t whole (used_within t) (graph_of_rows t g rows nested) (filter (is_node (node_count t)) order)
+      (IsOrder-whole_rows (node_count t) g order is_order (chains t g rows nested) (few_nodes t g rows))
+
+  -- those of a loop of cells form a loop
+  pub nodes_looped : (numbers : List ℕ) (nodes : List NamedNode) → graph.IsLoop g numbers → nodes ≡ map (named_node t) (filter (is_node (node_count t)) numbers) → IsNamedLoop t nodes
+  nodes_looped numbers nodes loop is =
+      named_loop t whole (filter (is_node (node_count t)) numbers) nodes (IsLoop-whole_rows (node_count t) g numbers loop (chains t g rows nested)) is (graph_of_rows t g rows nested)
+
+  pub nodes_loopless : (order : List ℕ) → graph.IsOrder g order → IsLoopless t
+  nodes_loopless order is_order =
+      loopless_nodes t whole (HasNoLoop-whole_rows (node_count t) g order is_order (chains t g rows nested) (few_nodes t g rows)) (graph_of_rows t g rows nested)
+
+-- the fields of a tree
+pub well_made : (a : Inside) → IsSoundOutline a.outline → a.modules ≡ modules_symbol a.outline → cell_count a.outline < 2 ^ 32
+    → AreRowsTo a.outline (cell_count a.outline) a.uses → graph.IsOrder a.uses a.order.items → graph.IsConverse a.uses a.used_by → IsWellMade a
+well_made a sound modules few rows order converse = record {
+  accepted = accepted a.outline _ sound (nodes_ordered a.outline a.uses rows sound.nested a.order.items order);
   modules = modules;
+  few = few;
+  uses = rows;
   order = order;
-  uses = table_of_uses a.outline a.uses (used_within a.outline) h;
-  used_by = table_of_users a.outline a.uses a.used_by h converse;
+  used_by = converse;
 }

@@ -7,14 +7,12 @@ use Rattle.std.proofs.lemmas.List.{get_or-map, length-map, take-map, get_or-take
 use Rattle.std.proofs.lemmas.Option.{slice_get-get_or, slice_get_past}
 use Rattle.kc_tree.specs.declared.node.Node.{Node}
 use Rattle.kc_tree.specs.declared.node.Node.TheVariants.{Vis, Val, Mode, Sel}
-use Rattle.kc_tree.specs.Nodes.{node_in, number_in, number_of, node_at, IsNodeOf, IsNumbered}
+use Rattle.kc_tree.specs.Nodes.{number_of, node_at, IsNodeOf, IsNumbered}
 use Rattle.kc_outline.specs.TreeValue.{TreeValue}
 use Rattle.kc_tree.specs.Uses.{Uses, visibility_nodes, symbol_value_nodes, choice_prompt_nodes, choice_value_nodes}
 use Rattle.kc_tree.specs.Order.{IsOrder, IsLoop}
-use Rattle.kc_tree.specs.Accepted.{IsSharedTable, IsTableOf}
 use Rattle.kc_tree.specs.NodeGraph.{IsGraphOf}
 use Rattle.kc_graph.specs.Graph as graph
-use Rattle.kc_graph.specs.Shared.{Holds, IsShared}
 use Rattle.kc_tree.proofs.NodeNumbers.{node_in-number_in, number_below, at_below, Contains-at, Contains-from_at, place_at}
 
 -- a node that a node of the tree is computed from is one of the tree
@@ -155,7 +153,7 @@ loop_of_numbers t g h nodes l = record {
         let To : ℕ → Type 0 = λ x. graph.Uses g (number_of t n) x in
         subst From (sym e) (subst To (sym f) (use_of_numbers t g h n m (known t n a) (known t m b) u))
 
--- ---- tables of rows
+-- ---- rows
 module _ (t : TreeValue) (g : List (List ℕ)) (n m : Node) where
   abbrev nodes_there : List Node
   nodes_there = map (node_at t) (graph.row g (number_of t n))
@@ -166,45 +164,9 @@ module _ (t : TreeValue) (g : List (List ℕ)) (n m : Node) where
   from_row : Contains nodes_there m → IsNumbered (length t.symbols) m × graph.Uses g (number_of t n) (number_of t m)
   from_row c = Contains-from_at (length t.symbols) (graph.row g (number_of t n)) m c
 
-pub table_of_uses : (t : TreeValue) (g : List (List ℕ)) → Within t → IsGraphOf t g → IsTableOf t (Uses t) g
-table_of_uses t g within h = record {
-  whole = h.whole;
-  exact = λ n m i. (
-    λ c. let r = from_row t g n m c in use_of_nodes t g h n m (known t n i) r.0 r.1,
-    λ u. let b = known t m (within n m i u) in in_row t g n m b (use_of_numbers t g h n m (known t n i) b u),
-  );
-}
-
-pub table_of_users : (t : TreeValue) (g users : List (List ℕ)) → IsGraphOf t g → graph.IsConverse g users → IsTableOf t (λ n m. Uses t m n) users
-table_of_users t g users h c = record {
-  whole = c.size ∙ h.whole;
-  exact = λ n m i. (
-    λ b. let r = from_row t users n m b in use_of_nodes t g h m n r.0 (known t n i) (c.to_use (number_of t n) (number_of t m) r.1),
-    λ u. let b = known t m (user_is_node t m n u) in in_row t users n m b (c.from_use (number_of t m) (number_of t n) (use_of_numbers t g h m n b (known t n i) u)),
-  );
-}
-
--- the nodes of the numbers of a row
-pub row_exact : (o t : TreeValue) (R : TreeValue → Node → Node → Type 0) (g : List (List ℕ)) (n : Node) (symbols k : ℕ) (numbers : List ℕ) (nodes : List Node) → o ≡ t → IsTableOf o (R o) g → IsNodeOf t n
-    → symbols ≡ length o.symbols → k ≡ number_in symbols n → numbers ≡ get_or g k [] → nodes ≡ map (node_in symbols) numbers → (m : Node) → Contains nodes m ↔ R t n m
-row_exact o t R g n symbols k numbers nodes same is inside few at there found m =
-    let place : k ≡ number_of o n = at ∙ ap (λ s. number_in s n) few in
-    let held : nodes ≡ map (node_at o) (get_or g (number_of o n) []) = found ∙ ap (λ s. map (node_in s) numbers) few ∙ ap (map (node_at o)) (there ∙ ap (λ j. get_or g j []) place) in
-    subst (λ x. Contains nodes m ↔ R x n m) same
-    (subst (λ ns. Contains ns m ↔ R o n m) (sym held) (is.exact n m (subst (λ x. IsNodeOf x n) (sym same) inside)))
-
--- a table whose rows share lists
-pub shared_table : (t : TreeValue) (R : Node → Node → Type 0) (rows table : List (List ℕ)) → IsTableOf t R rows → IsShared (length rows) table
-    → ((p q : ℕ) → graph.Uses rows p q ↔ ((p < length rows) × Holds (length rows) table p q)) → IsSharedTable t R table
-shared_table t R rows table is shared holds = record {
-  shared = subst (λ k. IsShared k table) is.whole shared;
-  exact = λ n m i j. (
-    λ h.
-        let p : number_of t n < length rows = subst (λ k. number_of t n < k) (sym is.whole) (number_below t n i) in
-        let u : graph.Uses rows (number_of t n) (number_of t m) = (holds (number_of t n) (number_of t m)).1 (p, subst (λ k. Holds k table (number_of t n) (number_of t m)) (sym is.whole) h) in
-        (is.exact n m i).0 (in_row t rows n m (known t m j) u),
-    λ r.
-        let u : graph.Uses rows (number_of t n) (number_of t m) = (from_row t rows n m ((is.exact n m i).1 r)).1 in
-        subst (λ k. Holds k table (number_of t n) (number_of t m)) is.whole ((holds (number_of t n) (number_of t m)).0 u).1,
-  );
-}
+-- the nodes of the row of a node are those that it uses
+pub row_exact : (t : TreeValue) (g : List (List ℕ)) → Within t → IsGraphOf t g → (n m : Node) → IsNodeOf t n → Contains (map (node_at t) (graph.row g (number_of t n))) m ↔ Uses t n m
+row_exact t g within h n m i = (
+  λ c. let r = from_row t g n m c in use_of_nodes t g h n m (known t n i) r.0 r.1,
+  λ u. let b = known t m (within n m i u) in in_row t g n m b (use_of_numbers t g h n m (known t n i) b u),
+)

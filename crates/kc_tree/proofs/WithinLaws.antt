@@ -22,32 +22,34 @@ use Rattle.kc_tree.specs.Nodes.{IsNodeOf}
 use Rattle.kc_statement.specs.Formula.{Formula, atom, bare, compare, negation, group, both, either}
 use Rattle.kc_tree.specs.Uses.{symbol_nodes, term_nodes, formula_nodes, value_nodes, modules_nodes, nodes_if, conditions_nodes, own_condition_nodes, depends_nodes, visible_nodes, dependency_nodes, prompt_nodes, default_nodes, range_nodes, definition_nodes, reverse_nodes, mode_nodes, selection_nodes, condition_nodes, visibility_node, choice_prompt_nodes, choice_default_nodes, choice_value_nodes, type_nodes, visibility_nodes, free_value_nodes, symbol_value_nodes, used_nodes, Uses}
 use Rattle.kc_tree.specs.ConditionTable.{of_property}
-use Rattle.kc_tree.specs.Collected.{default_alone_nodes, range_alone_nodes}
-use Rattle.kc_tree.proofs.CollectedLaws.{one_within, none_past}
+use Rattle.kc_tree.specs.Cells.{default_alone_nodes, range_alone_nodes}
+use Rattle.kc_tree.proofs.RowLaws.{one_within, none_past}
 
--- lists of nodes of which something holds
-module _ (P : Node → Type 0) where
-  abbrev pub Are : List Node → Type 0
+-- lists of which something holds
+module _ {A : Type 0} (P : A → Type 0) where
+  abbrev pub Are : List A → Type 0
   Are ns = All (λ n. P n) ns
 
   pub none : Are []
   none = All-nil (λ n. P n)
 
-  pub joined : (xs ys : List Node) → Are xs → Are ys → Are (xs ++ ys)
+  pub joined : (xs ys : List A) → Are xs → Are ys → Are (xs ++ ys)
   joined xs ys f g = All-append (λ n. P n) xs ys f g
 
-  pub flat : {X : Type 0} (f : X → List Node) (xs : List X) → ((x : X) → Are (f x)) → Are (flat_map f xs)
+  pub flat : {X : Type 0} (f : X → List A) (xs : List X) → ((x : X) → Are (f x)) → Are (flat_map f xs)
   flat f [] h = none
   flat f (x ∷ xs) h = joined (f x) (flat_map f xs) (h x) (flat f xs h)
 
-  pub option : {X : Type 0} (f : X → List Node) (o : Option X) → ((x : X) → Are (f x)) → Are (option_map_or f o [])
+  pub option : {X : Type 0} (f : X → List A) (o : Option X) → ((x : X) → Are (f x)) → Are (option_map_or f o [])
   option f None h = none
   option f (Some x) h = h x
 
-  guarded : {X : Type 0} (n : Node) (xs : List X) (k : ℕ) → (k < length xs → P n) → Are (option_map_or (λ x. n ∷ []) (slice_get xs k) [])
+-- a node where a list has an element
+module _ (P : Node → Type 0) where
+  guarded : {X : Type 0} (n : Node) (xs : List X) (k : ℕ) → (k < length xs → P n) → Are P (option_map_or (λ x. n ∷ []) (slice_get xs k) [])
   guarded n xs k h = elim (cases_lt k (length xs)) [
-    | inl i ↦ subst Are (sym (one_within n xs k i)) (All-cons (λ n. P n) n [] (h i) none)
-    | inr i ↦ subst Are (sym (none_past n xs k i)) none
+    | inl i ↦ subst (Are P) (sym (one_within n xs k i)) (All-cons (λ n. P n) n [] (h i) (none P))
+    | inr i ↦ subst (Are P) (sym (none_past n xs k i)) (none P)
   ]
 
 -- what holds of the values of symbols of the tree

@@ -1,7 +1,9 @@
 pub mod Accepted
 pub mod AllFaults
+pub mod CellLaws
+pub mod CellRows
+pub mod Cells
 pub mod ChoiceFaults
-pub mod Collected
 pub mod ConditionTable
 pub mod Faults
 pub mod Fits
@@ -14,7 +16,8 @@ pub mod OutlineFaults
 pub mod Parsed
 pub mod Problems
 pub mod Reached
-pub mod SharedLists
 pub mod SymbolFaults
 pub mod SymbolTests
+pub mod Users
 pub mod Uses
+pub mod WholeRows

@@ -2,14 +2,16 @@
 
 ghost use Rattle.std.specs.Prelude.{◌≡◌, ◌<◌, ◌≤◌, ◌^◌, ◌++◌, IfOk, OnOk, count_by, filter_map, length, option_map, option_to_list};
 ghost use Rattle.kc_text.specs.declared.reading.TheConstants.{MOST_LINES};
+ghost use Rattle.kc_outline.specs.Nested.{AreNested};
 ghost use Rattle.kc_statement.specs.Keywords.{is_choice};
 ghost use Rattle.kc_statement.specs.declared.limits.TheConstants.{MOST_SYMBOLS};
 ghost use Rattle.kc_tree.specs.AllFaults.{AreFaultsOf, AreFaultsOfTree, AreLoops, AreRefusedForFirst, choice_faults, line_fault_at, outline_faults, symbol_fault_at, symbol_faults};
+ghost use Rattle.kc_tree.specs.Cells.{cell_count};
 ghost use Rattle.kc_tree.specs.ChoiceFaults.{problem_at};
 
 use crate::choice_faults::problem_at;
 use crate::fault::TreeFault;
-use crate::link::{is_choice, node_order};
+use crate::link::{cell_order, is_choice};
 use crate::problem::SymbolProblem;
 use crate::symbol_faults::has_problem;
 use crate::uses::used_rows;
@@ -157,12 +159,13 @@ fn outline_faults(
 /// One loop of the nodes, if there is one.
 fn loops(alloc: Global, outline: &Outline) -> Result<Vec<TreeFault>, AllocError>
     requires few { length outline.now.symbols ≤ MOST_SYMBOLS }
-    requires few_choices { length outline.now.choices ≤ 2 ^ 30 }
+    requires few_cells { cell_count outline.now < 2 ^ 32 }
     requires named { length outline.now.names ≡ length outline.now.symbols }
+    requires nested { AreNested outline.now }
     ensures { IfOk result (λ faults. AreLoops outline.now faults.items) }
 {
     let used = used_rows(alloc, outline)?;
-    let fault = match node_order(alloc, outline, &used) {
+    let fault = match cell_order(alloc, outline, &used) {
         Ok(_) => return Ok(Vec::new(alloc)),
         Err(TreeFault::NoMemory) => return Err(AllocError),
         Err(fault) => fault,
@@ -180,8 +183,11 @@ fn tree_faults(
 ) -> Result<Vec<TreeFault>, AllocError>
     requires few { length outline.now.symbols ≤ MOST_SYMBOLS }
     requires few_choices { length outline.now.choices ≤ 2 ^ 30 }
+    requires few_definitions { length outline.now.definitions ≤ 2 ^ 26 }
+    requires few_blocks { length outline.now.blocks ≤ 2 ^ 26 }
     requires choices { length outline.now.choices ≡ count_by is_choice lines.now }
     requires named { length outline.now.names ≡ length outline.now.symbols }
+    requires nested { AreNested outline.now }
     ensures { IfOk result (λ faults. AreFaultsOfTree lines.now outline.now faults.items) }
 {
     let faults = outline_faults(alloc, lines, outline)?;

@@ -1,13 +1,16 @@
 //! From what the lines of a Kconfig define to its tree: the faults of symbols and choices, the nodes with what each is
-//! computed from, and their order or a loop.
+//! computed from, the conditions that they share, and their order or a loop.
 #![tactic(auto)]
 
+mod cell;
 mod choice_faults;
 mod every_fault;
 mod fault;
 mod link;
 mod node;
+mod node_order;
 mod node_rows;
+mod node_users;
 mod nodes;
 mod outline_faults;
 mod problem;
@@ -16,6 +19,7 @@ mod tree;
 mod user_value;
 mod uses;
 
+pub use cell::Cell;
 pub use every_fault::all_faults;
 pub use fault::{NamedNode, TreeFault};
 pub use kc_outline::{
@@ -27,7 +31,9 @@ pub use kc_statement::{
     SymId, SymbolType, Term, Tri, lone_term, numeral,
 };
 pub use node::Node;
+pub use node_order::NodeOrder;
 pub use node_rows::NodeRow;
+pub use node_users::NodeUsers;
 pub use nodes::Nodes;
 pub use problem::{ChoiceProblem, Problem, SymbolProblem};
 pub use tree::Tree;

@@ -1,14 +1,17 @@
-//! From what lines define to a tree: the faults of symbols, the order of the nodes or a loop, and what each node uses
-//! and is used by.
+//! From what lines define to a tree: the faults of symbols, the order of the cells or a loop of nodes, and what each
+//! cell reads and is read by.
 
 ghost use Rattle.std.specs.Prelude.{◌≡◌, ◌≤◌, ◌<◌, ◌^◌, IfErr, IfOk, OnOk, None, All, count_by, filter, length, map, slice_get};
 ghost use Rattle.std.specs.Option.{option_copied};
 ghost use Rattle.kc_statement.specs.Keywords.{is_choice};
 ghost use Rattle.kc_outline.specs.TreeValue.{choice_title, modules_symbol};
-ghost use Rattle.kc_tree.specs.Nodes.{node_in, node_name};
-ghost use Rattle.kc_tree.specs.NodeGraph.{IsGraphOf};
+ghost use Rattle.kc_graph.specs.Graph.{IsOrder};
+ghost use Rattle.kc_outline.specs.Nested.{AreNested};
+ghost use Rattle.kc_tree.specs.Nodes.{node_count, node_name};
+ghost use Rattle.kc_tree.specs.Cells.{cell_count};
+ghost use Rattle.kc_tree.specs.CellRows.{AreRowsTo};
+ghost use Rattle.kc_tree.specs.WholeRows.{is_node};
 ghost use Rattle.kc_tree.specs.Accepted.{IsAccepted};
-ghost use Rattle.kc_tree.specs.Order.{IsOrder};
 ghost use Rattle.kc_outline.specs.Entries.{AreMenusClosed, IsEntryOf, first_symbols, symbol_ids};
 ghost use Rattle.kc_outline.specs.Members.{AreMembersListed};
 ghost use Rattle.kc_outline.specs.NameList.{AreNames};
@@ -17,13 +20,14 @@ ghost use Rattle.kc_tree.specs.Faults.{IsLoopless, IsTreeProblem};
 ghost use Rattle.kc_tree.specs.Linked.{named_node, IsLinkFault, IsReported};
 ghost use Rattle.kc_statement.specs.declared.limits.TheConstants.{MOST_SYMBOLS};
 
+use crate::cell::node_count;
 use crate::fault::{NamedNode, TreeFault};
 use crate::node::Node;
 use crate::outline_faults::{OutlineFault, outline_fault};
 use crate::problem::ChoiceProblem;
 use crate::tree::Tree;
 use crate::uses::used_rows;
-use kc_graph::{OrderFault, SharedRows};
+use kc_graph::{Graph, OrderFault, Rows};
 use kc_outline::{ChoiceId, Outline};
 use kc_statement::{Keyword, SymId, read_keyword};
 use kc_text::{Line, Text};
@@ -79,40 +83,38 @@ pub(crate) fn modules_symbol(outline: &Outline) -> Option<SymId>
     Some(SymId(number as u32))
 }
 
-/// The nodes of numbers, in a tree of so many symbols.
-fn nodes_of(alloc: Global, symbols: usize, numbers: &[u32]) -> Result<Vec<Node>, AllocError>
-    requires { symbols ≤ MOST_SYMBOLS }
-    ensures { IfOk result (λ nodes. nodes.items ≡ map (node_in symbols) numbers.now) }
+/// Keeps the numbers of the nodes, and removes those of conditions.
+fn keep_nodes(numbers: &mut Vec<u32>, nodes: usize)
+    ensures { numbers.new.items ≡ filter (is_node nodes) numbers.old.items }
 {
-    numbers
-        .iter()
-        .map(|number| Node::in_tree(symbols, *number as usize))
-        .collect(alloc)
+    numbers.retain(|number| (*number as usize) < nodes);
 }
 
-/// The nodes in an order in which each comes after all that it uses.
+/// The cells in an order in which each comes after all that it reads.
 ///
 /// It fails where nodes form a loop, with the nodes of one, and where memory is refused.
-pub(crate) fn node_order(
+pub(crate) fn cell_order(
     alloc: Global,
     outline: &Outline,
-    used: &SharedRows,
-) -> Result<Vec<Node>, TreeFault>
+    used: &Rows,
+) -> Result<Vec<u32>, TreeFault>
     requires few { length outline.now.symbols ≤ MOST_SYMBOLS }
-    requires graph { IsGraphOf outline.now used.now }
-    ensures order { IfOk result (λ order. IsOrder outline.now order.items) }
+    requires few_cells { cell_count outline.now < 2 ^ 32 }
+    requires nested { AreNested outline.now }
+    requires rows { AreRowsTo outline.now (cell_count outline.now) used.now }
+    ensures order { IfOk result (λ order. IsOrder used.now order.items) }
     ensures loopless { OnOk result (IsLoopless outline.now) }
     ensures fault { IfErr result (IsLinkFault outline.now) }
 {
-    let numbers = match used.order(alloc) {
-        Ok(numbers) => numbers,
-        Err(OrderFault::Loop(numbers)) => {
+    match Graph::of(used).order(alloc) {
+        Ok(order) => Ok(order),
+        Err(OrderFault::Loop(mut numbers)) => {
+            keep_nodes(&mut numbers, node_count(outline));
             let nodes = named_nodes(alloc, outline, numbers.as_slice())?;
-            return Err(TreeFault::Loop(nodes));
+            Err(TreeFault::Loop(nodes))
         }
-        Err(OrderFault::NoMemory) => return Err(TreeFault::NoMemory),
-    };
-    Ok(nodes_of(alloc, outline.symbols().len(), numbers.as_slice())?)
+        Err(OrderFault::NoMemory) => Err(TreeFault::NoMemory),
+    }
 }
 
 /// Whether a line begins a choice.
@@ -189,6 +191,8 @@ fn check_outline(alloc: Global, lines: &[Line<'_>], outline: &Outline) -> Result
 pub(crate) fn link(alloc: Global, lines: &[Line<'_>], outline: Outline) -> Result<Tree, TreeFault>
     requires few { length outline.symbols ≤ MOST_SYMBOLS }
     requires few_choices { length outline.choices ≤ 2 ^ 30 }
+    requires few_definitions { length outline.definitions ≤ 2 ^ 26 }
+    requires few_blocks { length outline.blocks ≤ 2 ^ 26 }
     requires choices { length outline.choices ≡ count_by is_choice lines.now }
     requires named { length outline.names ≡ length outline.symbols }
     requires names { AreNames outline.names }
@@ -196,6 +200,7 @@ pub(crate) fn link(alloc: Global, lines: &[Line<'_>], outline: Outline) -> Resul
     requires entries { All (IsEntryOf outline) outline.entries }
     requires firsts { first_symbols outline.entries ≡ symbol_ids outline }
     requires menus { AreMenusClosed outline }
+    requires nested { AreNested outline }
     ensures tree { IfOk result (λ tree. tree ≡ outline) }
     ensures accepted { IfOk result IsAccepted }
     ensures faultless { OnOk result (outline_fault outline ≡ None) }
@@ -204,14 +209,14 @@ pub(crate) fn link(alloc: Global, lines: &[Line<'_>], outline: Outline) -> Resul
 {
     check_outline(alloc, lines, &outline)?;
     let modules = modules_symbol(&outline);
-    let used = used_rows(alloc, &outline)?;
-    let order = node_order(alloc, &outline, &used)?;
-    let users = used.users(alloc)?;
+    let uses = used_rows(alloc, &outline)?;
+    let order = cell_order(alloc, &outline, &uses)?;
+    let used_by = Graph::of(&uses).users(alloc)?;
     Ok(Tree {
         outline,
         modules,
         order,
-        uses: used,
-        used_by: users,
+        uses,
+        used_by,
     })
 }

@@ -2,6 +2,7 @@
 
 ghost use Rattle.std.specs.Prelude.{◌≡◌};
 ghost use Rattle.std.specs.Iterator.{YieldsFirst, item_count};
+ghost use Rattle.kc_tree.specs.Accepted.{IsAccepted};
 ghost use Rattle.kc_tree.specs.Nodes.{all_nodes};
 
 use crate::node::Node;
@@ -33,7 +34,8 @@ impl Model for Nodes {
 impl Nodes {
     /// All nodes of a tree.
     pub(crate) fn of(tree: &Tree) -> Nodes
-        ensures { result ≡ all_nodes tree.now }
+        ensures nodes { result ≡ all_nodes tree.now }
+        ensures accepted { IsAccepted tree.now }
     {
         Nodes {
             symbols: tree.symbols().len(),

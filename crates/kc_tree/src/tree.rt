@@ -4,16 +4,21 @@ ghost use Rattle.kc_outline.specs.TreeValue.{choice_of, symbol_named, name_of, m
 ghost use Rattle.kc_tree.specs.Nodes.{all_nodes, node_at, node_count, number_of, AreNumbered, IsNodeOf};
 ghost use Rattle.kc_tree.specs.Uses.{Uses};
 ghost use Rattle.kc_tree.specs.Order.{IsOrder};
-ghost use Rattle.kc_tree.specs.Accepted.{IsAccepted, IsSharedTable};
+ghost use Rattle.kc_tree.specs.Accepted.{IsAccepted};
+ghost use Rattle.kc_tree.specs.Cells.{IsCellOf, cell_at, cell_count, cell_number};
+ghost use Rattle.kc_tree.specs.CellLaws.{CellLaws, IsCellOrder, IsCellTable, IsReaderTable};
 ghost use Rattle.kc_tree.specs.Fits.{fits, fits_type, type_of};
 
+use crate::cell::{Cell, cell_count, node_count};
 use crate::fault::TreeFault;
 use crate::link::link;
 use crate::node::Node;
+use crate::node_order::NodeOrder;
 use crate::node_rows::NodeRow;
+use crate::node_users::NodeUsers;
 use crate::nodes::Nodes;
 use crate::user_value::UserVal;
-use kc_graph::{Rows, SharedRows};
+use kc_graph::Rows;
 use kc_outline::{
     Block, Choice, ChoiceId, Comment, Definition, Entry, Outline, Symbol, read_outline,
 };
@@ -22,15 +27,15 @@ use kc_text::Line;
 use std::alloc::Global;
 use std::marker::Model;
 
-/// The tree of a Kconfig: its symbols, choices and entries, and the nodes with what each uses, in a topological
-/// order. Contracts see all but the order and what nodes use.
+/// The tree of a Kconfig: its symbols, choices and entries, and the cells with what each reads, in a topological
+/// order. Contracts see all but the order and what cells read.
 #[derive(Drop)]
 pub struct Tree {
     pub(crate) outline: Outline,
     pub(crate) modules: Option<SymId>,
-    pub(crate) order: Vec<Node>,
-    pub(crate) uses: SharedRows,
-    pub(crate) used_by: SharedRows,
+    pub(crate) order: Vec<u32>,
+    pub(crate) uses: Rows,
+    pub(crate) used_by: Rows,
 }
 
 impl Model for Tree {
@@ -209,12 +214,13 @@ impl Tree {
         ensures count { result ≡ node_count self.now }
         ensures accepted { IsAccepted self.now }
     {
-        2 * (self.outline.symbols().len() + self.outline.choices().len())
+        node_count(&self.outline)
     }
 
     /// All nodes, by number.
     pub fn nodes(&self) -> Nodes
-        ensures { result ≡ all_nodes self.now }
+        ensures nodes { result ≡ all_nodes self.now }
+        ensures accepted { IsAccepted self.now }
     {
         Nodes::of(self)
     }
@@ -242,11 +248,15 @@ impl Tree {
     }
 
     /// Each node once, after all that it uses.
-    pub fn order(&self) -> &[Node]
-        ensures order { IsOrder self.now result.now }
+    pub fn order(&self) -> NodeOrder<'_>
+        ensures order { IsOrder self.now result }
         ensures accepted { IsAccepted self.now }
     {
-        self.order.as_slice()
+        NodeOrder::of(
+            self.outline.symbols().len(),
+            self.node_count(),
+            self.order.as_slice(),
+        )
     }
 
     /// The nodes that a node is computed from.
@@ -256,37 +266,75 @@ impl Tree {
         ensures accepted { IsAccepted self.now }
     {
         let symbols = self.outline.symbols().len();
-        NodeRow::of(symbols, self.uses.row(node.number_in(symbols)))
+        let row = self.uses.row(node.number_in(symbols));
+        NodeRow::of(symbols, self.node_count(), &self.uses, row)
     }
 
-    /// The nodes that are computed from a node.
-    pub fn used_by(&self, node: Node) -> NodeRow<'_>
+    /// The nodes that are computed from a node, which are found by one pass over all nodes.
+    pub fn used_by(&self, node: Node) -> NodeUsers<'_>
         requires { IsNodeOf self.now node }
         ensures exact { (m : Node) → Contains result m ↔ Uses self.now m node }
         ensures accepted { IsAccepted self.now }
     {
-        let symbols = self.outline.symbols().len();
-        NodeRow::of(symbols, self.used_by.row(node.number_in(symbols)))
+        NodeUsers::of(self, node)
     }
 
-    /// What all nodes are computed from, as it is kept: a row of numbers for each node, and behind these the lists that
-    /// rows share. In a row a number below the count of nodes is that of a node, and one from there on stands for the
-    /// nodes of the shared list of that number. Who goes over many rows goes over each shared list once.
+    /// How many cells there are: the nodes, and the conditions that many of them read.
+    pub fn cell_count(&self) -> usize
+        ensures count { result ≡ cell_count self.now }
+        ensures few { result < 2 ^ 32 }
+        ensures accepted { IsAccepted self.now }
+    {
+        cell_count(&self.outline)
+    }
+
+    /// The number of a cell, from 0: the nodes have theirs, and those of the conditions follow.
+    pub fn cell_number(&self, cell: Cell) -> usize
+        requires { IsCellOf self.now cell }
+        ensures number { result ≡ cell_number self.now cell }
+        ensures inside { result < cell_count self.now }
+        ensures accepted { IsAccepted self.now }
+    {
+        cell.number_in(&self.outline)
+    }
+
+    /// The cell of a number, which is below the count of cells.
+    pub fn cell(&self, number: usize) -> Cell
+        requires { number < cell_count self.now }
+        ensures cell { result ≡ cell_at self.now number }
+        ensures inside { IsCellOf self.now result }
+        ensures accepted { IsAccepted self.now }
+    {
+        Cell::in_outline(&self.outline, number)
+    }
+
+    /// The numbers of the cells, each once, after those of all that its cell reads.
+    pub fn cell_order(&self) -> &[u32]
+        ensures order { IsCellOrder self.now result.now }
+        ensures laws { CellLaws self.now }
+        ensures accepted { IsAccepted self.now }
+    {
+        self.order.as_slice()
+    }
+
+    /// What each cell reads, by number: nodes, and conditions, whose rows have what they read in their turn.
     pub fn use_table(&self) -> &Rows
+        ensures table { IsCellTable self.now result.now }
+        ensures laws { CellLaws self.now }
         ensures few { length result.now < 2 ^ 32 }
-        ensures table { IsSharedTable self.now (Uses self.now) result.now }
         ensures accepted { IsAccepted self.now }
     {
-        self.uses.table()
+        &self.uses
     }
 
-    /// What is computed from all nodes, as it is kept, in the form of `use_table`.
+    /// What reads each cell, by number, in the form of `use_table`.
     pub fn user_table(&self) -> &Rows
+        ensures table { IsReaderTable self.now result.now }
+        ensures laws { CellLaws self.now }
         ensures few { length result.now < 2 ^ 32 }
-        ensures table { IsSharedTable self.now (λ n m. Uses self.now m n) result.now }
         ensures accepted { IsAccepted self.now }
     {
-        self.used_by.table()
+        &self.used_by
     }
 
     /// Whether a user value is one that the symbol takes: a bool takes n and y, a tristate n, m and y, a string all

@@ -216,7 +216,7 @@ module _ (a b : Assignment) where
     found_dependency_agrees (Some d) h = dependency_agrees d h
 
     -- what holds of the table of conditions, whatever a part depends on
-    condition_agrees : (c : Condition) → Agree (condition_nodes t c) → condition_value t a c ≡ condition_value t b c
+    pub condition_agrees : (c : Condition) → Agree (condition_nodes t c) → condition_value t a c ≡ condition_value t b c
     condition_agrees (own_if o) h = own_condition_agrees o h
     condition_agrees (own_lines es) h = conditions_agree es h
     condition_agrees (depends_around bs) h = blocks_depend_agrees bs h

@@ -1,5 +1,5 @@
 -- The values that a symbol shows for some user value of its type.
-use Rattle.std.proofs.Common.{◌≡◌, ◌<◌, Bool, true, false, true≢false, cond, ◌||◌, ◌&&◌, List, [], ◌∷◌, ◌++◌, Option, Some, None, length, if◌then◌else◌, get_or-set_same, refl, sym, ap, ◌∙◌, subst, arith}
+use Rattle.std.proofs.Common.{◌≡◌, ◌<◌, Bool, true, false, true≢false, cond, ◌||◌, ◌&&◌, List, [], ◌∷◌, ◌++◌, Option, Some, None, length, if◌then◌else◌, get_or-set_same, refl, sym, ap, ◌∙◌, arith}
 use Rattle.std.specs.Prelude.{is_some, option_and_then, unwrap_or}
 use Rattle.std.specs.List.{slice_get, filter, list_any}
 use Rattle.std.specs.Option.{option_map_or}
@@ -15,20 +15,17 @@ use Rattle.kc_tree.specs.declared.user_value.UserVal.TheVariants.{Tri as TriVal}
 use Rattle.kc_statement.specs.SymbolTypes.{is_tri_type}
 use Rattle.kc_outline.specs.TreeValue.{same_type}
 use Rattle.kc_outline.specs.TreeValue.{TreeValue, SymbolValue, kind_of, choice_of}
-use Rattle.kc_tree.specs.Accepted.{IsAccepted}
-use Rattle.kc_tree.specs.Nodes.{IsNodeOf}
 use Rattle.kc_tree.specs.Uses.{Uses}
 use Rattle.kc_value.specs.declared.value.Value.TheVariants.{Tri as Level}
 use Rattle.kc_statement.specs.Tristate.{greatest, is_no, least}
 use Rattle.kc_value.specs.declared.symbol_value.LineValues.{LineValues}
-use Rattle.kc_value.specs.declared.value.Value.{Value}
-use Rattle.kc_value.specs.Assignment.{Assignment, as_tri, assignment_of}
+use Rattle.kc_value.specs.Assignment.{Assignment, as_tri}
 use Rattle.kc_value.specs.UserValues.{UserValues, IsUserFor, user_value, with_value}
 use Rattle.kc_value.specs.ChoiceRule.{member_rule}
 use Rattle.kc_value.specs.TextRule.{text_rule}
 use Rattle.kc_value.specs.Rule.{rule, tri_rule, free_rule, symbol_rule, base_value, default_value, direct, has_modules, in_type, reverse_values, user_part}
 use Rattle.kc_value.specs.Assignable.{same_tri, shown_with, values_of_type, values_of, is_shown_with_some, assignable_in}
-use Rattle.kc_value.specs.Solution.{solution, AreSolved}
+use Rattle.kc_value.specs.Solution.{solution}
 use Rattle.kc_value.proofs.Agreement.{rule_agrees}
 
 none_of : {X : Type 0} (o : Option X) → is_some o ≡ false → o ≡ None
@@ -141,46 +138,18 @@ shown_agrees t u a b s same =
     ap (λ (f : Tri → Tri). filter (λ w. list_any (λ v. same_tri (f v) w) (values_of t s)) (No ∷ Module ∷ Yes ∷ []))
     (λ i v. as_tri (rule_agrees t (with_value u s (Some (TriVal v))) a b (Val s) same i))
 
--- what was shown over the values of the used nodes is what can be given to a visible symbol that is no member
-pub visible_values : (t t₁ t₂ : TreeValue) (u u₁ : UserValues) (s : SymId) (env : List (Option Value)) (items : List Tri)
-    → t₁ ≡ t → u₁ ≡ u → t₂ ≡ t → IsUserFor t u
-    → ((n : Node) → Uses t₁ (Val s) n → assignment_of t₁ env n ≡ solution t₁ u₁ n)
-    → ((w : UserValues) → IsUserFor t₂ w → items ≡ filter (is_shown_with_some t₂ w (assignment_of t₂ env) s) (No ∷ Module ∷ Yes ∷ []))
+-- what was shown over values that are right of the used nodes is what can be given to a visible symbol that is no member
+pub used_values : (t : TreeValue) (u : UserValues) (a : Assignment) (s : SymId) (items : List Tri)
+    → ((n : Node) → Uses t (Val s) n → a n ≡ solution t u n)
+    → items ≡ filter (is_shown_with_some t u a s) (No ∷ Module ∷ Yes ∷ [])
     → is_no (as_tri (solution t u (Vis s))) ≡ false
     → is_some (choice_of t s) ≡ false
     → items ≡ assignable_in t u (solution t u) s
-visible_values t t₁ t₂ u u₁ s env items e₁ f₁ e₂ sized right shown seen alone =
-    let same : (n : Node) → Uses t (Val s) n → assignment_of t env n ≡ solution t u n = λ n uses.
-    sym (ap (λ x. assignment_of x env n) e₁) ∙ right n (subst (λ x. Uses x (Val s) n) (sym e₁) uses) ∙ ap (λ x. solution x u₁ n) e₁ ∙ ap (λ w. solution t w n) f₁
-    in
-    let all = filter (is_shown_with_some t u (solution t u) s) (No ∷ Module ∷ Yes ∷ []) in
-    shown u (subst (λ x. IsUserFor x u) (sym e₂) sized)
-    ∙ ap (λ x. filter (is_shown_with_some x u (assignment_of x env) s) (No ∷ Module ∷ Yes ∷ [])) e₂
-    ∙ shown_agrees t u (assignment_of t env) (solution t u) s same
-    ∙ sym (ap (λ b. if b then [] else (if is_some (choice_of t s) then Yes ∷ [] else all)) seen ∙ ap (λ b. if b then Yes ∷ [] else all) alone)
-
--- the same where the list has the values of the used nodes
-pub used_values : (t : TreeValue) (u : UserValues) (s : SymId) (values : List (Option Value)) (items : List Tri)
-    → ((n : Node) → Uses t (Val s) n → assignment_of t values n ≡ solution t u n)
-    → items ≡ filter (is_shown_with_some t u (assignment_of t values) s) (No ∷ Module ∷ Yes ∷ [])
-    → is_no (as_tri (solution t u (Vis s))) ≡ false
-    → is_some (choice_of t s) ≡ false
-    → items ≡ assignable_in t u (solution t u) s
-used_values t u s values items right shown seen alone =
+used_values t u a s items right shown seen alone =
     let all = filter (is_shown_with_some t u (solution t u) s) (No ∷ Module ∷ Yes ∷ []) in
     shown
-    ∙ shown_agrees t u (assignment_of t values) (solution t u) s right
+    ∙ shown_agrees t u a (solution t u) s right
     ∙ sym (ap (λ b. if b then [] else (if is_some (choice_of t s) then Yes ∷ [] else all)) seen ∙ ap (λ b. if b then Yes ∷ [] else all) alone)
-
--- and where it has the values of all nodes
-pub solved_values : (t : TreeValue) (u : UserValues) (s : SymId) (values : List (Option Value)) (items : List Tri)
-    → IsAccepted t → IsNodeOf t (Val s) → AreSolved t u values
-    → items ≡ filter (is_shown_with_some t u (assignment_of t values) s) (No ∷ Module ∷ Yes ∷ [])
-    → is_no (as_tri (solution t u (Vis s))) ≡ false
-    → is_some (choice_of t s) ≡ false
-    → items ≡ assignable_in t u (solution t u) s
-solved_values t u s values items accepted node solved shown seen alone =
-    used_values t u s values items (λ n uses. solved n (accepted.within (Val s) n node uses)) shown seen alone
 
 -- y alone can be given to a visible member
 pub member_values : (t : TreeValue) (u : UserValues) (s : SymId) (items : List Tri) → items ≡ Yes ∷ [] → is_no (as_tri (solution t u (Vis s))) ≡ false → is_some (choice_of t s) ≡ true

@@ -1,11 +1,15 @@
 -- The blocks around, one after the other.
-use Rattle.std.proofs.Common.{◌≡◌, ℕ, zero, suc, List, [], ◌∷◌, Option, Some, None, refl, sym, ap, ◌∙◌, slice_get}
+use Rattle.std.proofs.Common.{◌≡◌, ℕ, zero, suc, List, [], ◌∷◌, Option, Some, None, refl, ap, slice_get}
 use Rattle.std.specs.Prelude.{option_and_then}
 use Rattle.kc_outline.specs.declared.id.BlockId.{BlockId}
 use Rattle.kc_statement.specs.declared.tri.Tri.{Tri}
 use Rattle.kc_statement.specs.declared.tri.Tri.TheVariants.{No, Module, Yes}
 use Rattle.kc_statement.specs.Tristate.{least}
-use Rattle.kc_outline.specs.TreeValue.{BlockValue, blocks_from}
+use Rattle.kc_outline.specs.Nested.{AreNested}
+use Rattle.kc_outline.specs.TreeValue.{TreeValue, BlockValue, blocks_from, blocks_around}
+use Rattle.kc_value.specs.Assignment.{Assignment}
+use Rattle.kc_value.specs.Conditions.{blocks_depend, blocks_visible}
+use Rattle.kc_value.specs.ExprValue.{conditions_value}
 
 pub least_least : (x y z : Tri) → least (least x y) z ≡ least x (least y z)
 least_least No y z = refl
@@ -15,26 +19,6 @@ least_least Module Module Module = refl
 least_least Module Module Yes = refl
 least_least Module Yes z = refl
 least_least Yes y z = refl
-
-least_swapped : (x y : Tri) → least x y ≡ least y x
-least_swapped No No = refl
-least_swapped No Module = refl
-least_swapped No Yes = refl
-least_swapped Module No = refl
-least_swapped Module Module = refl
-least_swapped Module Yes = refl
-least_swapped Yes No = refl
-least_swapped Yes Module = refl
-least_swapped Yes Yes = refl
-
--- two parts of a first and two of the rest, by part and by kind
-pub least_of_both : (l d v ds vs : Tri) → least (least l (least d v)) (least ds vs) ≡ least l (least (least d ds) (least v vs))
-least_of_both l d v ds vs =
-    least_least l (least d v) (least ds vs)
-    ∙ ap (least l)
-    (least_least d v (least ds vs)
-    ∙ ap (least d) (sym (least_least v ds vs) ∙ ap (λ x. least x vs) (least_swapped v ds) ∙ least_least ds v vs)
-    ∙ sym (least_least d ds (least v vs)))
 
 -- the innermost block, and those around it
 pub blocks_from-next : (blocks : List BlockValue) (n m : ℕ) (id : Option BlockId) (b : BlockValue) → n ≡ suc m
@@ -48,7 +32,11 @@ blocks_from-none blocks zero id none = refl
 blocks_from-none blocks (suc n) None none = refl
 blocks_from-none blocks (suc n) (Some id) none = rw none
 
-pub least_yes : (x : Tri) → least x Yes ≡ x
-least_yes No = refl
-least_yes Module = refl
-least_yes Yes = refl
+-- what a block gives is what its own lines give, and what those around it give
+pub depends_here : (t : TreeValue) (a : Assignment) (b : BlockId) (x : BlockValue) → AreNested t → slice_get t.blocks b.0 ≡ Some x
+    → blocks_depend t a (blocks_around t (Some b)) ≡ least (conditions_value t a x.depends) (blocks_depend t a (blocks_around t x.parent))
+depends_here t a b x nested at = ap (blocks_depend t a) (nested.around b x at)
+
+pub visible_here : (t : TreeValue) (a : Assignment) (b : BlockId) (x : BlockValue) → AreNested t → slice_get t.blocks b.0 ≡ Some x
+    → blocks_visible t a (blocks_around t (Some b)) ≡ least (conditions_value t a x.visible) (blocks_visible t a (blocks_around t x.parent))
+visible_here t a b x nested at = ap (blocks_visible t a) (nested.around b x at)

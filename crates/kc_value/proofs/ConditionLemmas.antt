@@ -102,11 +102,3 @@ module _ (t : TreeValue) (a b : Assignment) (same : (n : Node) → IsNodeOf t n 
       found : (o : Option CommentValue) → option_map_or (comment_value t a) o No ≡ option_map_or (comment_value t b) o No
       found None = refl
       found (Some x) = same_comment_value x
-
--- a place past the end of a list
-pub no_place : {X : Type 0} (xs : List X) (i : ℕ) → (i < length xs → ⊥) → slice_get xs i ≡ None
-no_place {X = X} xs i past = found (slice_get xs i) refl
-  where
-    found : (o : Option X) → slice_get xs i ≡ o → slice_get xs i ≡ None
-    found None e = e
-    found (Some x) e = absurd (past (slice_get_within xs i x e))

@@ -1,22 +1,29 @@
 -- Where user values become others, a node that is not dirty keeps its value.
-use Rattle.std.proofs.Common.{◌≡◌, ◌⊎◌, inl, inr, ℕ, zero, suc, ◌+◌, ◌<◌, ◌≤◌, Bool, true, false, true≢false, List, [], ◌∷◌, ◌++◌, Some, is_some, length, take, get_or, refl, sym, ap, ◌∙◌, subst, ⊎_elim, arith}
+use Rattle.std.proofs.Common.{◌≡◌, ◌⊎◌, inl, inr, ℕ, zero, suc, ◌+◌, ◌<◌, ◌≤◌, Bool, true, false, true≢false, List, [], ◌∷◌, ◌++◌, Option, Some, is_some, length, take, get_or, refl, sym, ap, ◌∙◌, subst, ⊎_elim, arith}
 use Rattle.std.specs.List.{Contains, slice_get}
 use Rattle.std.proofs.lemmas.List.{take_more}
 use Rattle.std.proofs.lemmas.List.Elements.{Contains-push_cases, Contains-append_cases, Contains-append_right, Contains-get_or}
 use Rattle.std.proofs.lemmas.Option.{slice_get-get_or}
 use Rattle.kc_tree.specs.declared.node.Node.{Node}
 use Rattle.kc_outline.specs.TreeValue.{TreeValue}
+use Rattle.kc_tree.specs.declared.cell.Cell.{Cell}
 use Rattle.kc_tree.specs.Accepted.{IsAccepted}
+use Rattle.kc_tree.specs.CellLaws.{CellLaws}
+use Rattle.kc_tree.specs.Cells.{IsCellOf}
 use Rattle.kc_tree.specs.Nodes.{IsNodeOf}
 use Rattle.kc_tree.specs.Order.{IsOrder}
 use Rattle.kc_tree.specs.Reached.{here, step}
 use Rattle.kc_tree.specs.Uses.{Uses, used_nodes}
-use Rattle.kc_value.specs.Dirty.{is_changed, IsDirty, Edits}
-use Rattle.kc_value.specs.Kept.{KeptValue, IsClosed, AreKept}
+use Rattle.kc_value.specs.declared.value.Value.{Value}
+use Rattle.kc_value.specs.Dirty.{is_changed, IsDirty}
+use Rattle.kc_value.specs.DropWalk.{IsDropped}
+use Rattle.kc_value.specs.Kept.{AreKept, IsHeld, IsKept, cell_worth}
 use Rattle.kc_value.specs.Solution.{solution, IsOnlySolution}
 use Rattle.kc_value.specs.UserValues.{UserValues}
 use Rattle.kc_value.proofs.Agreement.{rule_agrees, rule_user}
+use Rattle.kc_value.proofs.FillSteps.{node_or_condition}
 use Rattle.kc_value.proofs.SolutionLaws.{one_solution, whole}
+use Rattle.kc_value.proofs.SolvedLaws.{cell_same, reads_kept}
 
 -- a test is passed or not
 decided : (b : Bool) → (b ≡ true) ⊎ (b ≡ false)
@@ -100,16 +107,31 @@ module _ (t : TreeValue) (u w : UserValues) where
         let ok = accepted.ordered.1 in
         by_order order ok (length order) (omega arith) n (whole t w order ok n inside)
 
-    -- what is kept after an edit is the solution's
-    pub kept_after : (old new : KeptValue) → AreKept t u old.values → Edits t u w old new → IsClosed t new.values → AreKept t w new.values
-    kept_after old new kept edits closed = record {
-      closed = closed;
-      right = λ n v inside given.
+    module _ (laws : CellLaws t) (old new : List (Option Value)) (kept : AreKept t u old) (dropped : IsDropped t u w old new) where
+      -- a node that is kept afterwards is not dirty
+      kept_clean : (n : Node) → IsNodeOf t n → IsKept t new n → IsClean n
+      kept_clean n inside is =
           ⊎_elim
-          (λ same. ⊎_elim
-          (λ clean. kept.right n v inside (sym same ∙ given) ∙ clean)
-          (λ dirty. absurd (true≢false (sym (ap is_some (sym (edits.dropped n inside dirty) ∙ given)))))
-          (clean_or_dirty n inside))
-          (λ none. absurd (true≢false (sym (ap is_some (sym none.0 ∙ given)))))
-          (edits.each n inside);
-    }
+          (λ clean. clean)
+          (λ dirty. absurd (true≢false (sym is ∙ ap is_some (dropped.dropped n inside dirty))))
+          (clean_or_dirty n inside)
+
+      -- nor is one that a condition reads which is kept
+      cell_clean : (c : Cell) → IsCellOf t c → IsHeld t new c → cell_worth t (solution t u) c ≡ cell_worth t (solution t w) c
+      cell_clean c inside held =
+          ⊎_elim
+          (λ node. subst (λ x. cell_worth t (solution t u) x ≡ cell_worth t (solution t w) x) (sym node.1)
+          (kept_clean node.0 (subst (IsCellOf t) node.1 inside) (subst (IsHeld t new) node.1 held)))
+          (λ is. cell_same t laws (solution t u) (solution t w) c inside is (λ m reads. let there = reads_kept t laws new dropped.closed c m inside held reads in kept_clean m there.0 there.1))
+          (node_or_condition c)
+
+      -- what is kept after an edit is the solution's
+      pub kept_after : AreKept t w new
+      kept_after = record {
+        closed = dropped.closed;
+        right = λ c v inside given.
+            ⊎_elim
+            (λ same. kept.right c v inside (sym same ∙ given) ∙ cell_clean c inside (ap is_some given))
+            (λ none. absurd (true≢false (sym (ap is_some (sym none ∙ given)))))
+            (dropped.cells c inside);
+      }

@@ -1,10 +1,10 @@
 -- Asking nodes one after another, and keeping what they give.
-use Rattle.std.proofs.Common.{◌≡◌, ◌↔◌, ℕ, ◌+◌, ◌<◌, ◌≤◌, ◌-◌, List, [], ◌∷◌, ◌++◌, map, length, get_or, take, drop, Option, Some, None, unwrap_or, refl, sym, ap, ◌∙◌, set, subst, ⊎_elim, get_or-set_same, get_or-set_other, arith}
-use Rattle.std.specs.List.{Contains, range_with_len}
+use Rattle.std.proofs.Common.{◌≡◌, ◌↔◌, ℕ, ◌+◌, ◌<◌, ◌≤◌, List, [], ◌∷◌, ◌++◌, length, get_or, take, Option, Some, None, unwrap_or, refl, sym, ap, ◌∙◌, set, subst, ⊎_elim, get_or-set_same, get_or-set_other, arith}
+use Rattle.std.specs.List.{Contains}
 use Rattle.std.proofs.lemmas.Bool.{cases_eq}
-use Rattle.std.proofs.lemmas.List.{take_all, take_more, drop_more, length-drop, get_or-map}
-use Rattle.std.proofs.lemmas.List.Elements.{Contains-push_cases, Contains-get_or}
-use Rattle.std.proofs.lemmas.List.FromFn.{get_or-map-range_with_len, length-map-range_with_len, map-range_with_len_more}
+use Rattle.std.proofs.lemmas.List.{take_all, take_more}
+use Rattle.std.proofs.lemmas.List.Elements.{Contains-append_right, Contains-push_cases, Contains-get_or}
+use Rattle.std.proofs.lemmas.List.FromFn.{get_or-map-range_with_len, length-map-range_with_len}
 use Rattle.kc_tree.specs.declared.node.Node.{Node}
 use Rattle.kc_statement.specs.declared.tri.Tri.TheVariants.{No}
 use Rattle.kc_outline.specs.TreeValue.{TreeValue}
@@ -17,7 +17,7 @@ use Rattle.kc_value.specs.declared.value.Value.{Value}
 use Rattle.kc_value.specs.declared.value.Value.TheVariants.{Tri as Level}
 use Rattle.kc_value.specs.Assignment.{assignment_of}
 use Rattle.kc_value.specs.UserValues.{UserValues}
-use Rattle.kc_value.specs.Solution.{solution}
+use Rattle.kc_value.specs.Solution.{solution, AreSolved}
 use Rattle.kc_value.proofs.PartLemmas.{Contains-from_take}
 
 -- all nodes and one of them once more reach no more than all nodes do
@@ -33,59 +33,27 @@ pub used_in_one : (t : TreeValue) (m q : Node) → Uses t m q → (n : Node) →
 used_in_one t m q uses n (p, asked, leads) =
     ⊎_elim (λ first. (p, first, leads)) (λ same. (m, (0, omega arith, refl), step uses (subst (λ x. Leads t x n) (sym same) leads))) (Contains-push_cases (m ∷ []) q p asked)
 
--- the values of all nodes up to a number
-abbrev pub values_up_to : TreeValue → UserValues → ℕ → List Value
-values_up_to t u k = map (λ j. solution t u (node_at t j)) (range_with_len 0 k)
+-- the nodes of the first numbers have the solution's values
+abbrev pub AreGathered : TreeValue → UserValues → ℕ → List (Option Value) → Type 0
+AreGathered t u k values = (n : Node) → IsNodeOf t n → number_of t n < k → assignment_of t values n ≡ solution t u n
 
-pub one_more_value : (t s : TreeValue) (u w : UserValues) (k : ℕ) (n : Node) (v : Value) (before after : List Value)
-    → s ≡ t → w ≡ u → n ≡ node_at t k → v ≡ solution s w n → before ≡ values_up_to t u k → after ≡ before ++ v ∷ []
-    → after ≡ values_up_to t u (k + 1)
-one_more_value t s u w k n v before after tree user node is kept pushed =
-    let right : v ≡ solution t u (node_at t k) = is ∙ ap (λ x. solution x w n) tree ∙ ap (λ x. solution t x n) user ∙ ap (solution t u) node in
-    pushed
-    ∙ ap (λ vs. vs ++ v ∷ []) kept
-    ∙ ap (λ x. values_up_to t u k ++ x ∷ []) right
-    ∙ sym (map-range_with_len_more (λ j. solution t u (node_at t j)) 0 k k (omega arith))
+pub none_gathered : (t : TreeValue) (u : UserValues) (values : List (Option Value)) → AreGathered t u 0 values
+none_gathered t u values n inside below = absurd (omega (arith, below))
 
--- the same where the list itself says how many there are
-pub one_more_counted : (t s : TreeValue) (u w : UserValues) (n : Node) (v : Value) (before after : List Value)
-    → s ≡ t → w ≡ u → n ≡ node_at t (length before) → v ≡ solution s w n → before ≡ values_up_to t u (length before) → after ≡ before ++ v ∷ []
-    → (length after ≡ length before + 1) × (after ≡ values_up_to t u (length after))
-one_more_counted t s u w n v before after tree user node is kept pushed =
-    let k : ℕ = length before in
-    let all : after ≡ values_up_to t u (k + 1) = one_more_value t s u w k n v before after tree user node is kept pushed in
-    let long : length after ≡ k + 1 = ap length all ∙ length-map-range_with_len (λ j. solution t u (node_at t j)) 0 (k + 1) in
-    (long, all ∙ ap (values_up_to t u) (sym long))
+-- and one more
+pub one_more_gathered : (t : TreeValue) (u : UserValues) (k : ℕ) (values : List (Option Value)) (v : Value) → length values ≡ node_count t → k < node_count t → v ≡ solution t u (node_at t k)
+    → AreGathered t u k values → AreGathered t u (k + 1) (set values k (Some v))
+one_more_gathered t u k values v long few is before n inside below =
+    ⊎_elim
+    (λ (same : number_of t n ≡ k).
+    ap (λ j. unwrap_or (get_or (set values k (Some v)) j None) (Level No)) same
+    ∙ ap (λ o. unwrap_or o (Level No)) (get_or-set_same values k (Some v) None (omega (arith, long, few)))
+    ∙ is ∙ ap (solution t u) (ap (node_at t) (sym same) ∙ node_at-number_of t n inside))
+    (λ other. ap (λ o. unwrap_or o (Level No)) (get_or-set_other values k (number_of t n) (Some v) None other) ∙ before n inside (omega (arith, below, other)))
+    (cases_eq (number_of t n) k)
 
--- the first of the nodes that are left
-pub next_of_all : (t : TreeValue) (k : ℕ) (x : Node) (left : List Node) → x ∷ left ≡ drop k (all_nodes t)
-    → (k < node_count t) × (x ≡ node_at t k) × (left ≡ drop (k + 1) (all_nodes t))
-next_of_all t k x left e =
-    let long : length (all_nodes t) ≡ node_count t = length-map-range_with_len (node_at t) 0 (node_count t) in
-    let some : length (x ∷ left) ≡ length (all_nodes t) - k = ap length e ∙ length-drop k (all_nodes t) in
-    let within : k < length (all_nodes t) = omega (arith, some) in
-    let below : k < node_count t = subst (λ j. k < j) long within in
-    let split : x ∷ left ≡ get_or (all_nodes t) k x ∷ drop (k + 1) (all_nodes t) = e ∙ drop_more (all_nodes t) k x within in
-    (below, ap (λ xs. get_or xs 0 x) split ∙ get_or-map-range_with_len (node_at t) 0 (node_count t) k k x below (omega arith), ap (drop 1) split)
-
--- none is left after the last
-pub none_of_all : (t : TreeValue) (k : ℕ) → k ≤ node_count t → [] ≡ drop k (all_nodes t) → k ≡ node_count t
-none_of_all t k within e =
-    let long : length (all_nodes t) ≡ node_count t = length-map-range_with_len (node_at t) 0 (node_count t) in
-    let none : 0 ≡ length (all_nodes t) - k = ap length e ∙ length-drop k (all_nodes t) in
-    omega (arith, none, long, within)
-
--- the values of all nodes, as an assignment
-pub all_values_right : (t : TreeValue) (u : UserValues) (k : ℕ) (vs : List Value) (all : List (Option Value)) → k ≡ node_count t → vs ≡ values_up_to t u k → all ≡ map Some vs
-    → (n : Node) → IsNodeOf t n → assignment_of t all n ≡ solution t u n
-all_values_right t u k vs all whole is each n inside =
-    let below : number_of t n < k = subst (λ j. number_of t n < j) (sym whole) (number_below t n inside) in
-    let long : length vs ≡ k = ap length is ∙ length-map-range_with_len (λ j. solution t u (node_at t j)) 0 k in
-    ap (λ xs. assignment_of t xs n) each
-    ∙ ap (λ o. unwrap_or o (Level No)) (get_or-map Some vs (number_of t n) (Level No) None (omega (arith, below, long)))
-    ∙ ap (λ xs. get_or xs (number_of t n) (Level No)) is
-    ∙ get_or-map-range_with_len (λ j. solution t u (node_at t j)) 0 k (number_of t n) (number_of t n) (Level No) below (omega arith)
-    ∙ ap (solution t u) (node_at-number_of t n inside)
+pub all_gathered : (t : TreeValue) (u : UserValues) (k : ℕ) (values : List (Option Value)) → node_count t ≤ k → AreGathered t u k values → AreSolved t u values
+all_gathered t u k values all are n inside = are n inside (omega (arith, number_below t n inside, all))
 
 -- a node at a place of a list of what a node uses
 pub used_at : (t s : TreeValue) (n : Node) (used nodes items : List Node) → s ≡ t → ((m : Node) → Contains used m ↔ Uses s n m) → nodes ≡ used → items ≡ nodes
@@ -138,3 +106,14 @@ module _ (t : TreeValue) (u : UserValues) (nodes : List Node) (i : ℕ) (d : Nod
           ap (λ o. unwrap_or o (Level No)) (get_or-set_other env (number_of t added) (number_of t m) (Some v) None differs)
           ∙ ⊎_elim (λ before. right m before) (λ here. absurd (differs (ap (number_of t) (sym here))))
           (Contains-push_cases (take i nodes) added m (subst (λ xs. Contains xs m) (take_more nodes i d within) c))
+
+-- a node reaches no more than it and another do
+pub second_in_both : (t : TreeValue) (p q : Node) → (n : Node) → Reached t (q ∷ []) n → Reached t (p ∷ q ∷ []) n
+second_in_both t p q n (m, asked, leads) = (m, Contains-append_right (p ∷ []) (q ∷ []) m asked, leads)
+
+-- the values that were asked are right of another name of the tree, and of the list
+pub asked_right : (t x : TreeValue) (u : UserValues) (vs ws : List (Option Value)) (n : Node) → x ≡ t → ws ≡ vs
+    → ((m : Node) → Uses t n m → assignment_of t vs m ≡ solution t u m) → (m : Node) → Uses x n m → assignment_of x ws m ≡ solution x u m
+asked_right t x u vs ws n tree list right =
+    subst (λ y. (m : Node) → Uses y n m → assignment_of y ws m ≡ solution y u m) (sym tree)
+    (subst (λ l. (m : Node) → Uses t n m → assignment_of t l m ≡ solution t u m) (sym list) right)

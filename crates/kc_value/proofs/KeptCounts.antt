@@ -1,28 +1,50 @@
 -- How many values are kept: the number of places bounds it, and so do the places that were emptied.
-use Rattle.std.proofs.Common.{◌≡◌, ◌⊎◌, ℕ, zero, suc, ◌+◌, ◌<◌, ◌≤◌, List, [], ◌∷◌, length, Option, Some, None, get_or, set, sym, ap, ◌∙◌, inl, inr, arith}
+use Rattle.std.proofs.Common.{◌≡◌, ◌⊎◌, ℕ, zero, suc, ◌+◌, ◌<◌, ◌≤◌, List, [], ◌∷◌, length, take, Option, Some, None, get_or, set, refl, sym, ap, ◌∙◌, inl, inr, arith}
 use Rattle.std.specs.List.{Contains}
 use Rattle.std.proofs.lemmas.Bool.{cases_eq}
-use Rattle.std.proofs.lemmas.List.{ext_get_or, get_or-set_other, length-set}
+use Rattle.std.proofs.lemmas.List.{ext_get_or, get_or-set_other, length-set, get_or-take, length-take-le, take-set-le}
+use Rattle.std.proofs.lemmas.Option.{none-some}
+use Rattle.std.proofs.Math.Seq.{take-set-lt}
+use Rattle.kc_outline.specs.TreeValue.{TreeValue}
+use Rattle.kc_tree.specs.Nodes.{node_count}
 use Rattle.std.proofs.lemmas.Grind.{get_or-set_at}
 use Rattle.kc_value.specs.declared.value.Value.{Value}
-use Rattle.kc_value.specs.Kept.{kept_count}
+use Rattle.kc_value.specs.Kept.{value_count, kept_count}
 
-pub kept_count-within : (kept : List (Option Value)) → kept_count kept ≤ length kept
-unfolding kept_count
-kept_count-within [] = omega arith
-kept_count-within (None ∷ kept) = let rest : kept_count kept ≤ length kept = kept_count-within kept in omega (arith, rest)
-kept_count-within (Some v ∷ kept) = let rest : kept_count kept ≤ length kept = kept_count-within kept in omega (arith, rest)
+pub value_count-within : (kept : List (Option Value)) → value_count kept ≤ length kept
+unfolding value_count
+value_count-within [] = omega arith
+value_count-within (None ∷ kept) = let rest : value_count kept ≤ length kept = value_count-within kept in omega (arith, rest)
+value_count-within (Some v ∷ kept) = let rest : value_count kept ≤ length kept = value_count-within kept in omega (arith, rest)
+
+-- a place that had no value has one
+pub value_count-more : (kept : List (Option Value)) (k : ℕ) (v : Value) → k < length kept → get_or kept k None ≡ None → value_count (set kept k (Some v)) ≡ suc (value_count kept)
+unfolding value_count
+value_count-more [] k v within none = absurd (omega (arith, within))
+value_count-more (None ∷ kept) zero v within none = refl
+value_count-more (Some w ∷ kept) zero v within none = cc
+value_count-more (None ∷ kept) (suc k) v within none = value_count-more kept k v (omega (arith, within)) none
+value_count-more (Some w ∷ kept) (suc k) v within none = ap suc (value_count-more kept k v (omega (arith, within)) none)
+
+-- a place that had a value has none
+pub value_count-fewer : (kept : List (Option Value)) (k : ℕ) (v : Value) → get_or kept k None ≡ Some v → suc (value_count (set kept k None)) ≡ value_count kept
+unfolding value_count
+value_count-fewer [] k v e = absurd (none-some v e)
+value_count-fewer (None ∷ kept) zero v e = absurd (none-some v e)
+value_count-fewer (Some w ∷ kept) zero v e = refl
+value_count-fewer (None ∷ kept) (suc k) v e = value_count-fewer kept k v e
+value_count-fewer (Some w ∷ kept) (suc k) v e = ap suc (value_count-fewer kept k v e)
 
 -- where one place becomes another's value, one value less is kept at the most
-kept_count-set : (kept : List (Option Value)) (k : ℕ) (v : Option Value) → kept_count kept ≤ kept_count (set kept k v) + 1
-unfolding kept_count
-kept_count-set [] k v = omega arith
-kept_count-set (None ∷ kept) zero None = omega arith
-kept_count-set (None ∷ kept) zero (Some w) = omega arith
-kept_count-set (Some x ∷ kept) zero None = omega arith
-kept_count-set (Some x ∷ kept) zero (Some w) = omega arith
-kept_count-set (None ∷ kept) (suc k) v = kept_count-set kept k v
-kept_count-set (Some x ∷ kept) (suc k) v = let rest : kept_count kept ≤ kept_count (set kept k v) + 1 = kept_count-set kept k v in omega (arith, rest)
+value_count-less : (kept : List (Option Value)) (k : ℕ) (v : Option Value) → value_count kept ≤ value_count (set kept k v) + 1
+unfolding value_count
+value_count-less [] k v = omega arith
+value_count-less (None ∷ kept) zero None = omega arith
+value_count-less (None ∷ kept) zero (Some w) = omega arith
+value_count-less (Some x ∷ kept) zero None = omega arith
+value_count-less (Some x ∷ kept) zero (Some w) = omega arith
+value_count-less (None ∷ kept) (suc k) v = value_count-less kept k v
+value_count-less (Some x ∷ kept) (suc k) v = let rest : value_count kept ≤ value_count (set kept k v) + 1 = value_count-less kept k v in omega (arith, rest)
 
 -- the first element of a list, or one of the others
 first_or_later : (first : ℕ) (rest : List ℕ) (k : ℕ) → Contains (first ∷ rest) k → (k ≡ first) ⊎ Contains rest k
@@ -59,13 +81,26 @@ module _ (new : List (Option Value)) where
       ]
 
   -- so many values less are kept at the most as there are numbers
-  pub kept_count-differs : (numbers : List ℕ) (old : List (Option Value)) → length old ≡ length new → DiffersWithin numbers old new
-      → kept_count old ≤ kept_count new + length numbers
-  kept_count-differs [] old whole differs =
+  pub value_count-differs : (numbers : List ℕ) (old : List (Option Value)) → length old ≡ length new → DiffersWithin numbers old new
+      → value_count old ≤ value_count new + length numbers
+  value_count-differs [] old whole differs =
       let same : old ≡ new = ext_get_or None old new whole (λ k below. elim (differs k below) [ inl e ↦ sym e | inr listed ↦ absurd (none_contained k listed) ]) in
-      omega (arith, ap kept_count same)
-  kept_count-differs (number ∷ numbers) old whole differs =
+      omega (arith, ap value_count same)
+  value_count-differs (number ∷ numbers) old whole differs =
       let v : Option Value = get_or new number None in
-      let fewer : kept_count (set old number v) ≤ kept_count new + length numbers =
-      kept_count-differs numbers (set old number v) (length-set old number v ∙ whole) (one_less number numbers old differs) in
-      omega (arith, fewer, kept_count-set old number v)
+      let fewer : value_count (set old number v) ≤ value_count new + length numbers =
+      value_count-differs numbers (set old number v) (length-set old number v ∙ whole) (one_less number numbers old differs) in
+      omega (arith, fewer, value_count-less old number v)
+
+-- ---- the values of nodes alone
+module _ (t : TreeValue) (kept : List (Option Value)) where
+  -- those of a node that is kept now, too
+  pub kept_count-node : (k : ℕ) (v : Value) → k < node_count t → node_count t ≤ length kept → get_or kept k None ≡ None → kept_count t (set kept k (Some v)) ≡ suc (kept_count t kept)
+  kept_count-node k v below whole none =
+      let few : List (Option Value) = take (node_count t) kept in
+      let within : k < length few = omega (arith, below, length-take-le (node_count t) kept whole) in
+      ap value_count (take-set-lt (node_count t) kept k (Some v) below) ∙ value_count-more few k v within (get_or-take (node_count t) kept k None below ∙ none)
+
+  -- and not that of a condition
+  pub kept_count-condition : (k : ℕ) (v : Value) → node_count t ≤ k → kept_count t (set kept k (Some v)) ≡ kept_count t kept
+  kept_count-condition k v past = ap value_count (take-set-le (node_count t) kept k (Some v) past)

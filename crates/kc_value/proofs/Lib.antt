@@ -17,7 +17,6 @@ pub mod FillSteps
 pub mod FirstLemmas
 pub mod FittingLaws
 pub mod GatheringLemmas
-pub mod HeightLemmas
 pub mod KeptCounts
 pub mod KeptLaws
 pub mod KeptReading
@@ -37,9 +36,8 @@ pub mod ReplayLaws
 pub mod SameLaws
 pub mod SlotLemmas
 pub mod SolutionLaws
-pub mod StepLemmas
+pub mod SolvedLaws
 pub mod SummaryLemmas
 pub mod UserLemmas
-pub mod UsesLaws
 pub mod VisibilityLaws
 pub mod WithoutLemmas

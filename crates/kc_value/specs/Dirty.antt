@@ -1,12 +1,11 @@
 -- Which values an edit of the user values can change: this project's own.
-use Rattle.std.specs.Prelude.{◌≡◌, ◌⊎◌, Bool, true, false, not, ◌&&◌, List, Option, Some, None, is_some, filter, Contains}
+use Rattle.std.specs.Prelude.{◌≡◌, ◌⊎◌, Bool, true, false, not, ◌&&◌, Option, Some, None, is_some}
 use Rattle.kc_outline.specs.TreeValue.{TreeValue, choice_of}
 use Rattle.kc_tree.specs.declared.node.Node.{Node}
 use Rattle.kc_tree.specs.declared.node.Node.TheVariants.{Vis, Val, Mode, Sel}
 use Rattle.kc_tree.specs.declared.user_value.UserVal.{UserVal}
-use Rattle.kc_tree.specs.Nodes.{IsNodeOf, all_nodes}
+use Rattle.kc_tree.specs.Nodes.{IsNodeOf}
 use Rattle.kc_tree.specs.Reached.{Leads}
-use Rattle.kc_value.specs.declared.value.Value.{Value}
 use Rattle.kc_value.specs.Assignment.{value_at}
 use Rattle.kc_value.specs.ChangedValue.{same_mark, same_user_value, same_member}
 use Rattle.kc_value.specs.Kept.{KeptValue}
@@ -29,19 +28,9 @@ is_changed t u w (Val s) = not (is_some (choice_of t s)) && not (same_given (use
 is_changed t u w (Mode c) = is_optional_choice t c && not (same_mark (is_some (chosen_in u c)) (is_some (chosen_in w c)))
 is_changed t u w (Sel c) = not (same_member (chosen_in u c) (chosen_in w c))
 
--- all nodes that change, by number
-abbrev pub changed_nodes : TreeValue → UserValues → UserValues → List Node
-changed_nodes t u w = filter (is_changed t u w) (all_nodes t)
-
 -- a node that is computed from one that changes, through others or itself
 abbrev pub IsDirty : TreeValue → UserValues → UserValues → Node → Type 0
 IsDirty t u w n = (c : Node) × IsNodeOf t c × (is_changed t u w c ≡ true) × Leads t n c
-
--- what is computed from one of some nodes is dropped, and all else stays
-pub record Drops (t : TreeValue) (changed : List Node) (old new : List (Option Value)) : Type 0 where
-  pub dropped : (n c : Node) → IsNodeOf t n → Contains changed c → Leads t n c → value_at t new n ≡ None
-  pub each : (n : Node) → IsNodeOf t n
-      → (value_at t new n ≡ value_at t old n) ⊎ ((value_at t new n ≡ None) × ((c : Node) × Contains changed c × Leads t n c))
 
 -- an edit drops the dirty nodes and no others, and evaluates nothing
 pub record Edits (t : TreeValue) (u w : UserValues) (old new : KeptValue) : Type 0 where

@@ -1,51 +1,78 @@
--- Steps: the walk that drops what is computed from some nodes: this project's own.
-use Rattle.std.specs.Prelude.{◌≡◌, ◌⊎◌, ℕ, ◌+◌, ◌<◌, ◌≤◌, Bool, true, false, List, Option, None, Contains, is_some, length, slice_index_or}
-use Rattle.kc_graph.specs.Graph.{Uses as HasNumber}
+-- Steps: the walk that drops what is computed from nodes that change: this project's own.
+use Rattle.std.specs.Prelude.{◌≡◌, ◌⊎◌, ℕ, ◌+◌, ◌<◌, ◌≤◌, Bool, List, Option, None, Contains, is_some, true, length, slice_index_or}
+use Rattle.kc_statement.specs.declared.id.SymId.{SymId}
+use Rattle.kc_outline.specs.declared.id.ChoiceId.{ChoiceId}
 use Rattle.kc_outline.specs.TreeValue.{TreeValue}
+use Rattle.kc_tree.specs.declared.cell.Cell.{Cell}
+use Rattle.kc_tree.specs.declared.cell.Cell.TheVariants.{Node as OfNode}
 use Rattle.kc_tree.specs.declared.node.Node.{Node}
-use Rattle.kc_tree.specs.Nodes.{IsNodeOf, node_count}
-use Rattle.kc_tree.specs.Reached.{Leads}
-use Rattle.kc_tree.specs.Uses.{Uses}
-use Rattle.kc_value.specs.declared.summary.Summary.{Summary}
-use Rattle.kc_value.specs.declared.summary.Summary.TheVariants.{Yes}
+use Rattle.kc_tree.specs.declared.node.Node.TheVariants.{Val, Mode, Sel}
+use Rattle.kc_tree.specs.Cells.{IsCellOf, cell_at, cell_count, cell_number, read_cells}
+use Rattle.kc_tree.specs.Nodes.{IsNodeOf, number_of}
 use Rattle.kc_value.specs.declared.value.Value.{Value}
 use Rattle.kc_value.specs.Assignment.{value_at}
-use Rattle.kc_value.specs.Kept.{IsKept, kept_count}
-use Rattle.kc_value.specs.Summaries.{is_present}
+use Rattle.kc_value.specs.Dirty.{IsDirty, is_changed}
+use Rattle.kc_value.specs.Kept.{IsClosed, IsHeld, cell_value_at, value_count}
+use Rattle.kc_value.specs.UserValues.{UserValues}
 
--- The values of some nodes are dropped and no others, and each node that had one comes to a list of nodes, which so
+-- the value of the cell of a number
+abbrev pub value_of : List (Option Value) → ℕ → Option Value
+value_of values k = slice_index_or values k None
+
+-- The values of some cells are dropped and no others, and each cell that had one comes to a list of cells, which so
 -- grows by no more than the values become fewer.
-pub record DropsAll (t : TreeValue) (nodes : List Node) (old new : List (Option Value)) (before after : List Node) : Type 0 where
+pub record DropsAll (dropped : ℕ → Type 0) (old new : List (Option Value)) (before after : List ℕ) : Type 0 where
   pub whole : length new ≡ length old
-  pub each : (n : Node) → IsNodeOf t n → (value_at t new n ≡ value_at t old n) ⊎ ((value_at t new n ≡ None) × Contains nodes n)
-  pub dropped : (n : Node) → IsNodeOf t n → Contains nodes n → value_at t new n ≡ None
-  pub stays : (n : Node) → Contains before n → Contains after n
-  pub listed : (n : Node) → Contains after n → Contains before n ⊎ Contains nodes n
-  pub found : (n : Node) → IsNodeOf t n → IsKept t old n → IsKept t new n ⊎ Contains after n
-  pub room : length after + kept_count new ≤ length before + kept_count old
+  pub each : (k : ℕ) → (value_of new k ≡ value_of old k) ⊎ ((value_of new k ≡ None) × dropped k)
+  pub gone : (k : ℕ) → dropped k → value_of new k ≡ None
+  pub stay : (k : ℕ) → Contains before k → Contains after k
+  pub listed : (k : ℕ) → Contains after k → Contains before k ⊎ dropped k
+  pub found : (k : ℕ) → is_some (value_of old k) ≡ true → (is_some (value_of new k) ≡ true) ⊎ Contains after k
+  pub room : length after + value_count new ≤ length before + value_count old
 
--- a node that is computed from one of some nodes, through others or itself
-abbrev pub IsFrom : TreeValue → List Node → Node → Type 0
-IsFrom t starts n = (c : Node) × Contains starts c × Leads t n c
+-- the one number, where something is so
+abbrev pub IsOneIf : Bool → ℕ → ℕ → Type 0
+IsOneIf b number k = (b ≡ true) × (k ≡ number)
 
--- Some nodes have no value, nor have some that are computed from them, and the others are as they were. What a kept node
--- uses is kept, or listed.
-pub record IsDropping (t : TreeValue) (starts : List Node) (old new : List (Option Value)) (list : List Node) : Type 0 where
+-- ---- numbers of nodes that change where the user values become others
+abbrev pub IsChangedAt : TreeValue → UserValues → UserValues → Node → ℕ → Type 0
+IsChangedAt t u w n k = (is_changed t u w n ≡ true) × (k ≡ number_of t n)
+
+-- of the value of one of the first symbols
+abbrev pub IsChangedValue : TreeValue → UserValues → UserValues → ℕ → ℕ → Type 0
+IsChangedValue t u w count k = (s : SymId) × (s.0 < count) × IsChangedAt t u w (Val s) k
+
+-- of the mode or the selection of one of the first choices
+abbrev pub IsChangedChoice : TreeValue → UserValues → UserValues → ℕ → ℕ → Type 0
+IsChangedChoice t u w count k = (c : ChoiceId) × (c.0 < count) × (IsChangedAt t u w (Mode c) k ⊎ IsChangedAt t u w (Sel c) k)
+
+-- of any node
+abbrev pub IsChangedNumber : TreeValue → UserValues → UserValues → ℕ → Type 0
+IsChangedNumber t u w k = (n : Node) × IsNodeOf t n × IsChangedAt t u w n k
+
+-- ---- the walk
+-- a cell reads a node, itself or through others, or is that node
+pub data ReadsFrom (t : TreeValue) (n : Node) : Cell → Type 0 where
+  here : ReadsFrom t n (OfNode n)
+  step : {c e : Cell} → Contains (read_cells t c) e → ReadsFrom t n e → ReadsFrom t n c
+
+-- so does it a node that changes
+abbrev pub IsFrom : TreeValue → UserValues → UserValues → Cell → Type 0
+IsFrom t u w c = (n : Node) × IsNodeOf t n × (is_changed t u w n ≡ true) × ReadsFrom t n c
+
+-- The nodes that change have no value, nor have some cells that are computed from them, and the others are as they were.
+-- What a cell that is kept reads is kept, or listed.
+pub record IsDropping (t : TreeValue) (u w : UserValues) (old new : List (Option Value)) (list : List ℕ) : Type 0 where
   pub whole : length new ≡ length old
-  pub started : (n : Node) → IsNodeOf t n → Contains starts n → value_at t new n ≡ None
-  pub each : (n : Node) → IsNodeOf t n → (value_at t new n ≡ value_at t old n) ⊎ ((value_at t new n ≡ None) × IsFrom t starts n)
-  pub listed : (n : Node) → Contains list n → IsFrom t starts n
-  pub closed : (n m : Node) → IsNodeOf t n → IsKept t new n → Uses t n m → IsKept t new m ⊎ Contains list m
+  pub started : (n : Node) → IsNodeOf t n → is_changed t u w n ≡ true → value_at t new n ≡ None
+  pub each : (c : Cell) → IsCellOf t c → (cell_value_at t new c ≡ cell_value_at t old c) ⊎ ((cell_value_at t new c ≡ None) × IsFrom t u w c)
+  pub listed : (k : ℕ) → Contains list k → (k < cell_count t) × IsFrom t u w (cell_at t k)
+  pub closed : (c e : Cell) → IsCellOf t c → IsHeld t new c → Contains (read_cells t c) e → IsHeld t new e ⊎ Contains list (cell_number t e)
 
--- of the shared lists of a table that are marked no node has a value
-abbrev pub AreWalked : TreeValue → List (List ℕ) → List Bool → List (Option Value) → Type 0
-AreWalked t g walked values = (k q : ℕ) → slice_index_or walked k false ≡ true → HasNumber g (node_count t + k) q → slice_index_or values q None ≡ None
-
--- between two places of a row each number is that of a node without a value
-abbrev pub NothingToDrop : TreeValue → List (Option Value) → List ℕ → ℕ → ℕ → Type 0
-NothingToDrop t values numbers from to =
-    (i : ℕ) → from ≤ i → i < to → (slice_index_or numbers i 0 < node_count t) × (is_some (slice_index_or values (slice_index_or numbers i 0) None) ≡ false)
-
--- between two places of a row each number is that of a node of which it is said that it has no value
-abbrev pub AreAbsent : List Summary → List ℕ → ℕ → ℕ → Type 0
-AreAbsent summaries numbers from to = (i : ℕ) → from ≤ i → i < to → is_present (slice_index_or summaries (slice_index_or numbers i 0) Yes) ≡ false
+-- Once nothing is listed, the dirty nodes have no value, and all other nodes are as they were, with all that they are
+-- computed from.
+pub record IsDropped (t : TreeValue) (u w : UserValues) (old new : List (Option Value)) : Type 0 where
+  pub closed : IsClosed t new
+  pub dropped : (n : Node) → IsNodeOf t n → IsDirty t u w n → value_at t new n ≡ None
+  pub each : (n : Node) → IsNodeOf t n → (value_at t new n ≡ value_at t old n) ⊎ ((value_at t new n ≡ None) × IsDirty t u w n)
+  pub cells : (c : Cell) → IsCellOf t c → (cell_value_at t new c ≡ cell_value_at t old c) ⊎ (cell_value_at t new c ≡ None)

@@ -59,8 +59,8 @@ reached_from_more t p q more n (m, asked, leads) = (m, more m asked, leads)
 -- where nothing was asked, what is kept is as it was
 pub fills_nothing : (t : TreeValue) (k : KeptValue) → Fills t [] k k
 fills_nothing t k = record {
-  adds = record { each = λ n inside. inl refl; more = le_refl (kept_count k.values) };
-  counted = raised_by_none k.evals (kept_count k.values);
+  adds = record { each = λ n inside. inl refl; more = le_refl (kept_count t k.values) };
+  counted = raised_by_none k.evals (kept_count t k.values);
 }
 
 -- asking nodes is a case of asking others from which at least as many are reached
@@ -99,8 +99,8 @@ fills_then t w p q r s u same f later =
       adds = adds_then t p q r.values s.values u.values f.adds g.adds;
       counted =
           g.counted
-          ∙ ap (λ e. raised e (kept_count u.values - kept_count s.values)) f.counted
-          ∙ raised_twice r.evals (kept_count r.values) (kept_count s.values) (kept_count u.values) f.adds.more g.adds.more;
+          ∙ ap (λ e. raised e (kept_count t u.values - kept_count t s.values)) f.counted
+          ∙ raised_twice r.evals (kept_count t r.values) (kept_count t s.values) (kept_count t u.values) f.adds.more g.adds.more;
     }
 
 -- asking some of the nodes once more is asking them once

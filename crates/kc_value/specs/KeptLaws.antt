@@ -11,6 +11,7 @@ use Rattle.kc_value.specs.declared.value.Value.{Value}
 use Rattle.kc_value.specs.Assignment.{assignment_of}
 use Rattle.kc_value.specs.Dirty.{Edits, IsDirty}
 use Rattle.kc_value.specs.Kept.{AreKept, IsClosed, IsKept, KeptValue, kept_count}
+use Rattle.kc_value.specs.Known.{AreRight}
 use Rattle.kc_value.specs.Solution.{solution}
 use Rattle.kc_value.specs.UserValues.{UserValues}
 
@@ -28,11 +29,15 @@ pub record KeptLaws (t : TreeValue) : Type 0 where
       → assignment_of t kept n ≡ solution t u n
   pub used_right : (u : UserValues) (kept : List (Option Value)) → AreKept t u kept → (n : Node) → IsNodeOf t n → IsKept t kept n
       → (m : Node) → Uses t n m → assignment_of t kept m ≡ solution t u m
+  -- and each condition that is kept is what the nodes give it
+  pub conditions_right : (u : UserValues) (kept : List (Option Value)) → AreKept t u kept → AreRight t kept
+  -- what a node that is kept is computed from is kept
+  pub used_kept : (kept : List (Option Value)) → IsClosed t kept → (n m : Node) → IsNodeOf t n → IsKept t kept n → Uses t n m → IsKept t kept m
   -- an edit that leaves the user values as they are leaves what is kept
   pub edits_nothing : (u : UserValues) (k : KeptValue) → Edits t u u k k
   -- no more values are kept than there are nodes
-  pub count_within : (kept : List (Option Value)) → IsClosed t kept → kept_count kept ≤ node_count t
+  pub count_within : (kept : List (Option Value)) → IsClosed t kept → kept_count t kept ≤ node_count t
   -- an edit drops no more values than there are nodes in a list that has each dirty one
   pub count_dropped : (u w : UserValues) (old new : KeptValue) (dirty : List Node) → IsClosed t old.values → IsClosed t new.values
       → ((n : Node) → IsNodeOf t n → IsDirty t u w n → Contains dirty n) → Edits t u w old new
-      → kept_count old.values ≤ kept_count new.values + length dirty
+      → kept_count t old.values ≤ kept_count t new.values + length dirty

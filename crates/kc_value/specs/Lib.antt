@@ -15,13 +15,14 @@ pub mod FillWalk
 pub mod Fresh
 pub mod Kept
 pub mod KeptLaws
-pub mod KnownConditions
+pub mod Known
 pub mod NodeValues
 pub mod Numerals
 pub mod Reasons
 pub mod Replay
 pub mod Rule
 pub mod Solution
+pub mod Solved
 pub mod Summaries
 pub mod TextRule
 pub mod UserValues

@@ -14,20 +14,16 @@ ghost use Rattle.kc_tree.specs.Uses.{Uses};
 ghost use Rattle.kc_outline.specs.TreeValue.{same_type};
 ghost use Rattle.kc_outline.specs.TreeValue.{choice_of};
 ghost use Rattle.kc_value.specs.Assignable.{same_tri, is_shown_with_some, assignable_values};
-ghost use Rattle.kc_value.specs.Assignment.{assignment_of};
-ghost use Rattle.kc_value.specs.KnownConditions.{AreRight, AreSharedBy};
+ghost use Rattle.kc_value.specs.Known.{given};
 ghost use Rattle.kc_value.specs.Rule.{in_type, user_part};
 ghost use Rattle.kc_value.specs.Solution.{solution, AreSolved, IsOnlySolution};
 ghost use Rattle.kc_value.specs.UserValues.{UserValues, IsUserFor};
 
-use crate::expr_value::node_tri;
 use crate::gathering::used_values;
-use crate::known_conditions::KnownConditions;
-use crate::node_values::NodeValues;
+use crate::known::Known;
 use crate::resolver::Resolver;
-use crate::shared_conditions::SharedConditions;
 use crate::symbol_value::{LineValues, line_values, shown_tri};
-use kc_tree::{Node, SymId, Symbol, SymbolType, Tree, Tri, UserVal};
+use kc_tree::{Node, SymId, SymbolType, Tree, Tri, UserVal};
 use std::alloc::{AllocError, Global};
 
 /// What a symbol of this visibility shows with a user value; `lines` is what its lines give.
@@ -64,25 +60,18 @@ fn push_if(values: &mut Vec<Tri>, value: Tri, is_wanted: bool) -> Result<(), All
 
 /// The values that a symbol, which is no member of a choice, shows for some user value of its type, in the order n, m,
 /// y, over the values of the nodes that it is computed from. The error comes where memory is refused.
-fn shown_values(
-    alloc: Global,
-    tree: &Tree,
-    id: SymId,
-    known: KnownConditions<'_>,
-    env: &NodeValues,
-) -> Result<Vec<Tri>, AllocError>
-    requires known { AreRight tree.now env.now known.depends.now known.visible.now known.own.now }
-    requires inside { IsNodeOf tree.now (Val id) }
-    requires alone { is_some (choice_of tree.now id) ≡ false }
-    ensures { (u : UserValues) → IsUserFor tree.now u → IfOk result (λ v. v.items
-        ≡ filter (is_shown_with_some tree.now u (assignment_of tree.now env.now) id) (No ∷ Module ∷ Yes ∷ [])) }
+fn shown_values(alloc: Global, known: &Known<'_>, id: SymId) -> Result<Vec<Tri>, AllocError>
+    requires inside { IsNodeOf known.now.tree (Val id) }
+    requires alone { is_some (choice_of known.now.tree id) ≡ false }
+    ensures { (u : UserValues) → IsUserFor known.now.tree u → IfOk result (λ v. v.items
+        ≡ filter (is_shown_with_some known.now.tree u (given known.now) id) (No ∷ Module ∷ Yes ∷ [])) }
 {
     let mut values = Vec::with_capacity(alloc, 3)?;
-    let Some(symbol) = tree.symbols().get(id.0 as usize) else {
+    let Some(symbol) = known.symbol(id) else {
         return Ok(values);
     };
-    let lines = line_values(tree, symbol, known, env);
-    let visibility = node_tri(tree, env, Node::Vis(id));
+    let lines = line_values(known, symbol);
+    let visibility = known.tri(Node::Vis(id));
     let with_no = shown_with(lines, visibility, Tri::No);
     let with_module = shown_with(lines, visibility, Tri::Module);
     let with_yes = shown_with(lines, visibility, Tri::Yes);
@@ -146,45 +135,34 @@ pub fn assignable<R: Resolver>(
     ensures user { R.user_of resolver.new ≡ R.user_of resolver.old }
     ensures grew { R.grew resolver.old resolver.new (Vis symbol ∷ Val symbol ∷ []) }
 {
-    let visibility = resolver.node(Node::Vis(symbol))?.as_tri();
-    if visibility.is_no() {
-        return Ok(Vec::new(alloc));
-    }
-    if is_member(resolver.tree(), symbol) {
-        return one_value(alloc, Tri::Yes);
-    }
-    let env = used_values(alloc, resolver, Node::Val(symbol))?;
-    let known = KnownConditions::none();
-    let values = shown_values(alloc, resolver.tree(), symbol, known, &env)?;
-    Ok(values)
+    let values = used_values(alloc, resolver, Node::Val(symbol))?;
+    let _ = resolver.user();
+    assignable_among(alloc, &Known::of_nodes(resolver.tree(), &values), symbol)
 }
 
 /// The values that a user can give a symbol with an effect, as [`assignable`] has them, over the values of all nodes, or
-/// of those that the value of the symbol is computed from. `conditions` is what these values give many nodes, as far as it
-/// is known. That the tree has one solution, and no other, holds whatever the call returns.
+/// of those that the value of the symbol is computed from. That the tree has one solution, and no other, holds whatever
+/// the call returns.
 ///
 /// The error comes where memory is refused.
 pub fn assignable_among(
     alloc: Global,
-    tree: &Tree,
-    conditions: &SharedConditions,
-    values: &NodeValues,
+    known: &Known<'_>,
     symbol: SymId,
 ) -> Result<Vec<Tri>, AllocError>
-    requires inside { IsNodeOf tree.now (Vis symbol) }
-    requires conditions { AreSharedBy tree.now values.now conditions.now }
-    ensures values { (u : UserValues) → IsUserFor tree.now u → AreSolved tree.now u values.now
-        → IfOk result (λ v. v.items ≡ assignable_values tree.now u symbol) }
-    ensures used { (u : UserValues) → IsUserFor tree.now u
-        → ((n : Node) → Uses tree.now (Val symbol) n → assignment_of tree.now values.now n ≡ solution tree.now u n)
-        → IfOk result (λ v. v.items ≡ assignable_values tree.now u symbol) }
-    ensures solved { (u : UserValues) → IsOnlySolution tree.now u (solution tree.now u) }
+    requires inside { IsNodeOf known.now.tree (Vis symbol) }
+    ensures values { (u : UserValues) → IsUserFor known.now.tree u → AreSolved known.now.tree u known.now.values
+        → IfOk result (λ v. v.items ≡ assignable_values known.now.tree u symbol) }
+    ensures used { (u : UserValues) → IsUserFor known.now.tree u
+        → ((n : Node) → Uses known.now.tree (Val symbol) n → given known.now n ≡ solution known.now.tree u n)
+        → IfOk result (λ v. v.items ≡ assignable_values known.now.tree u symbol) }
+    ensures solved { (u : UserValues) → IsOnlySolution known.now.tree u (solution known.now.tree u) }
 {
-    if node_tri(tree, values, Node::Vis(symbol)).is_no() {
+    if known.tri(Node::Vis(symbol)).is_no() {
         return Ok(Vec::new(alloc));
     }
-    if is_member(tree, symbol) {
+    if is_member(known.tree(), symbol) {
         return one_value(alloc, Tri::Yes);
     }
-    shown_values(alloc, tree, symbol, conditions.known(), values)
+    shown_values(alloc, known, symbol)
 }

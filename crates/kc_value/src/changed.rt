@@ -3,18 +3,16 @@
 ghost use Rattle.std.specs.Prelude.{◌≡◌, ◌↔◌, true, IfOk};
 ghost use Rattle.kc_tree.specs.Accepted.{IsAccepted};
 ghost use Rattle.kc_tree.specs.Nodes.{IsNodeOf};
-ghost use Rattle.kc_value.specs.Assignment.{assignment_of};
 ghost use Rattle.kc_value.specs.ChangedValue.{same_user_value, same_value, changed_value, ChangesAreJustEnough};
-ghost use Rattle.kc_value.specs.KnownConditions.{AreSharedBy};
+ghost use Rattle.kc_value.specs.Known.{given};
 ghost use Rattle.kc_value.specs.Solution.{solution, AreSolved, IsOnlySolution};
 ghost use Rattle.kc_value.specs.UserValues.{UserValues};
-ghost use Rattle.kc_value.specs.Without.{value_without, IsOwned};
+ghost use Rattle.kc_value.specs.Without.{IsOwned};
 
-use crate::node_values::NodeValues;
-use crate::shared_conditions::SharedConditions;
+use crate::known::Known;
 use crate::value::{Value, copy_of};
-use crate::without::{selection_alone, selects_none, value_alone};
-use kc_tree::{Node, Tree, Tri, UserVal};
+use crate::without::value_without;
+use kc_tree::{Node, Tri, UserVal};
 use std::alloc::{AllocError, Global};
 
 /// Whether two user values are the same; texts are so as they are spelt.
@@ -44,44 +42,20 @@ fn is_same_value(left: &Value, right: &Value) -> bool
     }
 }
 
-/// A copy of the value of a node, by its number.
-fn value_at(tree: &Tree, values: &NodeValues, node: Node) -> Result<Value, AllocError>
-    ensures value { IfOk result (λ v. v ≡ assignment_of tree.now values.now node) }
-    ensures accepted { IsAccepted tree.now }
+/// A copy of the value of a node.
+fn value_at(known: &Known<'_>, node: Node) -> Result<Value, AllocError>
+    ensures value { IfOk result (λ v. v ≡ given known.now node) }
+    ensures accepted { IsAccepted known.now.tree }
 {
-    match values.get(tree.number(node)) {
+    match known.get(node) {
         Some(value) => copy_of(value),
         None => Ok(Value::Tri(Tri::No)),
     }
 }
 
-/// The value of a node without the user's own, over the values of all nodes.
-fn value_without(
-    alloc: Global,
-    tree: &Tree,
-    conditions: &SharedConditions,
-    values: &NodeValues,
-    node: Node,
-) -> Result<Value, AllocError>
-    requires inside { IsNodeOf tree.now node }
-    requires owned { IsOwned node }
-    requires conditions { AreSharedBy tree.now values.now conditions.now }
-    ensures { (u : UserValues) → AreSolved tree.now u values.now
-        → IfOk result (λ v. v ≡ value_without tree.now u node) }
-{
-    if selects_none(tree, node) {
-        return Ok(Value::Member(None));
-    }
-    match node {
-        Node::Val(symbol) => value_alone(alloc, tree, symbol, conditions.known(), values),
-        Node::Sel(choice) => Ok(selection_alone(tree, choice, values)),
-        Node::Vis(_) | Node::Mode(_) => unreachable!(),
-    }
-}
-
 /// The value of a symbol or the selection of a choice, where it is another than it would be without the user's own
-/// value or chosen member, all else as it is; none where that makes no difference. `values` has the value of each node,
-/// by number, and `conditions` what these give many nodes. Texts are compared as they are spelt.
+/// value or chosen member, all else as it is; none where that makes no difference. `known` has the value of each node,
+/// by number. Texts are compared as they are spelt.
 ///
 /// User values that hold just these, of all symbols and choices, give each visibility, value and selection as it is,
 /// and each mode but that of an optional choice, which is n where it selects none. None of them can be left out: user
@@ -92,21 +66,18 @@ fn value_without(
 #[tactic(auto, using(crate::proofs::ChangedLaws::just_enough), unfolding(crate::specs::ChangedValue::changed_value))]
 pub fn changed_value(
     alloc: Global,
-    tree: &Tree,
-    conditions: &SharedConditions,
-    values: &NodeValues,
+    known: &Known<'_>,
     node: Node,
 ) -> Result<Option<Value>, AllocError>
-    requires inside { IsNodeOf tree.now node }
+    requires inside { IsNodeOf known.now.tree node }
     requires owned { IsOwned node }
-    requires conditions { AreSharedBy tree.now values.now conditions.now }
-    ensures value { (u : UserValues) → AreSolved tree.now u values.now
-        → IfOk result (λ v. v ≡ changed_value tree.now u node) }
-    ensures solved { (u : UserValues) → IsOnlySolution tree.now u (solution tree.now u) }
-    ensures laws { (u : UserValues) → ChangesAreJustEnough tree.now u }
+    ensures value { (u : UserValues) → AreSolved known.now.tree u known.now.values
+        → IfOk result (λ v. v ≡ changed_value known.now.tree u node) }
+    ensures solved { (u : UserValues) → IsOnlySolution known.now.tree u (solution known.now.tree u) }
+    ensures laws { (u : UserValues) → ChangesAreJustEnough known.now.tree u }
 {
-    let value = value_at(tree, values, node)?;
-    let without = value_without(alloc, tree, conditions, values, node)?;
+    let value = value_at(known, node)?;
+    let without = value_without(alloc, known, node)?;
     if is_same_value(&value, &without) {
         return Ok(None);
     }

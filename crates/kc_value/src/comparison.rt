@@ -4,12 +4,11 @@ ghost use Rattle.std.specs.Prelude.{◌≡◌, Some, option_map};
 ghost use Rattle.std.specs.Option.{option_or};
 ghost use Rattle.kc_statement.specs.declared.tri.Tri.TheVariants.{No};
 ghost use Rattle.kc_value.specs.declared.value.Value.TheVariants.{Tri as Level};
-ghost use Rattle.kc_value.specs.Assignment.{assignment_of};
 ghost use Rattle.kc_value.specs.Numerals.{number_of_text};
+ghost use Rattle.kc_value.specs.Known.{given};
 ghost use Rattle.kc_value.specs.ExprValue.{constant_of, tri_number, number_in_type, symbol_number, term_number, is_string_term, text_order, term_order, is_related, yes_if};
 
-use crate::expr_value::value_of;
-use crate::node_values::NodeValues;
+use crate::known::Known;
 use crate::numeral::number_of_text;
 use crate::term_text::term_text;
 use crate::value::Value;
@@ -71,26 +70,26 @@ fn number_without_value(kind: SymbolType) -> Option<i128>
 }
 
 /// What the value of a symbol counts, if it counts.
-fn symbol_number(tree: &Tree, env: &NodeValues, symbol: SymId) -> Option<i128>
-    ensures { result ≡ symbol_number tree.now (assignment_of tree.now env.now) symbol }
+fn symbol_number(known: &Known<'_>, symbol: SymId) -> Option<i128>
+    ensures { result ≡ symbol_number known.now.tree (given known.now) symbol }
 {
-    let Some(found) = tree.symbols().get(symbol.0 as usize) else {
+    let Some(found) = known.symbol(symbol) else {
         return Some(tri_number(Tri::No));
     };
-    match value_of(tree, env, Node::Val(symbol)) {
+    match known.get(Node::Val(symbol)) {
         Some(value) => number_in_type(found.kind(), value),
         None => number_without_value(found.kind()),
     }
 }
 
 /// What a term counts, if it counts: a symbol by its value, and a word that names none as a text.
-fn term_number(tree: &Tree, env: &NodeValues, term: &Term) -> Option<i128>
-    ensures { result ≡ term_number tree.now (assignment_of tree.now env.now) term.now }
+fn term_number(known: &Known<'_>, term: &Term) -> Option<i128>
+    ensures { result ≡ term_number known.now.tree (given known.now) term.now }
 {
     match term {
         Term::Tri(tri) => Some(tri_number(*tri)),
         Term::Text(text) => number_of_quoted(text.as_str()),
-        Term::Symbol(symbol) => symbol_number(tree, env, *symbol),
+        Term::Symbol(symbol) => symbol_number(known, *symbol),
         Term::Undefined(name) => number_of_text(name.as_str()),
     }
 }
@@ -123,39 +122,34 @@ fn is_string(tree: &Tree, term: &Term) -> bool
 }
 
 /// How the texts of two terms are ordered, byte by byte.
-fn text_order(tree: &Tree, env: &NodeValues, left: &Term, right: &Term) -> Ordering
-    ensures { result ≡ text_order tree.now (assignment_of tree.now env.now) left.now right.now }
+fn text_order(known: &Known<'_>, left: &Term, right: &Term) -> Ordering
+    ensures { result ≡ text_order known.now.tree (given known.now) left.now right.now }
 {
-    let left = term_text(tree, env, left).as_str();
-    left.cmp(term_text(tree, env, right).as_str())
+    let left = term_text(known, left).as_str();
+    left.cmp(term_text(known, right).as_str())
 }
 
 /// How two terms are ordered: two symbols of type string as texts, else as numbers where both count, else as texts. A
 /// long text is not tried as a number where it is not to be compared as one.
-fn term_order(tree: &Tree, env: &NodeValues, operands: &Operands) -> Ordering
-    ensures { result ≡ term_order tree.now (assignment_of tree.now env.now) operands.now.left operands.now.right }
+fn term_order(known: &Known<'_>, operands: &Operands) -> Ordering
+    ensures { result ≡ term_order known.now.tree (given known.now) operands.now.left operands.now.right }
 {
     let (left, right) = (&operands.left, &operands.right);
-    if is_string(tree, left) && is_string(tree, right) {
-        return text_order(tree, env, left, right);
+    if is_string(known.tree(), left) && is_string(known.tree(), right) {
+        return text_order(known, left, right);
     }
-    match (term_number(tree, env, left), term_number(tree, env, right)) {
+    match (term_number(known, left), term_number(known, right)) {
         (Some(first), Some(second)) => first.cmp(&second),
-        (Some(_), None) | (None, _) => text_order(tree, env, left, right),
+        (Some(_), None) | (None, _) => text_order(known, left, right),
     }
 }
 
 /// The value of a comparison, y or n.
-pub(crate) fn comparison_tri(
-    tree: &Tree,
-    env: &NodeValues,
-    comparison: Comparison,
-    operands: &Operands,
-) -> Tri
+pub(crate) fn comparison_tri(known: &Known<'_>, comparison: Comparison, operands: &Operands) -> Tri
     ensures { result ≡ yes_if (is_related comparison
-        (term_order tree.now (assignment_of tree.now env.now) operands.now.left operands.now.right)) }
+        (term_order known.now.tree (given known.now) operands.now.left operands.now.right)) }
 {
-    if is_related(comparison, term_order(tree, env, operands)) {
+    if is_related(comparison, term_order(known, operands)) {
         Tri::Yes
     } else {
         Tri::No

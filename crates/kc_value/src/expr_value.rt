@@ -1,60 +1,43 @@
 //! The values of expressions.
 
-ghost use Rattle.std.specs.Prelude.{◌≡◌, map};
+ghost use Rattle.std.specs.Prelude.{◌≡◌};
 ghost use Rattle.std.specs.Option.{option_copied};
-ghost use Rattle.kc_statement.specs.Formula.{all_joined, any_joined};
-ghost use Rattle.kc_tree.specs.Accepted.{IsAccepted};
-ghost use Rattle.kc_value.specs.Assignment.{as_tri, value_at, assignment_of};
+ghost use Rattle.kc_statement.specs.Formula.{any_joined};
+ghost use Rattle.kc_value.specs.Known.{given};
 ghost use Rattle.kc_value.specs.ExprValue.{symbol_tri, modules_value, term_tri, complements, formula_value, expr_value, conditions_value, own_condition};
 
 use crate::comparison::{comparison_tri, constant_of};
-use crate::node_values::NodeValues;
-use crate::value::Value;
-use kc_tree::{Expr, ExprNode, Node, SymId, Term, Tree, Tri};
-
-/// The value that stands for a node in a list by number.
-pub(crate) fn value_of<'a>(tree: &Tree, env: &'a NodeValues, node: Node) -> Option<&'a Value>
-    ensures { option_copied result ≡ value_at tree.now env.now node }
-{
-    env.get(tree.number(node))
-}
-
-/// The tristate value of a node in a list by number, n where it has nothing.
-pub(crate) fn node_tri(tree: &Tree, env: &NodeValues, node: Node) -> Tri
-    ensures value { result ≡ as_tri (assignment_of tree.now env.now node) }
-    ensures accepted { IsAccepted tree.now }
-{
-    env.tri(tree.number(node))
-}
+use crate::known::Known;
+use kc_tree::{Expr, ExprNode, Node, SymId, Term, Tri};
 
 /// The value of a symbol, whatever its visibility.
-pub(crate) fn symbol_tri(tree: &Tree, env: &NodeValues, symbol: SymId) -> Tri
-    ensures { result ≡ symbol_tri tree.now (assignment_of tree.now env.now) symbol }
+pub(crate) fn symbol_tri(known: &Known<'_>, symbol: SymId) -> Tri
+    ensures { result ≡ symbol_tri known.now.tree (given known.now) symbol }
 {
-    match tree.symbols().get(symbol.0 as usize) {
-        Some(_) => node_tri(tree, env, Node::Val(symbol)),
+    match known.symbol(symbol) {
+        Some(_) => known.tri(Node::Val(symbol)),
         None => Tri::No,
     }
 }
 
 /// The value of `MODULES`, n where it is not defined.
-pub(crate) fn modules_tri(tree: &Tree, env: &NodeValues) -> Tri
-    ensures { result ≡ modules_value tree.now (assignment_of tree.now env.now) }
+pub(crate) fn modules_tri(known: &Known<'_>) -> Tri
+    ensures { result ≡ modules_value known.now.tree (given known.now) }
 {
-    match tree.modules() {
-        Some(symbol) => symbol_tri(tree, env, symbol),
+    match known.tree().modules() {
+        Some(symbol) => symbol_tri(known, symbol),
         None => Tri::No,
     }
 }
 
 /// The value of a term that stands alone.
-fn term_tri(tree: &Tree, env: &NodeValues, term: &Term) -> Tri
-    ensures { result ≡ term_tri tree.now (assignment_of tree.now env.now) term.now }
+fn term_tri(known: &Known<'_>, term: &Term) -> Tri
+    ensures { result ≡ term_tri known.now.tree (given known.now) term.now }
 {
     match term {
         Term::Tri(tri) => *tri,
         Term::Text(text) => constant_of(text.as_str()).unwrap_or(Tri::No),
-        Term::Symbol(symbol) => symbol_tri(tree, env, *symbol),
+        Term::Symbol(symbol) => symbol_tri(known, *symbol),
         Term::Undefined(_) => Tri::No,
     }
 }
@@ -71,74 +54,61 @@ fn negated(value: Tri, count: usize) -> Tri
 }
 
 /// The value of an expression (kconfig-language.rst, "Menu dependencies"): `&&` is the least, `||` the greatest, `!` the
-/// complement. A bool or tristate symbol stands for its value in `env`, where nodes stand by number (a symbol whose
-/// place is empty or missing counts as n), n, m and y for themselves, and other texts for n. A comparison is y or n.
+/// complement. A bool or tristate symbol counts as its value (n where it has none), n, m and y as themselves, and other
+/// texts as n. A comparison is y or n.
 /// An m that stood alone where a condition was read means `m && MODULES`.
 #[cycle(expr_value)]
-pub fn tri(tree: &Tree, expr: &Expr, env: &NodeValues) -> Tri
-    ensures { result ≡ expr_value tree.now (assignment_of tree.now env.now) expr.now }
+pub fn tri(known: &Known<'_>, expr: &Expr) -> Tri
+    ensures { result ≡ expr_value known.now.tree (given known.now) expr.now }
 {
     match expr.node() {
-        ExprNode::Term(term) => term_tri(tree, env, term),
-        ExprNode::BareModule(_) => Tri::Module.and(modules_tri(tree, env)),
-        ExprNode::Compare(comparison, operands) => comparison_tri(tree, env, *comparison, operands),
-        ExprNode::Not(count, inner) => negated(tri(tree, inner, env), *count),
-        ExprNode::Group(inner) => tri(tree, inner, env),
-        ExprNode::All(parts) => all_tri(tree, parts.as_slice(), env),
-        ExprNode::Any(parts) => any_tri(tree, parts.as_slice(), env),
+        ExprNode::Term(term) => term_tri(known, term),
+        ExprNode::BareModule(_) => Tri::Module.and(modules_tri(known)),
+        ExprNode::Compare(comparison, operands) => comparison_tri(known, *comparison, operands),
+        ExprNode::Not(count, inner) => negated(tri(known, inner), *count),
+        ExprNode::Group(inner) => tri(known, inner),
+        ExprNode::All(parts) => conditions_tri(known, parts.as_slice()),
+        ExprNode::Any(parts) => any_tri(known, parts.as_slice()),
     }
 }
 
-/// The value of expressions that `&&` joins. After one that is n the others make no difference.
+/// The value of conditions, or of the parts of an expression, that `&&` joins. After one that is n the others make no
+/// difference.
 #[cycle(expr_value)]
-fn all_tri(tree: &Tree, parts: &[Expr], env: &NodeValues) -> Tri
-    ensures { result ≡ formula_value tree.now (assignment_of tree.now env.now) (all_joined parts.now) }
+pub(crate) fn conditions_tri(known: &Known<'_>, parts: &[Expr]) -> Tri
+    ensures { result ≡ conditions_value known.now.tree (given known.now) parts.now }
 {
     let mut least = Tri::Yes;
     for part in parts {
         if least.is_no() {
             return Tri::No;
         }
-        least = least.and(tri(tree, part, env));
+        least = least.and(tri(known, part));
     }
     least
 }
 
 /// The value of expressions that `||` joins. After one that is y the others make no difference.
 #[cycle(expr_value)]
-fn any_tri(tree: &Tree, parts: &[Expr], env: &NodeValues) -> Tri
-    ensures { result ≡ formula_value tree.now (assignment_of tree.now env.now) (any_joined parts.now) }
+fn any_tri(known: &Known<'_>, parts: &[Expr]) -> Tri
+    ensures { result ≡ formula_value known.now.tree (given known.now) (any_joined parts.now) }
 {
     let mut greatest = Tri::No;
     for part in parts {
         if matches!(greatest, Tri::Yes) {
             return Tri::Yes;
         }
-        greatest = greatest.or(tri(tree, part, env));
+        greatest = greatest.or(tri(known, part));
     }
     greatest
 }
 
-/// The value of conditions that `&&` joins. After one that is n the others make no difference.
-pub(crate) fn conditions_tri(tree: &Tree, exprs: &[Expr], env: &NodeValues) -> Tri
-    ensures { result ≡ conditions_value tree.now (assignment_of tree.now env.now) exprs.now }
-{
-    let mut least = Tri::Yes;
-    for expr in exprs {
-        if least.is_no() {
-            return Tri::No;
-        }
-        least = least.and(tri(tree, expr, env));
-    }
-    least
-}
-
 /// The value of the condition after `if`, y where there is none.
-pub(crate) fn own_condition_tri(tree: &Tree, condition: Option<&Expr>, env: &NodeValues) -> Tri
-    ensures { result ≡ own_condition tree.now (assignment_of tree.now env.now) (option_copied condition.entry) }
+pub(crate) fn own_condition_tri(known: &Known<'_>, condition: Option<&Expr>) -> Tri
+    ensures { result ≡ own_condition known.now.tree (given known.now) (option_copied condition.entry) }
 {
     match condition {
-        Some(expr) => tri(tree, expr, env),
+        Some(expr) => tri(known, expr),
         None => Tri::Yes,
     }
 }

@@ -1,20 +1,18 @@
 //! The factors of conditions, one by one, each with where it is and its value (kconfig-language.rst, "Menu dependencies").
 
-ghost use Rattle.std.specs.Prelude.{◌≡◌, IfOk, OnOk, List, Option, Some, ◌++◌, map, slice_get, All};
+ghost use Rattle.std.specs.Prelude.{◌≡◌, IfOk, OnOk, Option, Some, ◌++◌, map, slice_get};
 ghost use Rattle.std.specs.Option.{option_copied};
 ghost use Rattle.kc_statement.specs.declared.expr.Expr.{Expr};
 ghost use Rattle.kc_statement.specs.Tristate.{least_of};
 ghost use Rattle.kc_outline.specs.TreeValue.{blocks_around, choice_of};
 ghost use Rattle.kc_tree.specs.ConditionTable.{also, own_if, own_lines, depends_around, visible_around, mode_of, dependencies_in, dependencies, of_prompt, of_property, of_reverse, of_menu, of_comment, of_choice_prompt};
-ghost use Rattle.kc_value.specs.Assignment.{assignment_of};
 ghost use Rattle.kc_value.specs.Conditions.{condition_value};
-ghost use Rattle.kc_value.specs.ExprValue.{expr_value};
+ghost use Rattle.kc_value.specs.Known.{given};
 ghost use Rattle.kc_value.specs.Factors.{judged, judged_factors, judged_of, judged_expression, worth_of, origin_in, prompt_condition, default_condition_at, range_condition_at, menu_condition_at, comment_condition_at, choice_condition_at};
 
 use crate::conditions::{block_at, mode_tri};
 use crate::expr_value::tri;
-use crate::known_conditions::definition_at;
-use crate::node_values::NodeValues;
+use crate::known::Known;
 use crate::places::{DefaultPlace, RangePlace};
 use kc_outline::MOST_OPEN_BLOCKS;
 use kc_tree::{
@@ -84,65 +82,62 @@ impl Lines {
 }
 
 /// A line as a factor.
-fn line_factor<'t>(tree: &Tree, values: &NodeValues, line: &'t Expr, origin: Origin) -> Factor<'t>
-    ensures judged { judged result ≡ judged_expression tree.now (assignment_of tree.now values.now) line.now }
+fn line_factor<'t>(known: &Known<'_>, line: &'t Expr, origin: Origin) -> Factor<'t>
+    ensures judged { judged result ≡ judged_expression known.now.tree (given known.now) line.now }
     ensures origin { result.origin ≡ origin }
 {
     Factor {
         part: FactorPart::Expression(line),
         origin,
-        value: tri(tree, line, values),
+        value: tri(known, line),
     }
 }
 
 /// Adds lines that `&&` joins, in their order. The error comes where memory is refused.
 fn add_lines<'t>(
-    tree: &Tree,
-    values: &NodeValues,
+    known: &Known<'_>,
     factors: &mut Vec<Factor<'t>>,
     lines: &'t [Expr],
     from: Lines,
 ) -> Result<(), AllocError>
     ensures { OnOk result (map judged factors.new.items ≡ map judged factors.old.items
-        ++ judged_factors tree.now (assignment_of tree.now values.now) (own_lines lines.now)) }
+        ++ judged_factors known.now.tree (given known.now) (own_lines lines.now)) }
 {
     for (place, line) in lines.iter().enumerate() {
-        factors.push(line_factor(tree, values, line, from.origin(place)))?;
+        factors.push(line_factor(known, line, from.origin(place)))?;
     }
     Ok(())
 }
 
 /// Adds the condition after an `if`, where there is one. The error comes where memory is refused.
 fn add_condition<'t>(
-    tree: &Tree,
-    values: &NodeValues,
+    known: &Known<'_>,
     factors: &mut Vec<Factor<'t>>,
     condition: Option<&'t Expr>,
 ) -> Result<(), AllocError>
     ensures { OnOk result (map judged factors.new.items ≡ map judged factors.old.items
-        ++ judged_factors tree.now (assignment_of tree.now values.now) (own_if (option_copied condition.entry))) }
+        ++ judged_factors known.now.tree (given known.now) (own_if (option_copied condition.entry))) }
 {
     if let Some(line) = condition {
-        factors.push(line_factor(tree, values, line, Origin::Condition))?;
+        factors.push(line_factor(known, line, Origin::Condition))?;
     }
     Ok(())
 }
 
 /// Adds the mode of the choice that something is in, where it is in one. The error comes where memory is refused.
 fn add_mode(
-    tree: &Tree,
-    values: &NodeValues,
+    known: &Known<'_>,
     factors: &mut Vec<Factor<'_>>,
     choice: Option<ChoiceId>,
 ) -> Result<(), AllocError>
     ensures { OnOk result (map judged factors.new.items ≡ map judged factors.old.items
-        ++ judged_factors tree.now (assignment_of tree.now values.now) (mode_of choice)) }
+        ++ judged_factors known.now.tree (given known.now) (mode_of choice)) }
 {
     if let Some(id) = choice {
         factors.push(Factor {
             part: FactorPart::Mode(id),
             origin: Origin::Mode,
-            value: mode_tri(tree, choice, values),
+            value: mode_tri(known, choice),
         })?;
     }
     Ok(())
@@ -151,23 +146,22 @@ fn add_mode(
 /// Adds what all inside the blocks around a place depends on, from the innermost outwards. The error comes where memory
 /// is refused.
 fn add_depends_around<'t>(
-    tree: &'t Tree,
-    values: &NodeValues,
+    known: &Known<'t>,
     factors: &mut Vec<Factor<'t>>,
     innermost: Option<BlockId>,
 ) -> Result<(), AllocError>
     ensures { OnOk result (map judged factors.new.items ≡ map judged factors.old.items
-        ++ judged_factors tree.now (assignment_of tree.now values.now) (depends_around (blocks_around tree.now innermost))) }
+        ++ judged_factors known.now.tree (given known.now) (depends_around (blocks_around known.now.tree innermost))) }
 {
     let mut next = innermost;
     for _ in 0..MOST_OPEN_BLOCKS {
         let Some(id) = next else {
             return Ok(());
         };
-        let Some(block) = block_at(tree, next) else {
+        let Some(block) = block_at(known, next) else {
             return Ok(());
         };
-        add_lines(tree, values, factors, block.depends(), Lines::Depends(id))?;
+        add_lines(known, factors, block.depends(), Lines::Depends(id))?;
         next = block.parent();
     }
     Ok(())
@@ -176,23 +170,22 @@ fn add_depends_around<'t>(
 /// Adds the `visible if` lines of the blocks around a place, from the innermost outwards. The error comes where memory is
 /// refused.
 fn add_visible_around<'t>(
-    tree: &'t Tree,
-    values: &NodeValues,
+    known: &Known<'t>,
     factors: &mut Vec<Factor<'t>>,
     innermost: Option<BlockId>,
 ) -> Result<(), AllocError>
     ensures { OnOk result (map judged factors.new.items ≡ map judged factors.old.items
-        ++ judged_factors tree.now (assignment_of tree.now values.now) (visible_around (blocks_around tree.now innermost))) }
+        ++ judged_factors known.now.tree (given known.now) (visible_around (blocks_around known.now.tree innermost))) }
 {
     let mut next = innermost;
     for _ in 0..MOST_OPEN_BLOCKS {
         let Some(id) = next else {
             return Ok(());
         };
-        let Some(block) = block_at(tree, next) else {
+        let Some(block) = block_at(known, next) else {
             return Ok(());
         };
-        add_lines(tree, values, factors, block.visible(), Lines::Visible(id))?;
+        add_lines(known, factors, block.visible(), Lines::Visible(id))?;
         next = block.parent();
     }
     Ok(())
@@ -201,31 +194,29 @@ fn add_visible_around<'t>(
 /// Adds the dependencies of a definition: its own `depends on` lines, and those of the blocks around it. The error comes
 /// where memory is refused.
 fn add_dependencies<'t>(
-    tree: &'t Tree,
-    values: &NodeValues,
+    known: &Known<'t>,
     factors: &mut Vec<Factor<'t>>,
     definition: &'t Definition,
 ) -> Result<(), AllocError>
     ensures { OnOk result (map judged factors.new.items ≡ map judged factors.old.items
-        ++ judged_factors tree.now (assignment_of tree.now values.now) (dependencies tree.now definition.now)) }
+        ++ judged_factors known.now.tree (given known.now) (dependencies known.now.tree definition.now)) }
 {
-    add_lines(tree, values, factors, definition.depends(), Lines::Own)?;
-    add_depends_around(tree, values, factors, definition.block())
+    add_lines(known, factors, definition.depends(), Lines::Own)?;
+    add_depends_around(known, factors, definition.block())
 }
 
 /// Adds the dependencies of the definition of a number; without one, that there is none. The error comes where memory is
 /// refused.
 fn add_numbered<'t>(
-    tree: &'t Tree,
-    values: &NodeValues,
+    known: &Known<'t>,
     factors: &mut Vec<Factor<'t>>,
     number: usize,
 ) -> Result<(), AllocError>
     ensures { OnOk result (map judged factors.new.items ≡ map judged factors.old.items
-        ++ judged_factors tree.now (assignment_of tree.now values.now) (dependencies_in (slice_get tree.now.definitions number))) }
+        ++ judged_factors known.now.tree (given known.now) (dependencies_in (slice_get known.now.tree.definitions number))) }
 {
-    match definition_at(tree, number) {
-        Some(definition) => add_dependencies(tree, values, factors, definition),
+    match known.definition(number) {
+        Some(definition) => add_dependencies(known, factors, definition),
         None => {
             factors.push(Factor {
                 part: FactorPart::Missing,
@@ -240,33 +231,31 @@ fn add_numbered<'t>(
 /// Adds the condition of a default or a range of a definition: its `if`, and the dependencies. The error comes where
 /// memory is refused.
 fn add_property<'t>(
-    tree: &'t Tree,
-    values: &NodeValues,
+    known: &Known<'t>,
     factors: &mut Vec<Factor<'t>>,
     definition: &'t Definition,
     condition: Option<&'t Expr>,
 ) -> Result<(), AllocError>
     ensures { OnOk result (map judged factors.new.items ≡ map judged factors.old.items
-        ++ judged_factors tree.now (assignment_of tree.now values.now) (of_property tree.now definition.now (option_copied condition.entry))) }
+        ++ judged_factors known.now.tree (given known.now) (of_property known.now.tree definition.now (option_copied condition.entry))) }
 {
-    add_condition(tree, values, factors, condition)?;
-    add_dependencies(tree, values, factors, definition)
+    add_condition(known, factors, condition)?;
+    add_dependencies(known, factors, definition)
 }
 
 /// Adds the condition of the prompt of a definition. The error comes where memory is refused.
 fn add_prompt<'t>(
-    tree: &'t Tree,
-    values: &NodeValues,
+    known: &Known<'t>,
     factors: &mut Vec<Factor<'t>>,
     definition: &'t Definition,
     prompt: &'t Prompt,
 ) -> Result<(), AllocError>
     ensures { OnOk result (map judged factors.new.items ≡ map judged factors.old.items
-        ++ judged_factors tree.now (assignment_of tree.now values.now) (of_prompt tree.now definition.now prompt.now)) }
+        ++ judged_factors known.now.tree (given known.now) (of_prompt known.now.tree definition.now prompt.now)) }
 {
-    add_condition(tree, values, factors, prompt.condition.as_ref())?;
-    add_dependencies(tree, values, factors, definition)?;
-    add_visible_around(tree, values, factors, definition.block())
+    add_condition(known, factors, prompt.condition.as_ref())?;
+    add_dependencies(known, factors, definition)?;
+    add_visible_around(known, factors, definition.block())
 }
 
 /// The choice that a symbol is a member of.
@@ -280,78 +269,73 @@ fn choice_of(tree: &Tree, symbol: SymId) -> Option<ChoiceId>
 /// Adds the condition of the prompt of a definition, and of a member of a choice the mode of the choice. The error comes
 /// where memory is refused.
 fn add_whole_prompt<'t>(
-    tree: &'t Tree,
-    values: &NodeValues,
+    known: &Known<'t>,
     factors: &mut Vec<Factor<'t>>,
     definition: &'t Definition,
     prompt: &'t Prompt,
 ) -> Result<(), AllocError>
     ensures { OnOk result (map judged factors.new.items ≡ map judged factors.old.items
-        ++ judged_factors tree.now (assignment_of tree.now values.now) (also (of_prompt tree.now definition.now prompt.now) (mode_of (choice_of tree.now definition.now.symbol)))) }
+        ++ judged_factors known.now.tree (given known.now) (also (of_prompt known.now.tree definition.now prompt.now) (mode_of (choice_of known.now.tree definition.now.symbol)))) }
 {
-    add_prompt(tree, values, factors, definition, prompt)?;
-    add_mode(tree, values, factors, choice_of(tree, definition.symbol()))
+    add_prompt(known, factors, definition, prompt)?;
+    add_mode(known, factors, choice_of(known.tree(), definition.symbol()))
 }
 
 /// Adds the condition of a menu, which has this number. The error comes where memory is refused.
 fn add_menu<'t>(
-    tree: &'t Tree,
-    values: &NodeValues,
+    known: &Known<'t>,
     factors: &mut Vec<Factor<'t>>,
     menu: BlockId,
     block: &'t Block,
 ) -> Result<(), AllocError>
     ensures { OnOk result (map judged factors.new.items ≡ map judged factors.old.items
-        ++ judged_factors tree.now (assignment_of tree.now values.now) (of_menu tree.now block.now)) }
+        ++ judged_factors known.now.tree (given known.now) (of_menu known.now.tree block.now)) }
 {
-    add_lines(tree, values, factors, block.depends(), Lines::Own)?;
-    add_depends_around(tree, values, factors, block.parent())?;
-    add_lines(tree, values, factors, block.visible(), Lines::Visible(menu))
+    add_lines(known, factors, block.depends(), Lines::Own)?;
+    add_depends_around(known, factors, block.parent())?;
+    add_lines(known, factors, block.visible(), Lines::Visible(menu))
 }
 
 /// Adds the condition of a comment. The error comes where memory is refused.
 fn add_comment<'t>(
-    tree: &'t Tree,
-    values: &NodeValues,
+    known: &Known<'t>,
     factors: &mut Vec<Factor<'t>>,
     comment: &'t Comment,
 ) -> Result<(), AllocError>
     ensures { OnOk result (map judged factors.new.items ≡ map judged factors.old.items
-        ++ judged_factors tree.now (assignment_of tree.now values.now) (of_comment tree.now comment.now)) }
+        ++ judged_factors known.now.tree (given known.now) (of_comment known.now.tree comment.now)) }
 {
-    add_lines(tree, values, factors, comment.depends(), Lines::Own)?;
-    add_depends_around(tree, values, factors, comment.block())?;
-    add_mode(tree, values, factors, comment.choice())
+    add_lines(known, factors, comment.depends(), Lines::Own)?;
+    add_depends_around(known, factors, comment.block())?;
+    add_mode(known, factors, comment.choice())
 }
 
 /// Adds the condition of the prompt of a choice. The error comes where memory is refused.
 fn add_choice_prompt<'t>(
-    tree: &'t Tree,
-    values: &NodeValues,
+    known: &Known<'t>,
     factors: &mut Vec<Factor<'t>>,
     choice: &'t Choice,
     prompt: &'t Prompt,
 ) -> Result<(), AllocError>
     ensures { OnOk result (map judged factors.new.items ≡ map judged factors.old.items
-        ++ judged_factors tree.now (assignment_of tree.now values.now) (of_choice_prompt tree.now choice.now prompt.now)) }
+        ++ judged_factors known.now.tree (given known.now) (of_choice_prompt known.now.tree choice.now prompt.now)) }
 {
-    add_condition(tree, values, factors, prompt.condition.as_ref())?;
-    add_depends_around(tree, values, factors, Some(choice.block()))?;
-    add_visible_around(tree, values, factors, Some(choice.block()))
+    add_condition(known, factors, prompt.condition.as_ref())?;
+    add_depends_around(known, factors, Some(choice.block()))?;
+    add_visible_around(known, factors, Some(choice.block()))
 }
 
 /// Adds the condition of a `select` or `imply` line. The error comes where memory is refused.
 fn add_reverse<'t>(
-    tree: &'t Tree,
-    values: &NodeValues,
+    known: &Known<'t>,
     factors: &mut Vec<Factor<'t>>,
     reverse: &'t Reverse,
 ) -> Result<(), AllocError>
     ensures { OnOk result (map judged factors.new.items ≡ map judged factors.old.items
-        ++ judged_factors tree.now (assignment_of tree.now values.now) (of_reverse tree.now reverse.now)) }
+        ++ judged_factors known.now.tree (given known.now) (of_reverse known.now.tree reverse.now)) }
 {
-    add_condition(tree, values, factors, reverse.condition.as_ref())?;
-    add_numbered(tree, values, factors, reverse.definition)
+    add_condition(known, factors, reverse.condition.as_ref())?;
+    add_numbered(known, factors, reverse.definition)
 }
 
 /// Each factor of the dependencies of the definition of a number, in the order of docs/VALUES.md, "Conditions", with its
@@ -362,38 +346,36 @@ fn add_reverse<'t>(
 /// The error comes where memory is refused.
 pub fn dependency_factors<'t>(
     alloc: Global,
-    tree: &'t Tree,
-    values: &NodeValues,
+    known: &Known<'t>,
     definition: usize,
 ) -> Result<Vec<Factor<'t>>, AllocError>
     ensures factors { IfOk result (λ v. map judged v.items
-        ≡ judged_factors tree.now (assignment_of tree.now values.now) (dependencies_in (slice_get tree.now.definitions definition))) }
+        ≡ judged_factors known.now.tree (given known.now) (dependencies_in (slice_get known.now.tree.definitions definition))) }
     ensures value { IfOk result (λ v. least_of (map (λ f. f.value) v.items)
-        ≡ condition_value tree.now (assignment_of tree.now values.now) (dependencies_in (slice_get tree.now.definitions definition))) }
+        ≡ condition_value known.now.tree (given known.now) (dependencies_in (slice_get known.now.tree.definitions definition))) }
 {
     let mut factors = Vec::new(alloc);
-    add_numbered(tree, values, &mut factors, definition)?;
+    add_numbered(known, &mut factors, definition)?;
     Ok(factors)
 }
 
 /// The factors of the condition of a prompt of a definition by number.
 fn prompt_list<'t>(
     alloc: Global,
-    tree: &'t Tree,
-    values: &NodeValues,
+    known: &Known<'t>,
     number: usize,
 ) -> Result<Vec<Factor<'t>>, AllocError>
     ensures { IfOk result (λ v. map judged v.items
-        ≡ judged_of tree.now (assignment_of tree.now values.now) (prompt_condition tree.now number)) }
+        ≡ judged_of known.now.tree (given known.now) (prompt_condition known.now.tree number)) }
 {
     let mut factors = Vec::new(alloc);
-    let Some(definition) = tree.definitions().get(number) else {
+    let Some(definition) = known.definition(number) else {
         return Ok(factors);
     };
     let Some(prompt) = definition.prompt() else {
         return Ok(factors);
     };
-    add_whole_prompt(tree, values, &mut factors, definition, prompt)?;
+    add_whole_prompt(known, &mut factors, definition, prompt)?;
     Ok(factors)
 }
 
@@ -405,42 +387,34 @@ fn prompt_list<'t>(
 /// The error comes where memory is refused.
 pub fn prompt_factors<'t>(
     alloc: Global,
-    tree: &'t Tree,
-    values: &NodeValues,
+    known: &Known<'t>,
     number: usize,
 ) -> Result<Vec<Factor<'t>>, AllocError>
     ensures factors { IfOk result (λ v. map judged v.items
-        ≡ judged_of tree.now (assignment_of tree.now values.now) (prompt_condition tree.now number)) }
+        ≡ judged_of known.now.tree (given known.now) (prompt_condition known.now.tree number)) }
     ensures value { IfOk result (λ v. least_of (map (λ f. f.value) v.items)
-        ≡ worth_of tree.now (assignment_of tree.now values.now) (prompt_condition tree.now number)) }
+        ≡ worth_of known.now.tree (given known.now) (prompt_condition known.now.tree number)) }
 {
-    prompt_list(alloc, tree, values, number)
+    prompt_list(alloc, known, number)
 }
 
 /// The factors of the condition of a default.
 fn default_list<'t>(
     alloc: Global,
-    tree: &'t Tree,
-    values: &NodeValues,
+    known: &Known<'t>,
     place: DefaultPlace,
 ) -> Result<Vec<Factor<'t>>, AllocError>
     ensures { IfOk result (λ v. map judged v.items
-        ≡ judged_of tree.now (assignment_of tree.now values.now) (default_condition_at tree.now place)) }
+        ≡ judged_of known.now.tree (given known.now) (default_condition_at known.now.tree place)) }
 {
     let mut factors = Vec::new(alloc);
-    let Some(definition) = tree.definitions().get(place.definition) else {
+    let Some(definition) = known.definition(place.definition) else {
         return Ok(factors);
     };
     let Some(default) = definition.defaults().get(place.default) else {
         return Ok(factors);
     };
-    add_property(
-        tree,
-        values,
-        &mut factors,
-        definition,
-        default.condition.as_ref(),
-    )?;
+    add_property(known, &mut factors, definition, default.condition.as_ref())?;
     Ok(factors)
 }
 
@@ -451,42 +425,34 @@ fn default_list<'t>(
 /// The error comes where memory is refused.
 pub fn default_factors<'t>(
     alloc: Global,
-    tree: &'t Tree,
-    values: &NodeValues,
+    known: &Known<'t>,
     place: DefaultPlace,
 ) -> Result<Vec<Factor<'t>>, AllocError>
     ensures factors { IfOk result (λ v. map judged v.items
-        ≡ judged_of tree.now (assignment_of tree.now values.now) (default_condition_at tree.now place)) }
+        ≡ judged_of known.now.tree (given known.now) (default_condition_at known.now.tree place)) }
     ensures value { IfOk result (λ v. least_of (map (λ f. f.value) v.items)
-        ≡ worth_of tree.now (assignment_of tree.now values.now) (default_condition_at tree.now place)) }
+        ≡ worth_of known.now.tree (given known.now) (default_condition_at known.now.tree place)) }
 {
-    default_list(alloc, tree, values, place)
+    default_list(alloc, known, place)
 }
 
 /// The factors of the condition of a range.
 fn range_list<'t>(
     alloc: Global,
-    tree: &'t Tree,
-    values: &NodeValues,
+    known: &Known<'t>,
     place: RangePlace,
 ) -> Result<Vec<Factor<'t>>, AllocError>
     ensures { IfOk result (λ v. map judged v.items
-        ≡ judged_of tree.now (assignment_of tree.now values.now) (range_condition_at tree.now place)) }
+        ≡ judged_of known.now.tree (given known.now) (range_condition_at known.now.tree place)) }
 {
     let mut factors = Vec::new(alloc);
-    let Some(definition) = tree.definitions().get(place.definition) else {
+    let Some(definition) = known.definition(place.definition) else {
         return Ok(factors);
     };
     let Some(range) = definition.ranges().get(place.range) else {
         return Ok(factors);
     };
-    add_property(
-        tree,
-        values,
-        &mut factors,
-        definition,
-        range.condition.as_ref(),
-    )?;
+    add_property(known, &mut factors, definition, range.condition.as_ref())?;
     Ok(factors)
 }
 
@@ -497,16 +463,15 @@ fn range_list<'t>(
 /// The error comes where memory is refused.
 pub fn range_factors<'t>(
     alloc: Global,
-    tree: &'t Tree,
-    values: &NodeValues,
+    known: &Known<'t>,
     place: RangePlace,
 ) -> Result<Vec<Factor<'t>>, AllocError>
     ensures factors { IfOk result (λ v. map judged v.items
-        ≡ judged_of tree.now (assignment_of tree.now values.now) (range_condition_at tree.now place)) }
+        ≡ judged_of known.now.tree (given known.now) (range_condition_at known.now.tree place)) }
     ensures value { IfOk result (λ v. least_of (map (λ f. f.value) v.items)
-        ≡ worth_of tree.now (assignment_of tree.now values.now) (range_condition_at tree.now place)) }
+        ≡ worth_of known.now.tree (given known.now) (range_condition_at known.now.tree place)) }
 {
-    range_list(alloc, tree, values, place)
+    range_list(alloc, known, place)
 }
 
 /// Each factor of the condition of a `select` or `imply` line: its own `if`, and the dependencies of the definition that
@@ -517,35 +482,33 @@ pub fn range_factors<'t>(
 /// The error comes where memory is refused.
 pub fn reverse_factors<'t>(
     alloc: Global,
-    tree: &'t Tree,
-    values: &NodeValues,
+    known: &Known<'t>,
     reverse: &'t Reverse,
 ) -> Result<Vec<Factor<'t>>, AllocError>
     ensures factors { IfOk result (λ v. map judged v.items
-        ≡ judged_factors tree.now (assignment_of tree.now values.now) (of_reverse tree.now reverse.now)) }
+        ≡ judged_factors known.now.tree (given known.now) (of_reverse known.now.tree reverse.now)) }
     ensures value { IfOk result (λ v. least_of (map (λ f. f.value) v.items)
-        ≡ condition_value tree.now (assignment_of tree.now values.now) (of_reverse tree.now reverse.now)) }
+        ≡ condition_value known.now.tree (given known.now) (of_reverse known.now.tree reverse.now)) }
 {
     let mut factors = Vec::new(alloc);
-    add_reverse(tree, values, &mut factors, reverse)?;
+    add_reverse(known, &mut factors, reverse)?;
     Ok(factors)
 }
 
 /// The factors of the condition of a menu.
 fn menu_list<'t>(
     alloc: Global,
-    tree: &'t Tree,
-    values: &NodeValues,
+    known: &Known<'t>,
     menu: BlockId,
 ) -> Result<Vec<Factor<'t>>, AllocError>
     ensures { IfOk result (λ v. map judged v.items
-        ≡ judged_of tree.now (assignment_of tree.now values.now) (menu_condition_at tree.now menu)) }
+        ≡ judged_of known.now.tree (given known.now) (menu_condition_at known.now.tree menu)) }
 {
     let mut factors = Vec::new(alloc);
-    let Some(block) = tree.blocks().get(menu.0) else {
+    let Some(block) = known.block(menu) else {
         return Ok(factors);
     };
-    add_menu(tree, values, &mut factors, menu, block)?;
+    add_menu(known, &mut factors, menu, block)?;
     Ok(factors)
 }
 
@@ -556,33 +519,31 @@ fn menu_list<'t>(
 /// The error comes where memory is refused.
 pub fn menu_factors<'t>(
     alloc: Global,
-    tree: &'t Tree,
-    values: &NodeValues,
+    known: &Known<'t>,
     menu: BlockId,
 ) -> Result<Vec<Factor<'t>>, AllocError>
     ensures factors { IfOk result (λ v. map judged v.items
-        ≡ judged_of tree.now (assignment_of tree.now values.now) (menu_condition_at tree.now menu)) }
+        ≡ judged_of known.now.tree (given known.now) (menu_condition_at known.now.tree menu)) }
     ensures value { IfOk result (λ v. least_of (map (λ f. f.value) v.items)
-        ≡ worth_of tree.now (assignment_of tree.now values.now) (menu_condition_at tree.now menu)) }
+        ≡ worth_of known.now.tree (given known.now) (menu_condition_at known.now.tree menu)) }
 {
-    menu_list(alloc, tree, values, menu)
+    menu_list(alloc, known, menu)
 }
 
 /// The factors of the condition of a comment.
 fn comment_list<'t>(
     alloc: Global,
-    tree: &'t Tree,
-    values: &NodeValues,
+    known: &Known<'t>,
     comment: CommentId,
 ) -> Result<Vec<Factor<'t>>, AllocError>
     ensures { IfOk result (λ v. map judged v.items
-        ≡ judged_of tree.now (assignment_of tree.now values.now) (comment_condition_at tree.now comment)) }
+        ≡ judged_of known.now.tree (given known.now) (comment_condition_at known.now.tree comment)) }
 {
     let mut factors = Vec::new(alloc);
-    let Some(comment) = tree.comments().get(comment.0) else {
+    let Some(comment) = known.comment(comment) else {
         return Ok(factors);
     };
-    add_comment(tree, values, &mut factors, comment)?;
+    add_comment(known, &mut factors, comment)?;
     Ok(factors)
 }
 
@@ -593,36 +554,34 @@ fn comment_list<'t>(
 /// The error comes where memory is refused.
 pub fn comment_factors<'t>(
     alloc: Global,
-    tree: &'t Tree,
-    values: &NodeValues,
+    known: &Known<'t>,
     comment: CommentId,
 ) -> Result<Vec<Factor<'t>>, AllocError>
     ensures factors { IfOk result (λ v. map judged v.items
-        ≡ judged_of tree.now (assignment_of tree.now values.now) (comment_condition_at tree.now comment)) }
+        ≡ judged_of known.now.tree (given known.now) (comment_condition_at known.now.tree comment)) }
     ensures value { IfOk result (λ v. least_of (map (λ f. f.value) v.items)
-        ≡ worth_of tree.now (assignment_of tree.now values.now) (comment_condition_at tree.now comment)) }
+        ≡ worth_of known.now.tree (given known.now) (comment_condition_at known.now.tree comment)) }
 {
-    comment_list(alloc, tree, values, comment)
+    comment_list(alloc, known, comment)
 }
 
 /// The factors of the condition of a prompt of a choice.
 fn choice_list<'t>(
     alloc: Global,
-    tree: &'t Tree,
-    values: &NodeValues,
+    known: &Known<'t>,
     choice: ChoiceId,
 ) -> Result<Vec<Factor<'t>>, AllocError>
     ensures { IfOk result (λ v. map judged v.items
-        ≡ judged_of tree.now (assignment_of tree.now values.now) (choice_condition_at tree.now choice)) }
+        ≡ judged_of known.now.tree (given known.now) (choice_condition_at known.now.tree choice)) }
 {
     let mut factors = Vec::new(alloc);
-    let Some(choice) = tree.choices().get(choice.0 as usize) else {
+    let Some(choice) = known.choice(choice) else {
         return Ok(factors);
     };
     let Some(prompt) = choice.prompt() else {
         return Ok(factors);
     };
-    add_choice_prompt(tree, values, &mut factors, choice, prompt)?;
+    add_choice_prompt(known, &mut factors, choice, prompt)?;
     Ok(factors)
 }
 
@@ -633,14 +592,13 @@ fn choice_list<'t>(
 /// The error comes where memory is refused.
 pub fn choice_factors<'t>(
     alloc: Global,
-    tree: &'t Tree,
-    values: &NodeValues,
+    known: &Known<'t>,
     choice: ChoiceId,
 ) -> Result<Vec<Factor<'t>>, AllocError>
     ensures factors { IfOk result (λ v. map judged v.items
-        ≡ judged_of tree.now (assignment_of tree.now values.now) (choice_condition_at tree.now choice)) }
+        ≡ judged_of known.now.tree (given known.now) (choice_condition_at known.now.tree choice)) }
     ensures value { IfOk result (λ v. least_of (map (λ f. f.value) v.items)
-        ≡ worth_of tree.now (assignment_of tree.now values.now) (choice_condition_at tree.now choice)) }
+        ≡ worth_of known.now.tree (given known.now) (choice_condition_at known.now.tree choice)) }
 {
-    choice_list(alloc, tree, values, choice)
+    choice_list(alloc, known, choice)
 }

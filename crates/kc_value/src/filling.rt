@@ -1,103 +1,39 @@
 //! Evaluating what nodes are computed from, and the nodes, as far as they are not kept.
 
-ghost use Rattle.std.specs.Prelude.{◌≡◌, ◌+◌, ◌<◌, ◌≤◌, ℕ, [], ◌∷◌, false, Contains, IfSome, IfNone, IfOk, OnOk, IsOk, is_some, length, map, slice_index_or};
+ghost use Rattle.std.specs.Prelude.{◌≡◌, ◌+◌, ◌<◌, ◌≤◌, ℕ, [], ◌∷◌, false, Contains, IfOk, OnErr, OnOk, IsOk, Some, length, map, slice_index_or, slice_set};
 ghost use Rattle.std.specs.List.{range_with_len};
-ghost use Rattle.kc_graph.specs.Graph.{row};
-ghost use Rattle.kc_graph.specs.Shared.{Holds, IsShared, stands_for};
+ghost use Rattle.kc_tree.specs.declared.cell.Cell.{Cell};
 ghost use Rattle.kc_tree.specs.declared.node.Node.{Node};
-ghost use Rattle.kc_tree.specs.Accepted.{IsAccepted, IsSharedTable};
-ghost use Rattle.kc_tree.specs.Nodes.{IsNodeOf, node_at, node_count, number_of};
-ghost use Rattle.kc_tree.specs.Uses.{Uses};
+ghost use Rattle.kc_tree.specs.Accepted.{IsAccepted};
+ghost use Rattle.kc_tree.specs.CellLaws.{CellLaws};
+ghost use Rattle.kc_tree.specs.Cells.{IsCellOf, cell_at, cell_count, read_cells};
+ghost use Rattle.kc_tree.specs.Nodes.{IsNodeOf, all_nodes, node_at, node_count};
 ghost use Rattle.kc_value.specs.declared.summary.Summary.TheVariants.{Absent};
-ghost use Rattle.kc_value.specs.Summaries.{is_present};
-ghost use Rattle.kc_value.specs.FillWalk.{ArePresent, HaveValues, AllHaveValues, IsSettled, AreMarked, IsPassed};
-ghost use Rattle.kc_value.specs.Kept.{IsKept, AreKept, Fills};
-ghost use Rattle.kc_value.specs.KnownConditions.{AreKnown};
+ghost use Rattle.kc_value.specs.Assignment.{assignment_of};
+ghost use Rattle.kc_value.specs.FillWalk.{ArePresent, HasValue, cell_rule, counted_with};
+ghost use Rattle.kc_value.specs.Kept.{IsHeld, IsKept, AreKept, Fills};
+ghost use Rattle.kc_value.specs.Known.{AreRight, given};
 ghost use Rattle.kc_value.specs.Solution.{solution, IsOnlySolution};
+ghost use Rattle.kc_value.specs.Summaries.{is_present};
 
+use crate::conditions::condition_tri;
+use crate::evaluation::apply_rule;
 use crate::kept_values::KeptValues;
-use crate::known_conditions::FoundConditions;
-use crate::marks::{is_marked, mark, no_marks};
-use crate::node_values::NodeValues;
+use crate::known::Known;
 use crate::summary::Summary;
 use crate::user::User;
-use kc_graph::Rows;
-use kc_tree::{Node, Tree};
+use crate::value::Value;
+use kc_tree::{Cell, Node, Tree};
 use std::alloc::{AllocError, Global};
 
-/// A node that is wanted, and how far what it uses has been passed: the numbers of its row before a place, and of the
-/// shared list at that place so many nodes.
+/// A cell that is wanted, by number, and how many of the cells that it reads have been passed.
 #[derive(Clone, Copy)]
 struct Step {
-    node: Node,
-    place: usize,
-    within: usize,
+    number: usize,
+    passed: usize,
 }
 
-/// A node without a value, by number, and its place in the list that is gone over.
-#[derive(Clone, Copy)]
-struct Missing {
-    number: u32,
-    place: usize,
-}
-
-/// The first node of a list of numbers, from a place on, that has no value. Those before the place have one.
-fn first_missing(values: &NodeValues, numbers: &[u32], from: usize) -> Option<Missing>
-    requires before { HaveValues values.now numbers.now from }
-    ensures at { IfSome result (λ m. (m.place < length numbers.now) × (m.number ≡ slice_index_or numbers.now m.place 0)) }
-    ensures missing { IfSome result (λ m. is_some (slice_index_or values.now m.number None) ≡ false) }
-    ensures before { IfSome result (λ m. HaveValues values.now numbers.now m.place) }
-    ensures none { IfNone result (AllHaveValues values.now numbers.now) }
-{
-    let mut place = from;
-    while place < numbers.len() {
-        let number = numbers[place];
-        if !values.has(number as usize) {
-            return Some(Missing { number, place });
-        }
-        place += 1;
-    }
-    None
-}
-
-/// The first node without a value of those that a number of a row stands for; of a shared list, the nodes before a place
-/// have values. A list whose nodes all have values is marked, and passed at once the next time.
-fn missing_for(
-    values: &NodeValues,
-    marks: &mut Vec<bool>,
-    count: usize,
-    table: &Rows,
-    number: u32,
-    within: usize,
-) -> Option<Missing>
-    requires shared { IsShared count table.now }
-    requires marked { AreMarked count table.now values.now marks.old.items }
-    requires before { count ≤ number → HaveValues values.now (row table.now number) within }
-    ensures marked { AreMarked count table.now values.now marks.new.items }
-    ensures missing { IfSome result (λ m. is_some (slice_index_or values.now m.number None) ≡ false) }
-    ensures stands { IfSome result (λ m. Contains (stands_for count table.now number) m.number) }
-    ensures before { IfSome result (λ m. count ≤ number → HaveValues values.now (row table.now number) m.place) }
-    ensures settled { IfNone result (IsSettled count table.now values.now number) }
-{
-    let own = number as usize;
-    if own < count {
-        if values.has(number as usize) {
-            return None;
-        }
-        return Some(Missing { number, place: 0 });
-    }
-    if is_marked(marks, own - count) {
-        return None;
-    }
-    let missing = first_missing(values, table.row(own), within);
-    if missing.is_none() {
-        mark(marks, own - count);
-    }
-    missing
-}
-
-/// Whether the node of a number has a value, by the bytes of the nodes. A number past them is that of a shared list, which
-/// may have nodes without.
+/// Whether the cell of a number has a value.
 fn is_filled(summaries: &[Summary], number: usize) -> bool
     ensures { result ≡ is_present (slice_index_or summaries.now number Absent) }
 {
@@ -107,11 +43,11 @@ fn is_filled(summaries: &[Summary], number: usize) -> bool
     }
 }
 
-/// The place of the first number of a row, from a place on, that is not that of a node with a value. Most numbers are, so
-/// that this reads the bytes of the nodes alone.
-fn next_to_fill(summaries: &[Summary], numbers: &[u32], from: usize) -> usize
+/// The place of the first number of a row, from a place on, that is that of a cell without a value.
+fn first_missing(summaries: &[Summary], numbers: &[u32], from: usize) -> usize
     ensures from { from ≤ result }
     ensures passed { ArePresent summaries.now numbers.now from result }
+    ensures missing { result < length numbers.now → is_present (slice_index_or summaries.now (slice_index_or numbers.now result 0) Absent) ≡ false }
 {
     let mut place = from;
     while place < numbers.len() {
@@ -123,92 +59,48 @@ fn next_to_fill(summaries: &[Summary], numbers: &[u32], from: usize) -> usize
     place
 }
 
-/// The first node without a value of those that a step's node uses, from where the step is. The step goes on to there.
-fn missing_from(
-    values: &NodeValues,
-    marks: &mut Vec<bool>,
-    count: usize,
-    table: &Rows,
-    numbers: &[u32],
-    step: &mut Step,
-) -> Option<u32>
-    requires shared { IsShared count table.now }
-    requires whole { length values.now ≡ count }
-    requires marked { AreMarked count table.now values.now marks.old.items }
-    requires passed { IsPassed count table.now values.now numbers.now step.old.place step.old.within }
-    ensures node { step.new.node ≡ step.old.node }
-    ensures marked { AreMarked count table.now values.now marks.new.items }
-    ensures passed { IfSome result (λ _. IsPassed count table.now values.now numbers.now step.new.place step.new.within) }
-    ensures missing { IfSome result (λ m. is_some (slice_index_or values.now m None) ≡ false) }
-    ensures used { IfSome result (λ m. (k : ℕ) × Contains numbers.now k × Contains (stands_for count table.now k) m) }
-    ensures settled { IfNone result ((i : ℕ) → i < length numbers.now → IsSettled count table.now values.now (slice_index_or numbers.now i 0)) }
+/// What the rule of a cell gives. The error comes where memory is refused for a text.
+fn cell_value(
+    alloc: Global,
+    known: &Known<'_>,
+    user: &User,
+    cell: Cell,
+) -> Result<Value, AllocError>
+    requires { IsCellOf known.now.tree cell }
+    ensures { IfOk result (λ v. v ≡ cell_rule known.now.tree user.now (given known.now) cell) }
 {
-    let summaries = values.summaries();
-    while step.place < numbers.len() {
-        let number = numbers[step.place];
-        if let Some(missing) = missing_for(values, marks, count, table, number, step.within) {
-            step.within = missing.place;
-            return Some(missing.number);
-        }
-        step.place = next_to_fill(summaries, numbers, step.place + 1);
-        step.within = 0;
+    match cell {
+        Cell::Node(node) => apply_rule(alloc, known, user, node),
+        condition => Ok(Value::Tri(condition_tri(known, condition))),
     }
-    None
 }
 
 impl KeptValues {
-    /// Evaluates a node and all that it is computed from, itself and through others, as far as they are not kept, each
-    /// after all that it uses, and keeps the values.
+    /// Evaluates the cell of a number over the values that are kept, and keeps what it gives. A node is counted, and a
+    /// condition is not.
     ///
-    /// The walk has a path from the node down to the one that it is at: each step uses the node of the next. So it
-    /// visits the nodes that are not kept, and what these use; a shared list is marked once all its nodes are kept, and the
-    /// conditions that many nodes read are evaluated once, where there is a place for them.
-    ///
-    /// The error comes where memory is refused; what was evaluated before is kept and counted then.
-    fn fill_over(
+    /// The error comes where memory is refused; nothing is kept or counted then.
+    fn evaluate(
         &mut self,
         alloc: Global,
         tree: &Tree,
         user: &User,
-        table: &Rows,
-        marks: &mut Vec<bool>,
-        found: &mut FoundConditions,
-        node: Node,
+        number: usize,
     ) -> Result<(), AllocError>
-        requires inside { IsNodeOf tree.now node }
-        requires table { IsSharedTable tree.now (Uses tree.now) table.now }
-        requires marked { AreMarked (node_count tree.now) table.now self.old.values marks.old.items }
-        requires known { AreKnown tree.now self.old.values found.old.depends.items found.old.visible.items found.old.own.items }
-        requires kept { AreKept tree.now user.now self.old.values }
-        ensures known { AreKnown tree.now self.new.values found.new.depends.items found.new.visible.items found.new.own.items }
-        ensures marked { AreMarked (node_count tree.now) table.now self.new.values marks.new.items }
-        ensures kept { AreKept tree.now user.now self.new.values }
-        ensures fills { Fills tree.now (node ∷ []) self.old self.new }
-        ensures done { OnOk result (IsKept tree.now self.new.values node) }
+        requires inside { number < cell_count tree.now }
+        requires whole { length self.old.values ≡ cell_count tree.now }
+        requires right { AreRight tree.now self.old.values }
+        ensures value { OnOk result (self.new.values
+            ≡ slice_set self.old.values number (Some (cell_rule tree.now user.now (assignment_of tree.now self.old.values) (cell_at tree.now number)))) }
+        ensures counted { OnOk result (self.new.evals ≡ counted_with (cell_at tree.now number) self.old.evals) }
+        ensures stays { OnErr result (self.new ≡ self.old) }
     {
-        if self.is_kept(tree, node) {
-            return Ok(());
-        }
-        let count = tree.node_count();
-        let mut path = Vec::new(alloc);
-        path.push(Step {
-            node,
-            place: 0,
-            within: 0,
-        })?;
-        while let Some(mut step) = path.pop() {
-            let numbers = table.row(tree.number(step.node));
-            match missing_from(self.values(), marks, count, table, numbers, &mut step) {
-                Some(number) => {
-                    path.push(step)?;
-                    path.push(Step {
-                        node: tree.node(number as usize),
-                        place: 0,
-                        within: 0,
-                    })?;
-                }
-                None => self.evaluate_next(alloc, tree, user, found, step.node)?,
-            }
+        let known = Known::of_cells(tree, &self.values);
+        let cell = tree.cell(number);
+        let value = cell_value(alloc, &known, user, cell)?;
+        self.values.put(number, value)?;
+        if matches!(cell, Cell::Node(_)) {
+            self.meter.raise();
         }
         Ok(())
     }
@@ -217,8 +109,9 @@ impl KeptValues {
     /// after all that it uses, and keeps the values. A node that is kept takes nothing: no evaluation and no memory. That
     /// the tree has one solution, and no other, holds whatever the call returns.
     ///
+    /// The walk has a path from the node down to the cell that it is at: each step reads the cell of the next.
+    ///
     /// The error comes where memory is refused; what was evaluated before is kept and counted then.
-    #[tactic(auto, using(crate::proofs::StepLemmas::none_marked))]
     pub fn fill(
         &mut self,
         alloc: Global,
@@ -234,18 +127,34 @@ impl KeptValues {
         ensures known { IsKept tree.now self.old.values node → IsOk result }
         ensures solved { IsOnlySolution tree.now user.now (solution tree.now user.now) }
     {
-        if !self.is_kept(tree, node) {
-            let table = tree.use_table();
-            let mut marks = no_marks(alloc, tree, table)?;
-            let mut found = FoundConditions::without_places(alloc);
-            self.fill_over(alloc, tree, user, table, &mut marks, &mut found, node)?;
+        if self.is_kept(tree, node) {
+            return Ok(());
+        }
+        let table = tree.use_table();
+        let mut path = Vec::new(alloc);
+        path.push(Step {
+            number: tree.number(node),
+            passed: 0,
+        })?;
+        while let Some(mut step) = path.pop() {
+            let numbers = table.row(step.number);
+            step.passed = first_missing(self.values.summaries(), numbers, step.passed);
+            match numbers.get(step.passed) {
+                Some(number) => {
+                    path.push(step)?;
+                    path.push(Step {
+                        number: *number as usize,
+                        passed: 0,
+                    })?;
+                }
+                None => self.evaluate(alloc, tree, user, step.number)?,
+            }
         }
         Ok(())
     }
 
-    /// Evaluates so many nodes, from one number on, and all that they are computed from, as far as they are not kept. A
-    /// list that rows share is gone over once for all of them. That the tree has one solution, and no other, holds
-    /// whatever the call returns.
+    /// Evaluates as many nodes as a count, from one number on, and all that they are computed from, as far as they are not
+    /// kept. That the tree has one solution, and no other, holds whatever the call returns.
     ///
     /// The error comes where memory is refused; what was evaluated before is kept and counted then.
     pub fn fill_numbers(
@@ -263,12 +172,54 @@ impl KeptValues {
         ensures done { OnOk result ((n : Node) → Contains (map (node_at tree.now) (range_with_len first count)) n → IsKept tree.now self.new.values n) }
         ensures solved { IsOnlySolution tree.now user.now (solution tree.now user.now) }
     {
-        let table = tree.use_table();
-        let mut marks = no_marks(alloc, tree, table)?;
-        let mut found = FoundConditions::none(alloc, tree)?;
-        for number in first..first + count {
-            let node = tree.node(number);
-            self.fill_over(alloc, tree, user, table, &mut marks, &mut found, node)?;
+        let end = tree.node_count().min(first + count);
+        for number in first..end {
+            self.fill(alloc, tree, user, tree.node(number))?;
+        }
+        Ok(())
+    }
+
+    /// Evaluates the cell of a number, if it is not kept. All that it reads is kept.
+    ///
+    /// The error comes where memory is refused; nothing is kept or counted then.
+    fn fill_next(
+        &mut self,
+        alloc: Global,
+        tree: &Tree,
+        user: &User,
+        number: usize,
+    ) -> Result<(), AllocError>
+        requires accepted { IsAccepted tree.now }
+        requires laws { CellLaws tree.now }
+        requires inside { number < cell_count tree.now }
+        requires kept { AreKept tree.now user.now self.old.values }
+        requires ready { (e : Cell) → Contains (read_cells tree.now (cell_at tree.now number)) e → IsHeld tree.now self.old.values e }
+        ensures kept { AreKept tree.now user.now self.new.values }
+        ensures fills { Fills tree.now (all_nodes tree.now) self.old self.new }
+        ensures stay { (k : ℕ) → HasValue self.old.values k → HasValue self.new.values k }
+        ensures done { OnOk result (IsHeld tree.now self.new.values (cell_at tree.now number)) }
+    {
+        if self.values.has(number) {
+            return Ok(());
+        }
+        self.evaluate(alloc, tree, user, number)?;
+        Ok(())
+    }
+
+    /// Evaluates all nodes, as far as they are not kept, in the tree's order: each cell after all that it reads. So a pass
+    /// over all nodes goes over no list of what a node uses, however long these lists are together. That the tree has one
+    /// solution, and no other, holds whatever the call returns.
+    ///
+    /// The error comes where memory is refused; what was evaluated before is kept and counted then.
+    pub fn fill_all(&mut self, alloc: Global, tree: &Tree, user: &User) -> Result<(), AllocError>
+        requires kept { AreKept tree.now user.now self.old.values }
+        ensures kept { AreKept tree.now user.now self.new.values }
+        ensures fills { Fills tree.now (all_nodes tree.now) self.old self.new }
+        ensures done { OnOk result ((n : Node) → IsNodeOf tree.now n → IsKept tree.now self.new.values n) }
+        ensures solved { IsOnlySolution tree.now user.now (solution tree.now user.now) }
+    {
+        for number in tree.cell_order() {
+            self.fill_next(alloc, tree, user, *number as usize)?;
         }
         Ok(())
     }

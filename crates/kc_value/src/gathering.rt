@@ -2,6 +2,7 @@
 
 ghost use Rattle.std.specs.Prelude.{◌≡◌, IfOk, [], ◌∷◌};
 ghost use Rattle.kc_tree.specs.declared.node.Node.{Node};
+ghost use Rattle.kc_tree.specs.Accepted.{IsAccepted};
 ghost use Rattle.kc_tree.specs.Nodes.{IsNodeOf, all_nodes};
 ghost use Rattle.kc_tree.specs.Uses.{Uses};
 ghost use Rattle.kc_value.specs.Assignment.{assignment_of};
@@ -39,12 +40,14 @@ pub fn all_values<R: Resolver>(alloc: Global, resolver: &mut R) -> Result<NodeVa
     ensures user { R.user_of resolver.new ≡ R.user_of resolver.old }
     ensures grew { R.grew resolver.old resolver.new (all_nodes (R.tree_of resolver.old)) }
 {
-    let mut values = Vec::with_capacity(alloc, resolver.tree().node_count())?;
-    for node in resolver.tree().nodes() {
+    let count = resolver.tree().node_count();
+    let mut values = NodeValues::empty(alloc, count)?;
+    for number in 0..count {
+        let node = resolver.tree().node(number);
         let value = value_at(resolver, node)?;
-        values.push(value)?;
+        values.put(number, value)?;
     }
-    NodeValues::of(alloc, values)
+    Ok(values)
 }
 
 /// The nodes of a row as a list. The error comes where memory is refused.
@@ -65,6 +68,7 @@ pub(crate) fn used_values<R: Resolver>(
     requires { IsNodeOf (R.tree_of resolver.old) node }
     ensures values { IfOk result (λ v. (n : Node) → Uses (R.tree_of resolver.old) node n
         → assignment_of (R.tree_of resolver.old) v n ≡ solution (R.tree_of resolver.old) (R.user_of resolver.old) n) }
+    ensures accepted { IsAccepted (R.tree_of resolver.old) }
     ensures tree { R.tree_of resolver.new ≡ R.tree_of resolver.old }
     ensures user { R.user_of resolver.new ≡ R.user_of resolver.old }
     ensures grew { R.grew resolver.old resolver.new (node ∷ []) }
@@ -74,7 +78,7 @@ pub(crate) fn used_values<R: Resolver>(
     for next in nodes.as_slice() {
         let value = value_at(resolver, *next)?;
         let number = resolver.tree().number(*next);
-        values.put(number, value);
+        values.put(number, value)?;
     }
     Ok(values)
 }

@@ -1,23 +1,16 @@
 //! The values of nodes that are kept from one question to the next, and the count of evaluations. A meter is made here,
 //! with kept values, and nowhere else: so what is evaluated over them is counted by theirs.
 
-ghost use Rattle.std.specs.Prelude.{◌≡◌, ◌↔◌, [], ◌∷◌, Some, None, IfOk, OnOk, OnErr, IsOk, is_some, true, length, slice_index_or, slice_set, replicate};
+ghost use Rattle.std.specs.Prelude.{◌≡◌, Some, None, IfOk, length};
 ghost use Rattle.kc_tree.specs.Accepted.{IsAccepted};
-ghost use Rattle.kc_tree.specs.Nodes.{IsNodeOf, node_count, number_of};
-ghost use Rattle.kc_value.specs.Assignment.{assignment_of, value_at};
+ghost use Rattle.kc_value.specs.Assignment.{value_at};
 ghost use Rattle.kc_value.specs.Counting.{raised};
 ghost use Rattle.kc_value.specs.Kept.{KeptValue, nothing_kept, is_kept, AreKept, IsKept};
 ghost use Rattle.kc_value.specs.KeptLaws.{KeptLaws};
-ghost use Rattle.kc_value.specs.KnownConditions.{AreKnown};
-ghost use Rattle.kc_value.specs.Rule.{rule};
 ghost use Rattle.kc_value.specs.Solution.{solution, IsOnlySolution};
 ghost use Rattle.kc_value.specs.UserValues.{UserValues};
 
-use crate::evaluation::eval_over;
-use crate::known_conditions::KnownConditions;
-use crate::marks::no_marks;
 use crate::node_values::NodeValues;
-use crate::user::User;
 use crate::value::Value;
 use kc_tree::{Node, Tree};
 use std::alloc::{AllocError, Global};
@@ -65,11 +58,9 @@ impl Meter {
 #[derive(Drop)]
 pub struct KeptValues {
     pub(crate) values: NodeValues,
-    /// The numbers of the nodes whose users are still to be dropped, which takes no memory: there is room for all nodes.
-    pub(crate) dropped: Vec<usize>,
-    /// By the number of a list that rows of the tree share: whether the walk of an edit has gone over it.
-    pub(crate) walked: Vec<bool>,
-    meter: Meter,
+    /// The numbers of the cells whose readers are still to be dropped, which takes no memory: there is room for all cells.
+    pub(crate) dropped: Vec<u32>,
+    pub(crate) meter: Meter,
 }
 
 impl Model for KeptValues {
@@ -84,7 +75,7 @@ impl Model for KeptValues {
 }
 
 impl KeptValues {
-    /// Nothing is kept, so that what is kept is right for any user values, and there is room for a value for each node of
+    /// Nothing is kept, so that what is kept is right for any user values, and there is room for a value for each cell of
     /// the tree. The laws of what is kept of a tree hold, and so does that the tree has one solution, and no other, whatever
     /// the call returns.
     ///
@@ -96,11 +87,10 @@ impl KeptValues {
         ensures solved { (u : UserValues) → IsOnlySolution tree.now u (solution tree.now u) }
         ensures laws { KeptLaws tree.now }
     {
-        let count = tree.node_count();
+        let count = tree.use_table().len();
         Ok(KeptValues {
             values: NodeValues::empty(alloc, count)?,
             dropped: Vec::with_capacity(alloc, count)?,
-            walked: no_marks(alloc, tree, tree.user_table())?,
             meter: Meter::new(),
         })
     }
@@ -145,38 +135,5 @@ impl KeptValues {
             Some(value) => value,
             None => unreachable!(),
         }
-    }
-
-    /// Evaluates a node over the values that are kept, and keeps what it gives.
-    ///
-    /// The error comes where memory is refused for a text; nothing is kept or counted then.
-    pub(crate) fn evaluate(
-        &mut self,
-        alloc: Global,
-        tree: &Tree,
-        user: &User,
-        known: KnownConditions<'_>,
-        node: Node,
-    ) -> Result<(), AllocError>
-        requires inside { IsNodeOf tree.now node }
-        requires whole { length self.old.values ≡ node_count tree.now }
-        requires known { AreKnown tree.now self.old.values known.depends.now known.visible.now known.own.now }
-        ensures value { OnOk result (self.new.values
-            ≡ slice_set self.old.values (number_of tree.now node) (Some (rule tree.now user.now (assignment_of tree.now self.old.values) node))) }
-        ensures counted { OnOk result (self.new.evals ≡ raised self.old.evals 1) }
-        ensures stays { OnErr result (self.new ≡ self.old) }
-    {
-        let value = eval_over(
-            alloc,
-            tree,
-            user,
-            known,
-            &self.values,
-            node,
-            &mut self.meter,
-        )?;
-        let number = tree.number(node);
-        self.values.put(number, value);
-        Ok(())
     }
 }

@@ -3,19 +3,16 @@
 ghost use Rattle.std.specs.Prelude.{◌≡◌, Some, option_map, find};
 ghost use Rattle.std.specs.List.{position_or_len};
 ghost use Rattle.kc_outline.specs.TreeValue.{kind_of};
-ghost use Rattle.kc_value.specs.Assignment.{assignment_of};
 ghost use Rattle.kc_value.specs.Conditions.{dependency};
 ghost use Rattle.kc_value.specs.Defaults.{is_active};
-ghost use Rattle.kc_value.specs.KnownConditions.{AreRight};
+ghost use Rattle.kc_value.specs.Known.{given};
 ghost use Rattle.kc_value.specs.Reasons.{default_in, active_default, range_at, range_of, range_in, active_range_of, active_range, type_of, IsSmallRange};
-ghost use Rattle.kc_value.specs.Rule.{reverse_value};
 
 use crate::conditions::dependency_tri;
-use crate::known_conditions::KnownConditions;
-use crate::node_values::NodeValues;
-use crate::symbol_value::{is_active, reverse_tri};
+use crate::known::Known;
+use crate::symbol_value::is_active;
 use crate::text_value::{bounds_in, is_range_active};
-use kc_tree::{Definition, Range, Reverse, SymId, Symbol, SymbolType, Tree, Tri};
+use kc_tree::{Definition, Range, SymId, Symbol, SymbolType, Tri};
 
 /// Where a default of a symbol is: the number of its definition in the tree, and its place among the defaults there.
 #[derive(Clone, Copy, Debug, PartialEq, Eq)]
@@ -40,18 +37,13 @@ pub struct ActiveRange {
 }
 
 /// The place of the first default of a definition whose condition is not n.
-fn first_default(
-    tree: &Tree,
-    definition: &Definition,
-    depends: Tri,
-    env: &NodeValues,
-) -> Option<usize>
-    requires { depends ≡ dependency tree.now (assignment_of tree.now env.now) definition.now }
-    ensures { let p = is_active tree.now (assignment_of tree.now env.now) definition.now in
+fn first_default(known: &Known<'_>, definition: &Definition, depends: Tri) -> Option<usize>
+    requires { depends ≡ dependency known.now.tree (given known.now) definition.now }
+    ensures { let p = is_active known.now.tree (given known.now) definition.now in
         result ≡ option_map (λ v. position_or_len p definition.now.defaults) (find p definition.now.defaults) }
 {
     for (place, default) in definition.defaults().iter().enumerate() {
-        if is_active(tree, default, depends, env) {
+        if is_active(known, default, depends) {
             return Some(place);
         }
     }
@@ -59,18 +51,12 @@ fn first_default(
 }
 
 /// The first active default of a definition by number.
-fn numbered_default(
-    tree: &Tree,
-    number: usize,
-    known: KnownConditions<'_>,
-    env: &NodeValues,
-) -> Option<DefaultPlace>
-    requires known { AreRight tree.now env.now known.depends.now known.visible.now known.own.now }
-    ensures { result ≡ option_map (λ f. f.place) (default_in tree.now (assignment_of tree.now env.now) number) }
+fn numbered_default(known: &Known<'_>, number: usize) -> Option<DefaultPlace>
+    ensures { result ≡ option_map (λ f. f.place) (default_in known.now.tree (given known.now) number) }
 {
-    let definition = tree.definitions().get(number)?;
-    let depends = dependency_tri(tree, number, known, env);
-    let default = first_default(tree, definition, depends, env)?;
+    let definition = known.definition(number)?;
+    let depends = dependency_tri(known, number);
+    let default = first_default(known, definition, depends)?;
     Some(DefaultPlace {
         definition: number,
         default,
@@ -78,18 +64,12 @@ fn numbered_default(
 }
 
 /// The first active default of a symbol.
-pub(crate) fn default_place(
-    tree: &Tree,
-    symbol: &Symbol,
-    known: KnownConditions<'_>,
-    env: &NodeValues,
-) -> Option<DefaultPlace>
-    requires known { AreRight tree.now env.now known.depends.now known.visible.now known.own.now }
+pub(crate) fn default_place(known: &Known<'_>, symbol: &Symbol) -> Option<DefaultPlace>
     ensures { result
-        ≡ option_map (λ f. f.place) (active_default tree.now (assignment_of tree.now env.now) symbol.now) }
+        ≡ option_map (λ f. f.place) (active_default known.now.tree (given known.now) symbol.now) }
 {
     for number in symbol.definitions() {
-        if let Some(place) = numbered_default(tree, *number, known, env) {
+        if let Some(place) = numbered_default(known, *number) {
             return Some(place);
         }
     }
@@ -97,18 +77,12 @@ pub(crate) fn default_place(
 }
 
 /// A range of a definition, by the type of its symbol.
-fn range_at(
-    tree: &Tree,
-    kind: SymbolType,
-    place: RangePlace,
-    range: &Range,
-    env: &NodeValues,
-) -> ActiveRange
+fn range_at(known: &Known<'_>, kind: SymbolType, place: RangePlace, range: &Range) -> ActiveRange
     ensures range { result
-        ≡ range_at tree.now (assignment_of tree.now env.now) kind place.definition place.range range.now }
+        ≡ range_at known.now.tree (given known.now) kind place.definition place.range range.now }
     ensures small { IsSmallRange kind (Some result) }
 {
-    let bounds = bounds_in(tree, kind, range, env);
+    let bounds = bounds_in(known, kind, range);
     ActiveRange {
         place,
         low: bounds.low,
@@ -118,55 +92,41 @@ fn range_at(
 
 /// The first range of a definition, which has this number, whose condition is not n.
 fn first_range(
-    tree: &Tree,
+    known: &Known<'_>,
     kind: SymbolType,
     number: usize,
     definition: &Definition,
     depends: Tri,
-    env: &NodeValues,
 ) -> Option<ActiveRange>
-    requires { depends ≡ dependency tree.now (assignment_of tree.now env.now) definition.now }
-    ensures range { result ≡ range_of tree.now (assignment_of tree.now env.now) kind number definition.now }
+    requires { depends ≡ dependency known.now.tree (given known.now) definition.now }
+    ensures range { result ≡ range_of known.now.tree (given known.now) kind number definition.now }
     ensures small { IsSmallRange kind result }
 {
     for (place, range) in definition.ranges().iter().enumerate() {
-        if is_range_active(tree, range, depends, env) {
+        if is_range_active(known, range, depends) {
             let place = RangePlace {
                 definition: number,
                 range: place,
             };
-            return Some(range_at(tree, kind, place, range, env));
+            return Some(range_at(known, kind, place, range));
         }
     }
     None
 }
 
 /// The first active range of a definition by number.
-fn numbered_range(
-    tree: &Tree,
-    kind: SymbolType,
-    number: usize,
-    known: KnownConditions<'_>,
-    env: &NodeValues,
-) -> Option<ActiveRange>
-    requires known { AreRight tree.now env.now known.depends.now known.visible.now known.own.now }
-    ensures range { result ≡ range_in tree.now (assignment_of tree.now env.now) kind number }
+fn numbered_range(known: &Known<'_>, kind: SymbolType, number: usize) -> Option<ActiveRange>
+    ensures range { result ≡ range_in known.now.tree (given known.now) kind number }
     ensures small { IsSmallRange kind result }
 {
-    let definition = tree.definitions().get(number)?;
-    let depends = dependency_tri(tree, number, known, env);
-    first_range(tree, kind, number, definition, depends, env)
+    let definition = known.definition(number)?;
+    let depends = dependency_tri(known, number);
+    first_range(known, kind, number, definition, depends)
 }
 
 /// The first active range of a symbol, if it is an int or a hex.
-pub(crate) fn active_range_of(
-    tree: &Tree,
-    symbol: &Symbol,
-    known: KnownConditions<'_>,
-    env: &NodeValues,
-) -> Option<ActiveRange>
-    requires known { AreRight tree.now env.now known.depends.now known.visible.now known.own.now }
-    ensures range { result ≡ active_range_of tree.now (assignment_of tree.now env.now) symbol.now }
+pub(crate) fn active_range_of(known: &Known<'_>, symbol: &Symbol) -> Option<ActiveRange>
+    ensures range { result ≡ active_range_of known.now.tree (given known.now) symbol.now }
     ensures small { IsSmallRange (kind_of symbol.now) result }
 {
     let kind = symbol.kind();
@@ -174,7 +134,7 @@ pub(crate) fn active_range_of(
         return None;
     }
     for number in symbol.definitions() {
-        if let Some(range) = numbered_range(tree, kind, *number, known, env) {
+        if let Some(range) = numbered_range(known, kind, *number) {
             return Some(range);
         }
     }
@@ -182,19 +142,11 @@ pub(crate) fn active_range_of(
 }
 
 /// The range of a symbol that counts (kconfig-language.rst, "range"): of an int or a hex the first whose condition is
-/// not n, with its bounds as numbers, which `spelled` writes. `values` has the values of the nodes by number.
-pub fn active_range(tree: &Tree, values: &NodeValues, symbol: SymId) -> Option<ActiveRange>
-    ensures range { result ≡ active_range tree.now (assignment_of tree.now values.now) symbol }
-    ensures small { IsSmallRange (type_of tree.now symbol) result }
+/// not n, with its bounds as numbers, which `spelled` writes.
+pub fn active_range(known: &Known<'_>, symbol: SymId) -> Option<ActiveRange>
+    ensures range { result ≡ active_range known.now.tree (given known.now) symbol }
+    ensures small { IsSmallRange (type_of known.now.tree symbol) result }
 {
-    let symbol = tree.symbols().get(symbol.0 as usize)?;
-    active_range_of(tree, symbol, KnownConditions::none(), values)
-}
-
-/// What a `select` or `imply` line gives: the least of the value of its symbol and its condition. `values` has the values
-/// of the nodes by number.
-pub fn reverse_value(tree: &Tree, values: &NodeValues, reverse: &Reverse) -> Tri
-    ensures { result ≡ reverse_value tree.now (assignment_of tree.now values.now) reverse.now }
-{
-    reverse_tri(tree, reverse, KnownConditions::none(), values)
+    let symbol = known.symbol(symbol)?;
+    active_range_of(known, symbol)
 }

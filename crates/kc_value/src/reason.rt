@@ -5,19 +5,18 @@ ghost use Rattle.kc_tree.specs.declared.node.Node.TheVariants.{Val};
 ghost use Rattle.kc_tree.specs.Accepted.{IsAccepted};
 ghost use Rattle.kc_tree.specs.Nodes.{IsNodeOf};
 ghost use Rattle.kc_value.specs.declared.reason.Reason.{Reason};
-ghost use Rattle.kc_value.specs.Assignment.{assignment_of};
 ghost use Rattle.kc_value.specs.Reasons.{IsReason, given_by};
 ghost use Rattle.kc_value.specs.Replay.{shown_in};
+ghost use Rattle.kc_value.specs.Known.{given};
 ghost use Rattle.kc_value.specs.Solution.{solution, AreSolved, IsOnlySolution};
 
-use crate::expr_value::node_tri;
 use crate::gathering::used_values;
-use crate::node_values::NodeValues;
+use crate::known::Known;
 use crate::places::{DefaultPlace, RangePlace};
 use crate::reason_branches::{member_reason, text_reason, tri_reason};
 use crate::resolver::Resolver;
 use crate::user::User;
-use kc_tree::{Node, SymId, SymbolType, Tree};
+use kc_tree::{Node, SymId, SymbolType};
 use std::alloc::{AllocError, Global};
 
 /// The branch of the rule that gives a symbol its value (this project's own names for what docs/VALUES.md describes).
@@ -61,39 +60,40 @@ pub enum Reason {
 
 /// The reason over the values of the nodes that the value of the symbol is computed from.
 #[tactic(auto, unfolding(crate::specs::Reasons::IsReason))]
-fn reason_among(tree: &Tree, user: &User, env: &NodeValues, id: SymId) -> Reason
-    ensures reason { IsReason tree.now user.now (assignment_of tree.now env.now) id result }
-    ensures accepted { IsAccepted tree.now }
+fn reason_among(known: &Known<'_>, user: &User, id: SymId) -> Reason
+    ensures reason { IsReason known.now.tree user.now (given known.now) id result }
+    ensures accepted { IsAccepted known.now.tree }
 {
-    let Some(symbol) = tree.symbols().get(id.0 as usize) else {
+    let Some(symbol) = known.symbol(id) else {
         return Reason::Nothing;
     };
     if let Some(choice) = symbol.choice() {
-        return member_reason(tree, choice, id, env);
+        return member_reason(known, choice, id);
     }
-    let visibility = node_tri(tree, env, Node::Vis(id));
+    let visibility = known.tri(Node::Vis(id));
     match symbol.kind() {
         SymbolType::Bool | SymbolType::Tristate => {
-            tri_reason(tree, symbol, visibility, user.get(id), env)
+            tri_reason(known, symbol, visibility, user.get(id))
         }
         SymbolType::String | SymbolType::Int | SymbolType::Hex => {
-            text_reason(tree, symbol, visibility, user.get(id), env)
+            text_reason(known, symbol, visibility, user.get(id))
         }
     }
 }
 
 /// Why a symbol has its value, over the values of all nodes: the one branch of the rule that gives it, which gives just
 /// this value. That the tree has one solution, and no other, holds besides.
-pub fn reason_over(tree: &Tree, user: &User, values: &NodeValues, symbol: SymId) -> Reason
-    requires inside { IsNodeOf tree.now (Val symbol) }
-    requires solved { AreSolved tree.now user.now values.now }
-    ensures reason { IsReason tree.now user.now (solution tree.now user.now) symbol result }
-    ensures only { (other : Reason) → IsReason tree.now user.now (solution tree.now user.now) symbol other → other ≡ result }
-    ensures gives { shown_in (solution tree.now user.now (Val symbol))
-        ≡ Some (given_by tree.now user.now (solution tree.now user.now) symbol result) }
-    ensures one { IsOnlySolution tree.now user.now (solution tree.now user.now) }
+pub fn reason_over(known: &Known<'_>, user: &User, symbol: SymId) -> Reason
+    requires inside { IsNodeOf known.now.tree (Val symbol) }
+    requires solved { AreSolved known.now.tree user.now known.now.values }
+    ensures reason { IsReason known.now.tree user.now (solution known.now.tree user.now) symbol result }
+    ensures only { (other : Reason) → IsReason known.now.tree user.now (solution known.now.tree user.now) symbol other
+        → other ≡ result }
+    ensures gives { shown_in (solution known.now.tree user.now (Val symbol))
+        ≡ Some (given_by known.now.tree user.now (solution known.now.tree user.now) symbol result) }
+    ensures one { IsOnlySolution known.now.tree user.now (solution known.now.tree user.now) }
 {
-    reason_among(tree, user, values, symbol)
+    reason_among(known, user, symbol)
 }
 
 /// Why a symbol has its value, as [`reason_over`] says it, from a resolver, which is asked for the node of the value
@@ -120,5 +120,6 @@ pub fn reason_of<R: Resolver>(
     ensures grew { R.grew resolver.old resolver.new (Val symbol ∷ []) }
 {
     let values = used_values(alloc, resolver, Node::Val(symbol))?;
-    Ok(reason_among(resolver.tree(), resolver.user(), &values, symbol))
+    let known = Known::of_nodes(resolver.tree(), &values);
+    Ok(reason_among(&known, resolver.user(), symbol))
 }

@@ -7,21 +7,19 @@ ghost use Rattle.kc_statement.specs.LentText.{lent_bytes};
 ghost use Rattle.kc_statement.specs.declared.tri.Tri.{Tri};
 ghost use Rattle.kc_tree.specs.declared.user_value.UserVal.{UserVal};
 ghost use Rattle.kc_value.specs.Assignable.{same_tri};
-ghost use Rattle.kc_value.specs.Assignment.{assignment_of};
 ghost use Rattle.kc_value.specs.ChoiceRule.{selected_in};
-ghost use Rattle.kc_value.specs.KnownConditions.{AreRight};
 ghost use Rattle.kc_value.specs.Reasons.{Parts, active_default, is_more, is_verbatim, parts, bounds_in_range, default_place_in, default_text_in, given_level, given_text, is_selected, IsTriReason, IsTextReason, IsMemberReason};
+ghost use Rattle.kc_value.specs.Known.{given};
 ghost use Rattle.kc_value.specs.Rule.{default_value, direct, has_modules, reverse_value, reverse_values};
 
 use crate::bounds::{Bounds, is_inside, number_or_zero};
 use crate::choice_value::selected;
-use crate::known_conditions::KnownConditions;
-use crate::node_values::NodeValues;
+use crate::known::Known;
 use crate::places::{ActiveRange, DefaultPlace, active_range_of, default_place};
 use crate::reason::Reason;
-use crate::symbol_value::{LineValues, in_type, line_values, reverse_tri, user_tri};
+use crate::symbol_value::{LineValues, in_type, line_values, reverse_value, user_tri};
 use crate::text_value::{default_text, user_text};
-use kc_tree::{ChoiceId, LentText, Reverse, SymId, Symbol, SymbolType, Tree, Tri, UserVal};
+use kc_tree::{ChoiceId, LentText, Reverse, SymId, Symbol, SymbolType, Tri, UserVal};
 
 /// Whether a value is more than another in the order n, m, y.
 fn is_more(value: Tri, other: Tri) -> bool
@@ -31,12 +29,12 @@ fn is_more(value: Tri, other: Tri) -> bool
 }
 
 /// The place of the first `select` or `imply` line that gives a value; how many lines there are, if none does.
-fn first_that_gives(tree: &Tree, reverses: &[Reverse], value: Tri, env: &NodeValues) -> usize
+fn first_that_gives(known: &Known<'_>, reverses: &[Reverse], value: Tri) -> usize
     ensures { result ≡ position_or_len (same_tri value)
-        (map (reverse_value tree.now (assignment_of tree.now env.now)) reverses.now) }
+        (map (reverse_value known.now.tree (given known.now)) reverses.now) }
 {
     for (place, reverse) in reverses.iter().enumerate() {
-        if reverse_tri(tree, reverse, KnownConditions::none(), env) == value {
+        if reverse_value(known, reverse) == value {
             return place;
         }
     }
@@ -55,20 +53,20 @@ fn is_verbatim(user: Option<&UserVal>, shown: Tri) -> bool
 
 /// The branch of a bool or tristate symbol for which no user value and no `select` counts.
 #[tactic(auto, using(crate::proofs::ReasonParts::default_level_is))]
-fn line_reason(tree: &Tree, symbol: &Symbol, lines: LineValues, env: &NodeValues) -> Reason
-    requires default { lines.default ≡ default_value tree.now (assignment_of tree.now env.now) symbol.now }
-    requires implied { lines.implied ≡ reverse_values tree.now (assignment_of tree.now env.now) symbol.now.implied }
-    requires direct { lines.direct ≡ direct tree.now (assignment_of tree.now env.now) symbol.now }
-    requires modules { lines.has_modules ≡ has_modules tree.now (assignment_of tree.now env.now) symbol.now }
-    ensures { (vis : Tri) (u : Option UserVal) → let p = parts tree.now (assignment_of tree.now env.now) symbol.now vis u in
+fn line_reason(known: &Known<'_>, symbol: &Symbol, lines: LineValues) -> Reason
+    requires default { lines.default ≡ default_value known.now.tree (given known.now) symbol.now }
+    requires implied { lines.implied ≡ reverse_values known.now.tree (given known.now) symbol.now.implied }
+    requires direct { lines.direct ≡ direct known.now.tree (given known.now) symbol.now }
+    requires modules { lines.has_modules ≡ has_modules known.now.tree (given known.now) symbol.now }
+    ensures { (vis : Tri) (u : Option UserVal) → let p = parts known.now.tree (given known.now) symbol.now vis u in
         is_selected p ≡ false → given_level p ≡ None → IsTriReason p result }
 {
     let by_default = in_type(lines.has_modules, lines.default.and(lines.direct));
     let by_imply = lines.default.or(lines.implied).and(lines.direct);
     if is_more(in_type(lines.has_modules, by_imply), by_default) {
-        return Reason::Implied(first_that_gives(tree, symbol.implied(), lines.implied, env));
+        return Reason::Implied(first_that_gives(known, symbol.implied(), lines.implied));
     }
-    match default_place(tree, symbol, KnownConditions::none(), env) {
+    match default_place(known, symbol) {
         Some(place) => Reason::Default(place),
         None if lines.direct.is_no() => Reason::NoDependencies,
         None => Reason::Nothing,
@@ -78,15 +76,14 @@ fn line_reason(tree: &Tree, symbol: &Symbol, lines: LineValues, env: &NodeValues
 /// The branch of a bool or tristate symbol that is no member of a choice.
 #[tactic(auto, using(crate::proofs::ReasonParts::default_level_is))]
 pub(crate) fn tri_reason(
-    tree: &Tree,
+    known: &Known<'_>,
     symbol: &Symbol,
     visibility: Tri,
     user: Option<&UserVal>,
-    env: &NodeValues,
 ) -> Reason
-    ensures { IsTriReason (parts tree.now (assignment_of tree.now env.now) symbol.now visibility (option_copied user.entry)) result }
+    ensures { IsTriReason (parts known.now.tree (given known.now) symbol.now visibility (option_copied user.entry)) result }
 {
-    let lines = line_values(tree, symbol, KnownConditions::none(), env);
+    let lines = line_values(known, symbol);
     let given = user_tri(visibility, user);
     let otherwise = lines.default.or(lines.implied).and(lines.direct);
     let base = given.unwrap_or(otherwise);
@@ -95,10 +92,10 @@ pub(crate) fn tri_reason(
         in_type(lines.has_modules, base.or(lines.selected)),
         unselected,
     ) {
-        return Reason::Selected(first_that_gives(tree, symbol.selected(), lines.selected, env));
+        return Reason::Selected(first_that_gives(known, symbol.selected(), lines.selected));
     }
     if given.is_none() {
-        return line_reason(tree, symbol, lines, env);
+        return line_reason(known, symbol, lines);
     }
     if is_verbatim(user, unselected) {
         Reason::User
@@ -144,11 +141,11 @@ fn unset_text_reason(
 
 /// The text of the first active default of a symbol, or the empty text.
 #[tactic(auto, using(crate::proofs::ReasonParts::default_text_is))]
-fn default_or_empty<'a>(tree: &'a Tree, symbol: &Symbol, env: &'a NodeValues) -> LentText<'a>
+fn default_or_empty<'a>(known: &Known<'a>, symbol: &Symbol) -> LentText<'a>
     ensures { lent_bytes result
-        ≡ option_map_or (λ f. f.text) (active_default tree.now (assignment_of tree.now env.now) symbol.now) [] }
+        ≡ option_map_or (λ f. f.text) (active_default known.now.tree (given known.now) symbol.now) [] }
 {
-    match default_text(tree, symbol, KnownConditions::none(), env) {
+    match default_text(known, symbol) {
         Some(text) => text,
         None => LentText::Plain(""),
     }
@@ -156,20 +153,18 @@ fn default_or_empty<'a>(tree: &'a Tree, symbol: &Symbol, env: &'a NodeValues) ->
 
 /// The branch of a string, int or hex symbol that is no member of a choice.
 pub(crate) fn text_reason(
-    tree: &Tree,
+    known: &Known<'_>,
     symbol: &Symbol,
     visibility: Tri,
     user: Option<&UserVal>,
-    env: &NodeValues,
 ) -> Reason
-    ensures { IsTextReason (parts tree.now (assignment_of tree.now env.now) symbol.now visibility (option_copied user.entry)) result }
+    ensures { IsTextReason (parts known.now.tree (given known.now) symbol.now visibility (option_copied user.entry)) result }
 {
-    let known = KnownConditions::none();
     let kind = symbol.kind();
-    let range = active_range_of(tree, symbol, known, env);
-    let default = default_place(tree, symbol, known, env);
+    let range = active_range_of(known, symbol);
+    let default = default_place(known, symbol);
     if user_text(kind, None, visibility, user).is_none() {
-        let text = default_or_empty(tree, symbol, env);
+        let text = default_or_empty(known, symbol);
         return unset_text_reason(kind, range, default, text.as_str());
     }
     match range {
@@ -184,10 +179,10 @@ pub(crate) fn text_reason(
 }
 
 /// The branch of a member of a choice.
-pub(crate) fn member_reason(tree: &Tree, choice: ChoiceId, id: SymId, env: &NodeValues) -> Reason
-    ensures { IsMemberReason (selected_in tree.now (assignment_of tree.now env.now) choice) id result }
+pub(crate) fn member_reason(known: &Known<'_>, choice: ChoiceId, id: SymId) -> Reason
+    ensures { IsMemberReason (selected_in known.now.tree (given known.now) choice) id result }
 {
-    match selected(tree, choice, env) {
+    match selected(known, choice) {
         Some(member) if member == id => Reason::Chosen,
         Some(member) => Reason::OtherChosen(member),
         None => Reason::NoneChosen,

@@ -1,9 +1,8 @@
 ghost use Rattle.std.specs.Prelude.{◌≡◌, None, IfOk, length, replicate};
 
-use kc_tree::Tri;
 use std::alloc::{AllocError, Global};
 
-/// A list of so many places with nothing in them. The error comes where memory is refused.
+/// A list of as many places with nothing in them. The error comes where memory is refused.
 pub(crate) fn empty_slots<T: Drop>(
     alloc: Global,
     count: usize,
@@ -15,13 +14,6 @@ pub(crate) fn empty_slots<T: Drop>(
         slots.push(None)?;
     }
     Ok(slots)
-}
-
-/// The same of tristate values, by one call that writes them all.
-pub(crate) fn no_tris(alloc: Global, count: usize) -> Result<Vec<Option<Tri>>, AllocError>
-    ensures { IfOk result (λ v. v.items ≡ replicate count None) }
-{
-    vec![in alloc; None; count]
 }
 
 /// Removes what is in each place of a list.

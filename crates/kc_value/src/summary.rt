@@ -1,7 +1,8 @@
 //! What a byte says of a node's value.
 
-ghost use Rattle.std.specs.Prelude.{◌≡◌, Some};
+ghost use Rattle.std.specs.Prelude.{◌≡◌, IfSome, Some};
 ghost use Rattle.std.specs.Option.{option_copied};
+ghost use Rattle.kc_value.specs.declared.value.Value.TheVariants.{Tri as Level};
 ghost use Rattle.kc_value.specs.Summaries.{is_present, is_stored, shown_summary, summary_of, summary_tri, tri_summary, whole_value};
 
 use crate::value::Value;
@@ -90,6 +91,20 @@ impl Summary {
             Summary::No | Summary::UnwrittenNo | Summary::WrittenNo => Tri::No,
             Summary::Module | Summary::UnwrittenModule | Summary::WrittenModule => Tri::Module,
             Summary::Yes | Summary::UnwrittenYes | Summary::WrittenYes => Tri::Yes,
+        }
+    }
+}
+
+impl Summary {
+    /// The value of a condition, a visibility or a mode, if it is that of one.
+    pub(crate) fn level(self) -> Option<Tri>
+        ensures { IfSome result (λ v. whole_value self ≡ Some (Level v)) }
+    {
+        match self {
+            Summary::No => Some(Tri::No),
+            Summary::Module => Some(Tri::Module),
+            Summary::Yes => Some(Tri::Yes),
+            _ => None,
         }
     }
 }

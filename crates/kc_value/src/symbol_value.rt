@@ -5,22 +5,20 @@ ghost use Rattle.std.specs.Option.{option_copied, option_map_or, option_or};
 ghost use Rattle.kc_statement.specs.declared.tri.Tri.TheVariants.{No};
 ghost use Rattle.kc_statement.specs.Tristate.{least, greatest, is_no};
 ghost use Rattle.kc_outline.specs.TreeValue.{definitions_of};
-ghost use Rattle.kc_value.specs.Assignment.{assignment_of};
-ghost use Rattle.kc_value.specs.Conditions.{dependency, prompt_value};
+ghost use Rattle.kc_value.specs.Conditions.{dependency};
 ghost use Rattle.kc_value.specs.ExprValue.{own_condition};
-ghost use Rattle.kc_value.specs.KnownConditions.{AreRight};
+ghost use Rattle.kc_value.specs.Known.{given};
 ghost use Rattle.kc_value.specs.Defaults.{is_active};
 ghost use Rattle.kc_value.specs.Rule.{in_bool, has_modules, in_type, visibility, definition_default, default_value, reverse_value, reverse_values, direct, user_part, tri_rule, symbol_rule};
 
 use crate::choice_value::member_value;
 use crate::conditions::{dependency_tri, mode_tri, prompt_tri};
 use crate::expr_value::{modules_tri, own_condition_tri, symbol_tri, tri};
-use crate::known_conditions::KnownConditions;
-use crate::node_values::NodeValues;
+use crate::known::Known;
 use crate::text_value::text_value;
 use crate::value::Value;
 use itertools::Itertools;
-use kc_tree::{DefaultValue, Definition, Reverse, SymId, Symbol, SymbolType, Tree, Tri, UserVal};
+use kc_tree::{DefaultValue, Definition, Reverse, SymId, Symbol, SymbolType, Tri, UserVal};
 use std::alloc::{AllocError, Global};
 
 /// A bool knows no m: it stands for y.
@@ -34,12 +32,12 @@ fn bool_value(value: Tri) -> Tri
 }
 
 /// Whether a symbol takes m: a tristate acts as bool where `MODULES` is n.
-fn has_modules(tree: &Tree, symbol: &Symbol, env: &NodeValues) -> bool
-    ensures { result ≡ has_modules tree.now (assignment_of tree.now env.now) symbol.now }
+fn has_modules(known: &Known<'_>, symbol: &Symbol) -> bool
+    ensures { result ≡ has_modules known.now.tree (given known.now) symbol.now }
 {
     match symbol.kind() {
         SymbolType::Bool | SymbolType::String | SymbolType::Int | SymbolType::Hex => false,
-        SymbolType::Tristate => !modules_tri(tree, env).is_no(),
+        SymbolType::Tristate => !modules_tri(known).is_no(),
     }
 }
 
@@ -54,91 +52,62 @@ pub(crate) fn in_type(has_modules: bool, value: Tri) -> Tri
     }
 }
 
-/// The condition of the prompt of a definition by number, n where there is none.
-fn numbered_prompt_tri(
-    tree: &Tree,
-    number: usize,
-    known: KnownConditions<'_>,
-    env: &NodeValues,
-) -> Tri
-    requires known { AreRight tree.now env.now known.depends.now known.visible.now known.own.now }
-    ensures { result
-        ≡ option_map_or (prompt_value tree.now (assignment_of tree.now env.now)) (slice_get tree.now.definitions number) No }
-{
-    match tree.definitions().get(number) {
-        Some(definition) => prompt_tri(tree, definition, known, env),
-        None => Tri::No,
-    }
-}
-
 /// The visibility of a symbol: the greatest condition of its prompts, with m as y unless it is a tristate and `MODULES`
 /// is not n.
-pub(crate) fn symbol_visibility(
-    tree: &Tree,
-    symbol: &Symbol,
-    known: KnownConditions<'_>,
-    env: &NodeValues,
-) -> Tri
-    requires known { AreRight tree.now env.now known.depends.now known.visible.now known.own.now }
-    ensures { result ≡ visibility tree.now (assignment_of tree.now env.now) symbol.now }
+pub(crate) fn symbol_visibility(known: &Known<'_>, symbol: &Symbol) -> Tri
+    ensures { result ≡ visibility known.now.tree (given known.now) symbol.now }
 {
     let mut greatest = Tri::No;
     for number in symbol.definitions() {
-        greatest = greatest.or(numbered_prompt_tri(tree, *number, known, env));
+        greatest = greatest.or(prompt_tri(known, *number));
     }
-    let within = greatest.and(mode_tri(tree, symbol.choice(), env));
-    in_type(has_modules(tree, symbol, env), within)
+    let within = greatest.and(mode_tri(known, symbol.choice()));
+    in_type(has_modules(known, symbol), within)
 }
 
 /// The condition of a default in a definition with these dependencies.
-fn default_condition_tri(tree: &Tree, default: &DefaultValue, depends: Tri, env: &NodeValues) -> Tri
-    ensures { result ≡ least (own_condition tree.now (assignment_of tree.now env.now) default.now.condition) depends }
+fn default_condition_tri(known: &Known<'_>, default: &DefaultValue, depends: Tri) -> Tri
+    ensures { result ≡ least (own_condition known.now.tree (given known.now) default.now.condition) depends }
 {
-    own_condition_tri(tree, default.condition.as_ref(), env).and(depends)
+    own_condition_tri(known, default.condition.as_ref()).and(depends)
 }
 
 /// Whether the condition of a default is not n.
-pub(crate) fn is_active(tree: &Tree, default: &DefaultValue, depends: Tri, env: &NodeValues) -> bool
+pub(crate) fn is_active(known: &Known<'_>, default: &DefaultValue, depends: Tri) -> bool
     ensures { result
-        ≡ not (is_no (least (own_condition tree.now (assignment_of tree.now env.now) default.now.condition) depends)) }
+        ≡ not (is_no (least (own_condition known.now.tree (given known.now) default.now.condition) depends)) }
 {
-    !default_condition_tri(tree, default, depends, env).is_no()
+    !default_condition_tri(known, default, depends).is_no()
 }
 
 /// The first default of a definition whose condition is not n.
 pub(crate) fn first_active_default<'a>(
-    tree: &Tree,
+    known: &Known<'_>,
     definition: &'a Definition,
     depends: Tri,
-    env: &NodeValues,
 ) -> Option<&'a DefaultValue>
-    requires { depends ≡ dependency tree.now (assignment_of tree.now env.now) definition.now }
+    requires { depends ≡ dependency known.now.tree (given known.now) definition.now }
     ensures { option_copied result
-        ≡ find (is_active tree.now (assignment_of tree.now env.now) definition.now) definition.now.defaults }
+        ≡ find (is_active known.now.tree (given known.now) definition.now) definition.now.defaults }
 {
     let (_, default) = definition
         .defaults()
         .iter()
-        .find_position(|default| is_active(tree, default, depends, env))?;
+        .find_position(|default| is_active(known, default, depends))?;
     Some(default)
 }
 
 /// The least of the first active default of a definition and its condition.
-fn definition_default_tri(
-    tree: &Tree,
-    definition: &Definition,
-    depends: Tri,
-    env: &NodeValues,
-) -> Option<Tri>
-    requires { depends ≡ dependency tree.now (assignment_of tree.now env.now) definition.now }
-    ensures { result ≡ definition_default tree.now (assignment_of tree.now env.now) definition.now }
+fn definition_default_tri(known: &Known<'_>, definition: &Definition, depends: Tri) -> Option<Tri>
+    requires { depends ≡ dependency known.now.tree (given known.now) definition.now }
+    ensures { result ≡ definition_default known.now.tree (given known.now) definition.now }
 {
     if depends.is_no() {
         return None;
     }
-    let default = first_active_default(tree, definition, depends, env)?;
-    let condition = default_condition_tri(tree, default, depends, env);
-    Some(tri(tree, &default.value, env).and(condition))
+    let default = first_active_default(known, definition, depends)?;
+    let condition = default_condition_tri(known, default, depends);
+    Some(tri(known, &default.value).and(condition))
 }
 
 /// What the definitions of a symbol give it.
@@ -151,27 +120,20 @@ struct Defined {
 }
 
 /// The same with one more definition, by number; a number without definition gives nothing.
-fn with_definition(
-    tree: &Tree,
-    defined: Defined,
-    number: usize,
-    known: KnownConditions<'_>,
-    env: &NodeValues,
-) -> Defined
-    requires known { AreRight tree.now env.now known.depends.now known.visible.now known.own.now }
+fn with_definition(known: &Known<'_>, defined: Defined, number: usize) -> Defined
     ensures default { result.default ≡ option_or defined.default
-        (option_and_then (definition_default tree.now (assignment_of tree.now env.now))
-        (slice_get tree.now.definitions number)) }
+        (option_and_then (definition_default known.now.tree (given known.now))
+        (slice_get known.now.tree.definitions number)) }
     ensures direct { result.direct ≡ greatest defined.direct
-        (option_map_or (dependency tree.now (assignment_of tree.now env.now)) (slice_get tree.now.definitions number) No) }
+        (option_map_or (dependency known.now.tree (given known.now)) (slice_get known.now.tree.definitions number) No) }
 {
-    let Some(definition) = tree.definitions().get(number) else {
+    let Some(definition) = known.definition(number) else {
         return defined;
     };
-    let depends = dependency_tri(tree, number, known, env);
+    let depends = dependency_tri(known, number);
     let default = match defined.default {
         Some(value) => Some(value),
-        None => definition_default_tri(tree, definition, depends, env),
+        None => definition_default_tri(known, definition, depends),
     };
     Defined {
         default,
@@ -180,62 +142,44 @@ fn with_definition(
 }
 
 /// What all definitions of a symbol give it.
-fn definitions_of(
-    tree: &Tree,
-    symbol: &Symbol,
-    known: KnownConditions<'_>,
-    env: &NodeValues,
-) -> Defined
-    requires known { AreRight tree.now env.now known.depends.now known.visible.now known.own.now }
+fn definitions_of(known: &Known<'_>, symbol: &Symbol) -> Defined
     ensures default { result.default
         ≡ slice_get
-        (filter_map (definition_default tree.now (assignment_of tree.now env.now)) (definitions_of tree.now symbol.now)) 0 }
-    ensures direct { result.direct ≡ direct tree.now (assignment_of tree.now env.now) symbol.now }
+        (filter_map (definition_default known.now.tree (given known.now)) (definitions_of known.now.tree symbol.now)) 0 }
+    ensures direct { result.direct ≡ direct known.now.tree (given known.now) symbol.now }
 {
     let mut defined = Defined {
         default: None,
         direct: Tri::No,
     };
     for number in symbol.definitions() {
-        defined = with_definition(tree, defined, *number, known, env);
+        defined = with_definition(known, defined, *number);
     }
     defined
 }
 
 /// What a `select` or `imply` gives: the least of the value of its symbol and its condition.
-pub(crate) fn reverse_tri(
-    tree: &Tree,
-    reverse: &Reverse,
-    known: KnownConditions<'_>,
-    env: &NodeValues,
-) -> Tri
-    requires known { AreRight tree.now env.now known.depends.now known.visible.now known.own.now }
-    ensures { result ≡ reverse_value tree.now (assignment_of tree.now env.now) reverse.now }
+pub fn reverse_value(known: &Known<'_>, reverse: &Reverse) -> Tri
+    ensures { result ≡ reverse_value known.now.tree (given known.now) reverse.now }
 {
-    let value = symbol_tri(tree, env, reverse.by);
+    let value = symbol_tri(known, reverse.by);
     if value.is_no() {
         return Tri::No;
     }
-    let own = own_condition_tri(tree, reverse.condition.as_ref(), env);
-    value.and(own.and(dependency_tri(tree, reverse.definition, known, env)))
+    let own = own_condition_tri(known, reverse.condition.as_ref());
+    value.and(own.and(dependency_tri(known, reverse.definition)))
 }
 
 /// The greatest that some `select` or `imply` lines give.
-fn reverses_tri(
-    tree: &Tree,
-    reverses: &[Reverse],
-    known: KnownConditions<'_>,
-    env: &NodeValues,
-) -> Tri
-    requires known { AreRight tree.now env.now known.depends.now known.visible.now known.own.now }
-    ensures { result ≡ reverse_values tree.now (assignment_of tree.now env.now) reverses.now }
+fn reverses_tri(known: &Known<'_>, reverses: &[Reverse]) -> Tri
+    ensures { result ≡ reverse_values known.now.tree (given known.now) reverses.now }
 {
     let mut greatest = Tri::No;
     for reverse in reverses {
         if matches!(greatest, Tri::Yes) {
             return Tri::Yes;
         }
-        greatest = greatest.or(reverse_tri(tree, reverse, known, env));
+        greatest = greatest.or(reverse_value(known, reverse));
     }
     greatest
 }
@@ -268,26 +212,20 @@ pub(crate) struct LineValues {
 }
 
 /// What the lines of a symbol give it.
-pub(crate) fn line_values(
-    tree: &Tree,
-    symbol: &Symbol,
-    known: KnownConditions<'_>,
-    env: &NodeValues,
-) -> LineValues
-    requires known { AreRight tree.now env.now known.depends.now known.visible.now known.own.now }
-    ensures default { result.default ≡ default_value tree.now (assignment_of tree.now env.now) symbol.now }
-    ensures implied { result.implied ≡ reverse_values tree.now (assignment_of tree.now env.now) symbol.now.implied }
-    ensures selected { result.selected ≡ reverse_values tree.now (assignment_of tree.now env.now) symbol.now.selected }
-    ensures direct { result.direct ≡ direct tree.now (assignment_of tree.now env.now) symbol.now }
-    ensures modules { result.has_modules ≡ has_modules tree.now (assignment_of tree.now env.now) symbol.now }
+pub(crate) fn line_values(known: &Known<'_>, symbol: &Symbol) -> LineValues
+    ensures default { result.default ≡ default_value known.now.tree (given known.now) symbol.now }
+    ensures implied { result.implied ≡ reverse_values known.now.tree (given known.now) symbol.now.implied }
+    ensures selected { result.selected ≡ reverse_values known.now.tree (given known.now) symbol.now.selected }
+    ensures direct { result.direct ≡ direct known.now.tree (given known.now) symbol.now }
+    ensures modules { result.has_modules ≡ has_modules known.now.tree (given known.now) symbol.now }
 {
-    let defined = definitions_of(tree, symbol, known, env);
+    let defined = definitions_of(known, symbol);
     LineValues {
         default: defined.default.unwrap_or(Tri::No),
-        implied: reverses_tri(tree, symbol.implied(), known, env),
-        selected: reverses_tri(tree, symbol.selected(), known, env),
+        implied: reverses_tri(known, symbol.implied()),
+        selected: reverses_tri(known, symbol.selected()),
         direct: defined.direct,
-        has_modules: has_modules(tree, symbol, env),
+        has_modules: has_modules(known, symbol),
     }
 }
 
@@ -304,18 +242,10 @@ pub(crate) fn shown_tri(lines: LineValues, visibility: Tri, user: Option<&UserVa
 
 /// The value of a bool or tristate symbol (kconfig-language.rst, "Menu attributes", and Kconfiglib, "tri_value"), and
 /// whether the `.config` has its line.
-fn tri_value(
-    tree: &Tree,
-    symbol: &Symbol,
-    visibility: Tri,
-    user: Option<&UserVal>,
-    known: KnownConditions<'_>,
-    env: &NodeValues,
-) -> Value
-    requires known { AreRight tree.now env.now known.depends.now known.visible.now known.own.now }
-    ensures { result ≡ tri_rule tree.now (assignment_of tree.now env.now) symbol.now visibility (option_copied user.entry) }
+fn tri_value(known: &Known<'_>, symbol: &Symbol, visibility: Tri, user: Option<&UserVal>) -> Value
+    ensures { result ≡ tri_rule known.now.tree (given known.now) symbol.now visibility (option_copied user.entry) }
 {
-    let lines = line_values(tree, symbol, known, env);
+    let lines = line_values(known, symbol);
     let shown = shown_tri(lines, visibility, user);
     let written = !visibility.is_no()
         || !lines.default.is_no()
@@ -328,27 +258,24 @@ fn tri_value(
 /// refused memory for a text.
 pub(crate) fn symbol_value(
     alloc: Global,
-    tree: &Tree,
+    known: &Known<'_>,
     id: SymId,
     symbol: &Symbol,
     visibility: Tri,
     user: Option<&UserVal>,
-    known: KnownConditions<'_>,
-    env: &NodeValues,
 ) -> Result<Value, AllocError>
-    requires known { AreRight tree.now env.now known.depends.now known.visible.now known.own.now }
     ensures { IfOk result (λ v. v
-        ≡ symbol_rule tree.now (assignment_of tree.now env.now) id symbol.now visibility (option_copied user.entry)) }
+        ≡ symbol_rule known.now.tree (given known.now) id symbol.now visibility (option_copied user.entry)) }
 {
     if let Some(choice) = symbol.choice() {
-        return Ok(member_value(tree, choice, id, visibility, env));
+        return Ok(member_value(known, choice, id, visibility));
     }
     match symbol.kind() {
         SymbolType::Bool | SymbolType::Tristate => {
-            Ok(tri_value(tree, symbol, visibility, user, known, env))
+            Ok(tri_value(known, symbol, visibility, user))
         }
         SymbolType::String | SymbolType::Int | SymbolType::Hex => {
-            text_value(alloc, tree, symbol, visibility, user, known, env)
+            text_value(alloc, known, symbol, visibility, user)
         }
     }
 }

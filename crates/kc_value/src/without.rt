@@ -1,21 +1,20 @@
 //! The value that a node would have without its own user value or chosen member.
 
-ghost use Rattle.std.specs.Prelude.{◌≡◌, IfOk, [], ◌∷◌, true, false};
+ghost use Rattle.std.specs.Prelude.{◌≡◌, IfOk, [], ◌∷◌, false};
 ghost use Rattle.kc_tree.specs.declared.node.Node.TheVariants.{Val, Sel};
 ghost use Rattle.kc_tree.specs.Accepted.{IsAccepted};
+ghost use Rattle.kc_tree.specs.declared.node.Node.{Node};
 ghost use Rattle.kc_tree.specs.Nodes.{IsNodeOf};
-ghost use Rattle.kc_value.specs.Assignment.{assignment_of};
-ghost use Rattle.kc_value.specs.KnownConditions.{AreRight};
+ghost use Rattle.kc_tree.specs.Uses.{Uses};
+ghost use Rattle.kc_value.specs.Known.{given};
 ghost use Rattle.kc_value.specs.Rule.{rule};
 ghost use Rattle.kc_value.specs.Solution.{solution, IsOnlySolution};
 ghost use Rattle.kc_value.specs.UserValues.{UserValues};
 ghost use Rattle.kc_value.specs.Without.{user_without, value_without, selects_none, IsOwned};
 
 use crate::choice_value::selection_value;
-use crate::expr_value::node_tri;
 use crate::gathering::used_values;
-use crate::known_conditions::KnownConditions;
-use crate::node_values::NodeValues;
+use crate::known::Known;
 use crate::resolver::Resolver;
 use crate::symbol_value::symbol_value;
 use crate::value::Value;
@@ -23,7 +22,7 @@ use kc_tree::{ChoiceId, Node, SymId, Tree, Tri};
 use std::alloc::{AllocError, Global};
 
 /// Whether the node is the selection of an optional choice, which without a chosen member selects none.
-pub(crate) fn selects_none(tree: &Tree, node: Node) -> bool
+fn selects_none(tree: &Tree, node: Node) -> bool
     ensures test { result ≡ selects_none tree.now node }
     ensures accepted { IsAccepted tree.now }
 {
@@ -38,34 +37,49 @@ pub(crate) fn selects_none(tree: &Tree, node: Node) -> bool
 }
 
 /// What the rule gives a symbol without a user value, over the values of the nodes that it is computed from.
-pub(crate) fn value_alone(
-    alloc: Global,
-    tree: &Tree,
-    symbol: SymId,
-    known: KnownConditions<'_>,
-    env: &NodeValues,
-) -> Result<Value, AllocError>
-    requires known { AreRight tree.now env.now known.depends.now known.visible.now known.own.now }
+fn value_alone(alloc: Global, known: &Known<'_>, symbol: SymId) -> Result<Value, AllocError>
     ensures { (u : UserValues) → IfOk result (λ v. v
-        ≡ rule tree.now (user_without u (Val symbol)) (assignment_of tree.now env.now) (Val symbol)) }
+        ≡ rule known.now.tree (user_without u (Val symbol)) (given known.now) (Val symbol)) }
 {
-    match tree.symbols().get(symbol.0 as usize) {
+    match known.symbol(symbol) {
         Some(found) => {
-            let visibility = node_tri(tree, env, Node::Vis(symbol));
-            symbol_value(alloc, tree, symbol, found, visibility, None, known, env)
+            let visibility = known.tri(Node::Vis(symbol));
+            symbol_value(alloc, known, symbol, found, visibility, None)
         }
         None => Ok(Value::Tri(Tri::No)),
     }
 }
 
 /// What the rule gives a selection without a chosen member, over the values of the nodes that it is computed from.
-pub(crate) fn selection_alone(tree: &Tree, choice: ChoiceId, env: &NodeValues) -> Value
+fn selection_alone(known: &Known<'_>, choice: ChoiceId) -> Value
     ensures { (u : UserValues) →
-        result ≡ rule tree.now (user_without u (Sel choice)) (assignment_of tree.now env.now) (Sel choice) }
+        result ≡ rule known.now.tree (user_without u (Sel choice)) (given known.now) (Sel choice) }
 {
-    match tree.choices().get(choice.0 as usize) {
-        Some(found) => Value::Member(selection_value(tree, choice, found, None, env)),
+    match known.choice(choice) {
+        Some(found) => Value::Member(selection_value(known, choice, found, None)),
         None => Value::Tri(Tri::No),
+    }
+}
+
+/// The value of a node without the user's own, over the values of the nodes that it is computed from. The error comes
+/// where memory is refused.
+pub(crate) fn value_without(
+    alloc: Global,
+    known: &Known<'_>,
+    node: Node,
+) -> Result<Value, AllocError>
+    requires inside { IsNodeOf known.now.tree node }
+    requires owned { IsOwned node }
+    ensures { (u : UserValues) → ((n : Node) → Uses known.now.tree node n → given known.now n ≡ solution known.now.tree u n)
+        → IfOk result (λ v. v ≡ value_without known.now.tree u node) }
+{
+    if selects_none(known.tree(), node) {
+        return Ok(Value::Member(None));
+    }
+    match node {
+        Node::Val(symbol) => value_alone(alloc, known, symbol),
+        Node::Sel(choice) => Ok(selection_alone(known, choice)),
+        Node::Vis(_) | Node::Mode(_) => unreachable!(),
     }
 }
 
@@ -91,16 +105,6 @@ pub fn without_user<R: Resolver>(
     ensures user { R.user_of resolver.new ≡ R.user_of resolver.old }
     ensures grew { R.grew resolver.old resolver.new (node ∷ []) }
 {
-    if selects_none(resolver.tree(), node) {
-        return Ok(Value::Member(None));
-    }
-    let env = used_values(alloc, resolver, node)?;
-    match node {
-        Node::Val(symbol) => {
-            let known = KnownConditions::none();
-            value_alone(alloc, resolver.tree(), symbol, known, &env)
-        }
-        Node::Sel(choice) => Ok(selection_alone(resolver.tree(), choice, &env)),
-        Node::Vis(_) | Node::Mode(_) => unreachable!(),
-    }
+    let values = used_values(alloc, resolver, node)?;
+    value_without(alloc, &Known::of_nodes(resolver.tree(), &values), node)
 }

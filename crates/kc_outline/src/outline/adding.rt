@@ -87,7 +87,7 @@ impl Outline {
 
     /// Adds the definition that a `config` line makes.
     #[inline(never)]
-    fn add_definition(
+    pub(crate) fn add_definition(
         &mut self,
         alloc: Global,
         symbol: SymId,
@@ -202,7 +202,7 @@ impl Outline {
 
     /// Adds a type to the symbol and a prompt to the definition or the choice that owns them.
     #[inline(never)]
-    fn add_typed_prompt(
+    pub(super) fn add_typed_prompt(
         &mut self,
         owner: Option<Owner>,
         kind: SymbolType,
@@ -258,7 +258,11 @@ impl Outline {
     }
 
     /// Adds a type to the owner's symbol.
-    fn add_type(&mut self, owner: Option<Owner>, kind: SymbolType) -> Result<(), AllocError>
+    pub(super) fn add_type(
+        &mut self,
+        owner: Option<Owner>,
+        kind: SymbolType,
+    ) -> Result<(), AllocError>
         ensures { OnOk result (self.new ≡ record self.old { symbols = change_symbol owner (symbol_with_type kind) self.old.symbols }) }
     {
         let Some(Owner::Definition(symbol, _)) = owner else {
@@ -324,7 +328,7 @@ impl Outline {
 
     /// Adds a `depends on` line to what owns it.
     #[inline(never)]
-    fn add_depends(&mut self, owner: Option<Owner>, on: Expr) -> Result<(), AllocError>
+    pub(super) fn add_depends(&mut self, owner: Option<Owner>, on: Expr) -> Result<(), AllocError>
         ensures { OnOk result (self.new ≡ record self.old {
           definitions = change_definition owner (definition_with_depends on) self.old.definitions;
           blocks = change_block owner (block_with_depends on) self.old.blocks;
@@ -378,7 +382,11 @@ impl Outline {
 
     /// Adds a default to the definition or the choice that owns it.
     #[inline(never)]
-    fn add_default(&mut self, owner: Option<Owner>, value: DefaultValue) -> Result<(), AllocError>
+    pub(super) fn add_default(
+        &mut self,
+        owner: Option<Owner>,
+        value: DefaultValue,
+    ) -> Result<(), AllocError>
         ensures { OnOk result (self.new ≡ record self.old {
           definitions = change_definition owner (definition_with_default value) self.old.definitions;
           choices = change_choice owner (choice_with_default (choice_default value)) self.old.choices;
@@ -402,7 +410,7 @@ impl Outline {
 
     /// Adds a type with a default to the definition that owns them.
     #[inline(never)]
-    fn add_typed_default(
+    pub(super) fn add_typed_default(
         &mut self,
         owner: Option<Owner>,
         kind: SymbolType,
@@ -453,7 +461,7 @@ impl Outline {
 
     /// Adds a `select` line to its owner's symbol and to the one that it names, if there is one.
     #[inline(never)]
-    fn add_select(
+    pub(super) fn add_select(
         &mut self,
         owner: Option<Owner>,
         target: Option<SymId>,
@@ -477,7 +485,7 @@ impl Outline {
 
     /// Adds an `imply` line to its owner's symbol and to the one that it names, if there is one.
     #[inline(never)]
-    fn add_imply(
+    pub(super) fn add_imply(
         &mut self,
         owner: Option<Owner>,
         target: Option<SymId>,

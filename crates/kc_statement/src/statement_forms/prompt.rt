@@ -54,7 +54,7 @@ impl Parser<'_> {
         let Some(condition) = self.condition(rest)? else {
             return Ok(None);
         };
-        let text = Text::copy_of(self.alloc, text.as_str())?;
+        let text = self.names.prompt_text(self.alloc, text.as_str())?;
         Ok(Some(Prompt { text, condition }))
     }
 }

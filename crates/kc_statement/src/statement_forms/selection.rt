@@ -14,14 +14,12 @@ use kc_text::Token;
 use std::alloc::AllocError;
 
 impl Parser<'_> {
-    /// A name and its condition, as a statement says them.
-    pub(crate) fn read_selection<F: FnOnce(Option<SymId>, Option<Expr>) -> Statement>(
+    /// A name and its condition.
+    pub(crate) fn selection(
         &self,
         tokens: &[Token<'_>],
-        says: F,
-    ) -> Result<Option<Statement>, AllocError>
-        requires { F.IsAlwaysCallable says }
-        ensures { IfOk result (IsReading (λ s. (x : Option SymId × Option Formula) × IsSelection self.now.names.now tokens.now x.0 x.1 × F.post says x.0 x.1 s)) }
+    ) -> Result<Option<(Option<SymId>, Option<Expr>)>, AllocError>
+        ensures { IfOk result (IsReading (λ x. IsSelection self.now.names.now tokens.now x.0 x.1)) }
     {
         let Some((first, rest)) = tokens.split_first() else {
             return Ok(None);
@@ -32,7 +30,22 @@ impl Parser<'_> {
         let Some(condition) = self.condition(rest)? else {
             return Ok(None);
         };
-        let symbol = self.names.symbol(name.as_str());
-        Ok(Some(says(symbol, condition)))
+        Ok(Some((self.names.symbol(name.as_str()), condition)))
+    }
+
+    /// A name and its condition, as a statement says them.
+    pub(crate) fn read_selection<F: FnOnce(Option<SymId>, Option<Expr>) -> Statement>(
+        &self,
+        tokens: &[Token<'_>],
+        says: F,
+    ) -> Result<Option<Statement>, AllocError>
+        requires { F.IsAlwaysCallable says }
+        ensures { IfOk result (IsReading (λ s. (x : Option SymId × Option Formula) × IsSelection self.now.names.now tokens.now x.0 x.1 × F.post says x.0 x.1 s)) }
+    {
+        let Some(part) = self.selection(tokens)? else {
+            return Ok(None);
+        };
+        let (target, condition) = part;
+        Ok(Some(says(target, condition)))
     }
 }

@@ -1,9 +1,10 @@
 //! What expressions read: the numbers of the nodes are added to a row.
 
-ghost use Rattle.std.specs.Prelude.{◌≡◌, ◌≤◌, ◌^◌, flat_map, length, OnOk};
+ghost use Rattle.std.specs.Prelude.{◌≡◌, ◌≤◌, ◌<◌, ◌^◌, flat_map, length, OnOk};
 ghost use Rattle.kc_outline.specs.TreeValue.{modules_symbol};
 ghost use Rattle.kc_tree.specs.Uses.{term_nodes, value_nodes, modules_nodes, conditions_nodes, own_condition_nodes, visibility_node, choice_default_nodes};
-ghost use Rattle.kc_tree.specs.Collected.{Adds, node_there, source_nodes, default_alone_nodes, range_alone_nodes};
+ghost use Rattle.kc_tree.specs.CellRows.{Adds, HaveSame, node_there};
+ghost use Rattle.kc_tree.specs.Cells.{cell_count, default_alone_nodes, range_alone_nodes};
 ghost use Rattle.kc_statement.specs.declared.limits.TheConstants.{MOST_SYMBOLS};
 
 use crate::link::modules_symbol;
@@ -12,6 +13,25 @@ use kc_outline::{ChoiceDefault, Outline, Reverse};
 use kc_statement::{DefaultValue, Expr, ExprNode, Range, SymId, Term};
 use std::alloc::AllocError;
 
+/// Puts numbers in rising order, each once.
+#[inline(never)]
+fn sort_row(row: &mut Vec<u32>)
+    ensures { HaveSame row.new.items row.old.items }
+{
+    row.sort_unstable();
+    row.dedup();
+}
+
+/// Leaves each number once. Most rows have one or none, which stay as they are.
+#[inline]
+pub fn each_once(row: &mut Vec<u32>)
+    ensures { HaveSame row.new.items row.old.items }
+{
+    if row.len() > 1 {
+        sort_row(row);
+    }
+}
+
 /// Reads expressions of what lines define.
 #[derive(Clone, Copy)]
 pub struct Reader<'a> {
@@ -19,7 +39,7 @@ pub struct Reader<'a> {
     /// The symbol `MODULES`.
     modules: Option<SymId>,
     ghost few: { length outline.now.symbols ≤ MOST_SYMBOLS },
-    ghost few_choices: { length outline.now.choices ≤ 2 ^ 30 },
+    ghost few_cells: { cell_count outline.now < 2 ^ 32 },
     ghost modules_is: { modules ≡ modules_symbol outline.now },
 }
 
@@ -27,7 +47,7 @@ impl<'a> Reader<'a> {
     /// Of what lines define.
     pub fn new(outline: &'a Outline) -> Reader<'a>
         requires few { length outline.now.symbols ≤ MOST_SYMBOLS }
-        requires few_choices { length outline.now.choices ≤ 2 ^ 30 }
+        requires few_cells { cell_count outline.now < 2 ^ 32 }
         requires named { length outline.now.names ≤ MOST_SYMBOLS }
         ensures { result.outline ≡ outline.entry }
     {
@@ -168,17 +188,6 @@ impl<'a> Reader<'a> {
                 self.add_node(row, Node::Vis(symbol))?;
             }
             self.add_own_condition(row, &default.condition)?;
-        }
-        Ok(())
-    }
-
-    /// Adds what each `select` or `imply` reads besides the dependencies of its definition.
-    pub fn add_sources(&self, row: &mut Vec<u32>, reverses: &[Reverse]) -> Result<(), AllocError>
-        ensures { OnOk result (Adds (length self.now.outline.now.symbols) row.old.items row.new.items (flat_map (source_nodes self.now.outline.now) reverses.now)) }
-    {
-        for reverse in reverses {
-            self.add_node(row, Node::Val(reverse.by))?;
-            self.add_own_condition(row, &reverse.condition)?;
         }
         Ok(())
     }

@@ -1,7 +1,9 @@
-use Rattle.std.proofs.Common.{◌≡◌, sym, ap, ◌∙◌, subst}
+use Rattle.std.proofs.Common.{◌≡◌, ap, ◌∙◌}
+use Rattle.std.proofs.lemmas.Result.{IfOk-weaker}
 use Rattle.kc_value.specs.Solution.{solution}
 use Rattle.kc_files.specs.ConfigText.{config_text_of}
 use Rattle.kc_files.specs.DraftValue.{Agrees}
+use Rattle.kc_files.proofs.DraftLaws.{agrees_as}
 use Rattle.kc_files.proofs.config_file.config_text.Goals as goal
 
 -- the values agree with the solution
@@ -9,8 +11,7 @@ pub returns-clause-text : goal.returns-clause-text
 returns-clause-text g c =
     let t = g.R.Resolver.tree_of c.args.resolver.now in
     let a = solution t (g.R.Resolver.user_of c.args.resolver.now) in
-    let s = c.tree.result.now in
-    let same : s ≡ t = c.tree.ensures ∙ c.all_values.ensures.tree in
-    let values = c.in_ok-values.values in
-    let agrees : Agrees s values a = subst (λ x. Agrees x values a) (sym same) c.in_ok-values.ensures.values in
-    c.in_ok-text.ensures a agrees ∙ ap (λ x. config_text_of x c.args.prefix.now c.args.header.now a) same
+    let k = c.of_nodes-known.result in
+    let same : k.tree ≡ t = c.of_nodes-known.ensures.tree ∙ c.tree.ensures ∙ c.all_values.ensures.tree in
+    let agrees : Agrees k.tree k.values a = agrees_as t c.in_ok-values.values k a same c.of_nodes-known.ensures.values c.in_ok-values.ensures.values in
+    IfOk-weaker c.config_text_over.result _ _ (λ text is. is a agrees ∙ ap (λ x. config_text_of x c.args.prefix.now c.args.header.now a) same) c.config_text_over.ensures

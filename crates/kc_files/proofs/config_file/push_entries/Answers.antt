@@ -4,6 +4,7 @@ use Rattle.std.proofs.lemmas.List.{drop_more, drop_all}
 use Rattle.kc_statement.specs.declared.id.SymId.{SymId}
 use Rattle.kc_outline.specs.declared.entry.Entry.{Entry}
 use Rattle.kc_outline.specs.declared.entry.Entry.TheVariants.{Symbol}
+use Rattle.kc_outline.specs.TreeValue.{TreeValue}
 use Rattle.kc_files.specs.ConfigText.{Piece}
 use Rattle.kc_files.specs.DraftValue.{DraftValue, with_option, with_pieces, piece_after, pieces_after}
 use Rattle.kc_files.proofs.MenuPieces.{pieces_of_entries}
@@ -19,15 +20,15 @@ any = let s : SymId = record { 0 = 0 } in Symbol s
 
 pub loop-entry-init : goal.loop-entry-init
 loop-entry-init c a agrees =
-    let t = c.args.tree.now in
+    let t = c.args.known.now.tree in
     let p = c.args.prefix.now in
     let d = c.args.draft.now in
-    ap (λ es. with_pieces d (pieces_after t p a None es)) c.entries-entry-items.ensures.entries
-    ∙ ap (with_pieces d) (pieces_of_entries t p a c.entries-entry-items.ensures.accepted.menus)
+    ap (λ es. with_pieces d (pieces_after t p a None es)) (c.entries-entry-items.ensures.entries ∙ ap (λ (x : TreeValue). x.entries) c.tree.ensures.tree)
+    ∙ ap (with_pieces d) (pieces_of_entries t p a c.tree.ensures.accepted.menus)
 
 pub loop-entry-preserved : goal.loop-entry-preserved
 loop-entry-preserved c a agrees =
-    let t = c.args.tree.now in
+    let t = c.args.known.now.tree in
     let p = c.args.prefix.now in
     let items = c.entries-entry-items.result.now in
     let i = c.loop-entry.entry-index in
@@ -41,7 +42,7 @@ loop-entry-preserved c a agrees =
 
 pub returns : goal.returns
 returns c a agrees =
-    let t = c.args.tree.now in
+    let t = c.args.known.now.tree in
     let p = c.args.prefix.now in
     let items = c.entries-entry-items.result.now in
     let i = c.loop-entry.entry-index in

@@ -1,15 +1,27 @@
-use Rattle.std.proofs.Common.{sym, subst, ◌∙◌}
+use Rattle.std.proofs.Common.{◌≡◌, ap, ◌∙◌, subst}
+use Rattle.std.specs.Result.{IfOk}
 use Rattle.std.specs.String.{string_bytes}
 use Rattle.kc_outline.specs.TreeValue.{TreeValue}
+use Rattle.kc_value.specs.Solved.{SolvedValue}
 use Rattle.kc_value.specs.UserValues.{UserValues}
 use Rattle.kc_files.specs.DefaultLoading.{HasNoFeeds, KeepsChanges}
+use Rattle.kc_files.specs.DefaultText.{default_text_of}
 use Rattle.kc_files.proofs.default_file.defconfig_text.Goals as goal
 
 pub returns-clause-keeps : goal.returns-clause-keeps
-returns-clause-keeps g c = λ unfed.
+returns-clause-keeps g c =
     let r = g.R.Resolver in
-    let all = c.in_ok-values.ensures in
-    let same_tree = c.tree.ensures ∙ all.tree in
-    let same_user = c.user.ensures.user ∙ all.user in
-    subst (λ (p : TreeValue × UserValues). KeepsChanges p.0 p.1 c.args.prefix.now (string_bytes c.in_ok-text.text)) (λ i. (same_tree i, same_user i))
-    (c.in_ok-text.ensures.keeps (subst HasNoFeeds (sym same_user) unfed))
+    let s = c.of_all-solved.result in
+    let same_tree : s.tree ≡ r.tree_of c.args.resolver.now = ap (λ (x : SolvedValue). x.tree) c.of_all-solved.ensures ∙ c.tree.ensures ∙ c.all_values.ensures.tree in
+    let same_user : s.user ≡ r.user_of c.args.resolver.now = ap (λ (x : SolvedValue). x.user) c.of_all-solved.ensures ∙ c.user.ensures.user ∙ c.all_values.ensures.user in
+    subst (λ (p : TreeValue × UserValues). HasNoFeeds p.1 → IfOk c.defconfig_text_over.result (λ text. KeepsChanges p.0 p.1 c.args.prefix.now (string_bytes text)))
+    (λ i. (same_tree i, same_user i)) c.defconfig_text_over.ensures.keeps
+
+pub returns-clause-text : goal.returns-clause-text
+returns-clause-text g c =
+    let r = g.R.Resolver in
+    let s = c.of_all-solved.result in
+    let same_tree : s.tree ≡ r.tree_of c.args.resolver.now = ap (λ (x : SolvedValue). x.tree) c.of_all-solved.ensures ∙ c.tree.ensures ∙ c.all_values.ensures.tree in
+    let same_user : s.user ≡ r.user_of c.args.resolver.now = ap (λ (x : SolvedValue). x.user) c.of_all-solved.ensures ∙ c.user.ensures.user ∙ c.all_values.ensures.user in
+    subst (λ (p : TreeValue × UserValues). IfOk c.defconfig_text_over.result (λ text. string_bytes text ≡ default_text_of p.0 p.1 c.args.prefix.now))
+    (λ i. (same_tree i, same_user i)) c.defconfig_text_over.ensures.text

@@ -1,14 +1,10 @@
 use Rattle.std.proofs.Common.{◌≡◌, ◌++◌, drop}
 use Rattle.std.specs.List.{flat_map}
 use Rattle.std.specs.String.{string_bytes}
-use Rattle.kc_value.specs.KnownConditions.{AreSharedBy}
 use Rattle.kc_files.specs.NewText.{new_entry, new_text_of}
 use Rattle.kc_files.proofs.new_list.push_entries.Given as goal
 
 -- the text with the lines of the entries that are left is the whole
 abbrev pub invariant-loop-entry : goal.invariant-loop-entry
-invariant-loop-entry l = record {
-  text : string_bytes l.out ++ flat_map (new_entry l.tree l.user l.prefix) (drop l.entry-index l.entry-items)
-      ≡ string_bytes l.initial.out ++ new_text_of l.tree l.user l.prefix;
-  conditions : AreSharedBy l.tree l.values l.conditions;
-}
+invariant-loop-entry l = string_bytes l.out ++ flat_map (new_entry l.solved.tree l.solved.user l.prefix) (drop l.entry-index l.entry-items)
+    ≡ string_bytes l.initial.out ++ new_text_of l.solved.tree l.solved.user l.prefix

@@ -4,7 +4,7 @@ use Rattle.std.proofs.lemmas.List.{length-reverse, length-take, length-take-le}
 use Rattle.std.proofs.lemmas.Option.{slice_get-get_or}
 use Rattle.std.proofs.lemmas.List.Sums.{count_by-le-length}
 use Rattle.std.proofs.Math.Seq.{take-length}
-use Rattle.kc_statement.specs.Keywords.{is_choice}
+use Rattle.kc_statement.specs.Keywords.{is_choice, is_config, is_opener}
 use Rattle.kc_statement.specs.Names.{names_of}
 use Rattle.kc_outline.specs.Reader.{IsOutlineAfter}
 use Rattle.kc_outline.specs.ContextAfter.{IsContextAfter}
@@ -15,6 +15,7 @@ use Rattle.kc_outline.proofs.FirstLaws.{firsts_of_outline}
 use Rattle.kc_outline.proofs.MemberLaws.{members_of_outline}
 use Rattle.kc_outline.proofs.MenuLaws.{menus_of_outline}
 use Rattle.kc_outline.proofs.NameLaws.{names_of_lines}
+use Rattle.kc_outline.proofs.NestedLaws.{blocks_of_outline, definitions_of_outline, nested_of_outline}
 use Rattle.kc_outline.proofs.OnlyLaws.{one_tree, no_fault}
 use Rattle.kc_outline.proofs.all_lines.read_outline.Goals as goal
 
@@ -92,6 +93,20 @@ returns-clause-few_choices c =
     let count = choices_of_outline _ _ _ _ c.loop-index.invariant.outline ∙ count_reverse is_choice (take i lines) in
     omega (arith, count, count_by-le-length is_choice (take i lines), length-take i lines, c.requires)
 
+pub returns-clause-few_definitions : goal.returns-clause-few_definitions
+returns-clause-few_definitions c =
+    let lines = c.args.lines.now in
+    let i = c.loop-index.index in
+    let count = definitions_of_outline _ _ _ _ c.loop-index.invariant.outline ∙ count_reverse is_config (take i lines) in
+    omega (arith, count, count_by-le-length is_config (take i lines), length-take i lines, c.requires)
+
+pub returns-clause-few_blocks : goal.returns-clause-few_blocks
+returns-clause-few_blocks c =
+    let lines = c.args.lines.now in
+    let i = c.loop-index.index in
+    let count = blocks_of_outline _ _ _ _ c.loop-index.invariant.outline ∙ count_reverse is_opener (take i lines) in
+    omega (arith, count, count_by-le-length is_opener (take i lines), length-take i lines, c.requires)
+
 pub returns-clause-named : goal.returns-clause-named
 returns-clause-named c =
     let after = c.loop-index.invariant.outline in
@@ -134,3 +149,8 @@ pub returns-clause-exact : goal.returns-clause-exact
 returns-clause-exact c = λ f found.
     let all = whole c.args.lines.now c.loop-index.index c.loop-index.outline (search rules) c.loop-index.invariant.outline in
     no_fault c.args.lines.now all.readings all.read f found
+
+pub returns-clause-nested : goal.returns-clause-nested
+returns-clause-nested c =
+    nested_of_outline c.args.lines.now c.loop-index.outline
+    (outline_of c.args.lines.now c.loop-index.outline (whole c.args.lines.now c.loop-index.index c.loop-index.outline (search rules) c.loop-index.invariant.outline))

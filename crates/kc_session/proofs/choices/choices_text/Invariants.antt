@@ -7,4 +7,4 @@ use Rattle.kc_session.proofs.choices.choices_text.Given as goal
 -- the lines so far
 abbrev pub invariant-loop-number : goal.invariant-loop-number
 invariant-loop-number l =
-    string_bytes l.text ≡ flat_map (λ k. choice_line_of l.fn.tree l.fn.user (record { 0 = k })) (range_with_len 0 l.number)
+    string_bytes l.text ≡ flat_map (λ k. choice_line_of l.fn.solved.tree l.fn.solved.user (record { 0 = k })) (range_with_len 0 l.number)

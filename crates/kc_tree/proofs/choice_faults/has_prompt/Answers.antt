@@ -4,7 +4,7 @@ use Rattle.std.specs.Option.{option_map_or}
 use Rattle.std.proofs.Math.Seq.{take-length}
 use Rattle.std.proofs.lemmas.List.Folds.{list_any_at}
 use Rattle.kc_outline.specs.TreeValue.{DefinitionValue, prompt_of}
-use Rattle.kc_tree.proofs.DependencyLaws.{any_filtered}
+use Rattle.kc_tree.proofs.RowLaws.{any_filtered}
 use Rattle.kc_tree.proofs.choice_faults.has_prompt.Goals as goal
 
 pub returns-then-is_prompted : goal.returns-then-is_prompted

@@ -5,7 +5,7 @@ use Rattle.std.specs.Option.{option_map_or}
 use Rattle.std.proofs.Math.Seq.{take-length}
 use Rattle.std.proofs.lemmas.List.Folds.{list_any_at}
 use Rattle.kc_outline.specs.TreeValue.{DefinitionValue}
-use Rattle.kc_tree.proofs.DependencyLaws.{any_filtered}
+use Rattle.kc_tree.proofs.RowLaws.{any_filtered}
 use Rattle.kc_tree.proofs.symbol_faults.has_two_prompts.Goals as goal
 
 pub returns-then-is_prompted_again : goal.returns-then-is_prompted_again

@@ -6,7 +6,7 @@ use Rattle.std.proofs.lemmas.List.Folds.{list_any_at}
 use Rattle.kc_statement.specs.declared.symbol_type.SymbolType.{SymbolType}
 use Rattle.kc_tree.specs.SymbolFaults.{has_unfit}
 use Rattle.kc_outline.specs.TreeValue.{definitions_of}
-use Rattle.kc_tree.proofs.DependencyLaws.{any_filtered}
+use Rattle.kc_tree.proofs.RowLaws.{any_filtered}
 use Rattle.kc_tree.proofs.symbol_faults.has_unfit_default.Goals as goal
 
 pub returns-then-has_unfit : goal.returns-then-has_unfit

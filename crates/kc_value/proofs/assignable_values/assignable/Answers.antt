@@ -1,58 +1,39 @@
-use Rattle.std.proofs.Common.{◌≡◌, [], ◌∷◌, true, false, sym, ap, ◌∙◌}
-use Rattle.std.specs.Prelude.{is_some}
-use Rattle.std.proofs.lemmas.Result.{IfOk-weaker}
+use Rattle.std.proofs.Common.{◌≡◌, [], ◌∷◌, IfOk, sym, ◌∙◌, subst}
 use Rattle.kc_tree.specs.declared.node.Node.TheVariants.{Vis, Val}
-use Rattle.kc_outline.specs.TreeValue.{choice_of}
-use Rattle.kc_statement.specs.declared.tri.Tri.TheVariants.{Yes}
-use Rattle.kc_statement.specs.Tristate.{is_no}
-use Rattle.kc_value.specs.Assignment.{as_tri}
+use Rattle.kc_tree.specs.Nodes.{IsNodeOf}
 use Rattle.kc_value.specs.Assignable.{assignable_values}
-use Rattle.kc_value.specs.Solution.{solution}
-use Rattle.kc_value.proofs.AssignableLemmas.{visible_values, member_values, no_values}
+use Rattle.kc_value.specs.UserValues.{IsUserFor}
+use Rattle.kc_value.proofs.GatheringLemmas.{asked_right, second_in_both}
+use Rattle.kc_value.proofs.SolutionLaws.{one_solution}
 use Rattle.kc_value.proofs.assignable_values.assignable.Goals as goal
 
-pub returns-then-is_no-clause-values : goal.returns-then-is_no-clause-values
-unfolding assignable_values
-returns-then-is_no-clause-values g c =
-    let t = g.R.Resolver.tree_of c.args.resolver.now in
-    let u = g.R.Resolver.user_of c.args.resolver.now in
-    let seen : is_no (as_tri (solution t u (Vis c.args.symbol))) ≡ true = sym (ap is_no (c.as_tri-visibility.ensures ∙ ap as_tri c.in_ok-node.ensures.value)) ∙ sym c.is_no.ensures ∙ c.if-is_no.true in
-    no_values t u c.args.symbol _ c.new.ensures.items seen
-
-pub returns-then-is_member-clause-values : goal.returns-then-is_member-clause-values
-unfolding assignable_values
-returns-then-is_member-clause-values g c =
-    let t = g.R.Resolver.tree_of c.args.resolver.now in
-    let u = g.R.Resolver.user_of c.args.resolver.now in
-    let s = c.args.symbol in
-    let seen : is_no (as_tri (solution t u (Vis s))) ≡ false = sym (ap is_no (c.as_tri-visibility.ensures ∙ ap as_tri c.in_ok-node.ensures.value)) ∙ sym c.is_no.ensures ∙ c.if-is_no.false in
-    let member : is_some (choice_of t s) ≡ true = sym (ap (λ x. is_some (choice_of x s)) (c.tree.ensures ∙ c.node.follows.holds-at-none.0)) ∙ sym c.is_member.ensures.member ∙ c.if-is_member.true in
-    IfOk-weaker c.one_value.result (λ v. v.items ≡ Yes ∷ []) (λ v. v.items ≡ assignable_values t u s) (λ v is. member_values t u s v.items is seen member) c.one_value.ensures
-
-pub shown_values-requires-clause-alone : goal.shown_values-requires-clause-alone
-shown_values-requires-clause-alone g c =
-    ap (λ x. is_some (choice_of x c.args.symbol)) (c.tree-2.ensures ∙ c.used_values.ensures.tree ∙ sym c.tree.ensures) ∙ sym c.is_member.ensures.member ∙ c.if-is_member.false
-
-pub returns-in_err-env-clause-grew : goal.returns-in_err-env-clause-grew
-returns-in_err-env-clause-grew g c =
-    g.met.R.Resolver.grew_then _ _ _ (Vis c.args.symbol ∷ []) (Val c.args.symbol ∷ []) c.node.follows.holds-at-none.2 c.used_values.ensures.grew
+pub returns-in_err-values-clause-solved : goal.returns-in_err-values-clause-solved
+returns-in_err-values-clause-solved g c = one_solution (g.R.Resolver.tree_of c.args.resolver.now) (g.R.Resolver.user_of c.args.resolver.now) c.used_values.ensures.accepted
 
 pub returns-in_err-values-clause-grew : goal.returns-in_err-values-clause-grew
 returns-in_err-values-clause-grew g c =
-    g.met.R.Resolver.grew_then _ _ _ (Vis c.args.symbol ∷ []) (Val c.args.symbol ∷ []) c.node.follows.holds-at-none.2 c.used_values.ensures.grew
+    let s = c.args.symbol in
+    g.met.R.Resolver.grew_wider _ _ (Val s ∷ []) (Vis s ∷ Val s ∷ []) (second_in_both (g.R.Resolver.tree_of c.args.resolver.now) (Vis s) (Val s)) c.used_values.ensures.grew
+
+pub assignable_among-requires : goal.assignable_among-requires
+assignable_among-requires g c =
+    record { inside = subst (λ x. IsNodeOf x (Vis c.args.symbol)) (sym (c.of_nodes.ensures.tree ∙ c.tree.ensures ∙ c.used_values.ensures.tree)) c.requires }
 
 pub returns-clause-values : goal.returns-clause-values
-unfolding assignable_values
 returns-clause-values g c =
     let t = g.R.Resolver.tree_of c.args.resolver.now in
     let u = g.R.Resolver.user_of c.args.resolver.now in
     let s = c.args.symbol in
-    let seen : is_no (as_tri (solution t u (Vis s))) ≡ false = sym (ap is_no (c.as_tri-visibility.ensures ∙ ap as_tri c.in_ok-node.ensures.value)) ∙ sym c.is_no.ensures ∙ c.if-is_no.false in
-    let alone : is_some (choice_of t s) ≡ false = sym (ap (λ x. is_some (choice_of x s)) (c.tree.ensures ∙ c.node.follows.holds-at-none.0)) ∙ sym c.is_member.ensures.member ∙ c.if-is_member.false in
-    visible_values t _ _ u _ s c.in_ok-env.env c.in_ok-values.values.items
-    c.node.follows.holds-at-none.0 c.node.follows.holds-at-none.1 (c.tree-2.ensures ∙ c.used_values.ensures.tree ∙ c.node.follows.holds-at-none.0)
-    c.node.ensures.fitting c.in_ok-env.ensures.values c.in_ok-values.ensures seen alone
+    let tree : c.of_nodes.result.tree ≡ t = c.of_nodes.ensures.tree ∙ c.tree.ensures ∙ c.used_values.ensures.tree in
+    let sized : IsUserFor t u = subst (λ w. IsUserFor t w) c.used_values.ensures.user (subst (λ x. IsUserFor x (g.R.Resolver.user_of c.used_values.new.resolver)) c.used_values.ensures.tree c.user.ensures.fitting) in
+    let right = asked_right t _ u c.in_ok-values.values _ (Val s) tree c.of_nodes.ensures.values c.in_ok-values.ensures.values in
+    subst (λ x. IfOk c.assignable_among.result (λ v. v.items ≡ assignable_values x u s)) tree
+    (c.assignable_among.ensures.used u (subst (λ x. IsUserFor x u) (sym tree) sized) right)
+
+pub returns-clause-solved : goal.returns-clause-solved
+returns-clause-solved g c = one_solution (g.R.Resolver.tree_of c.args.resolver.now) (g.R.Resolver.user_of c.args.resolver.now) c.used_values.ensures.accepted
 
 pub returns-clause-grew : goal.returns-clause-grew
 returns-clause-grew g c =
-    g.met.R.Resolver.grew_then _ _ _ (Vis c.args.symbol ∷ []) (Val c.args.symbol ∷ []) c.node.follows.holds-at-none.2 c.used_values.ensures.grew
+    let s = c.args.symbol in
+    g.met.R.Resolver.grew_wider _ _ (Val s ∷ []) (Vis s ∷ Val s ∷ []) (second_in_both (g.R.Resolver.tree_of c.args.resolver.now) (Vis s) (Val s)) c.used_values.ensures.grew

@@ -1,58 +1,44 @@
-use Rattle.std.proofs.Common.{◌+◌, ◌∙◌, map, subst, arith}
-use Rattle.std.proofs.lemmas.List.{length-map, take_all}
-use Rattle.kc_graph.specs.Shared.{whole_row}
-use Rattle.kc_tree.specs.Nodes.{node_at, node_count}
+use Rattle.std.proofs.Common.{◌≡◌, ◌++◌, ◌∷◌, [], ◌+◌, ℕ, get_or, take, subst, ⊎_elim, inl, inr, sym, arith}
+use Rattle.std.specs.List.{Contains}
+use Rattle.std.proofs.lemmas.List.{take_all, take_more}
+use Rattle.std.proofs.lemmas.List.Elements.{Contains-append_left, Contains-get_or, Contains-push, Contains-push_cases}
 use Rattle.kc_value.specs.DropWalk.{DropsAll}
-use Rattle.kc_value.proofs.DropSteps.{drops_nothing, nothing_absent, row_next, row_passed_to}
+use Rattle.kc_value.proofs.DropSteps.{drops_then, nothing_dropped}
 use Rattle.kc_value.proofs.dropping.drop_row.Goals as goal
 
-pub loop-place-init : goal.loop-place-init
-loop-place-init c =
-    let t = c.args.tree.now in
-    let inside = c.next_to_drop-place.ensures.inside (omega arith) in
-    let nothing = nothing_absent t c.args.values.now c.summaries.result.now c.args.numbers.now 0 c.next_to_drop-place.result c.summaries.ensures c.requires.whole c.next_to_drop-place.ensures.nothing in
-    record {
-      inside = inside;
-      drops = row_passed_to t c.args.table.now c.args.numbers.now c.args.values.now c.args.values.now (map (node_at t) c.args.list.now.items) (map (node_at t) c.args.list.now.items) 0 c.next_to_drop-place.result
-          (omega arith) inside nothing (drops_nothing t c.args.values.now (map (node_at t) c.args.list.now.items));
-      walked = c.requires.walked;
-      capacity = omega arith;
-    }
+pub drop_one-requires-clause-inside : goal.drop_one-requires-clause-inside
+drop_one-requires-clause-inside c =
+    let listed = Contains-get_or c.args.numbers.now c.loop-number.number-index 0 c.loop-number-test.true in
+    omega (arith, c.requires.inside _ listed, c.loop-number.invariant.drops.whole)
 
-pub loop-place-preserved : goal.loop-place-preserved
-loop-place-preserved c =
-    let t = c.args.tree.now in
-    let now = c.loop-place in
-    let before = map (node_at t) c.args.list.now.items in
-    let after = map (node_at t) c.drop_for_number.new.list.items in
-    let next = c.next_to_drop-place-in-loop-place in
-    let inside = next.ensures.inside (omega (arith, c.loop-place-test.true)) in
-    let dropped = row_next c.args.tree.now c.args.numbers.now now.place c.args.values.now now.values c.drop_for_number.new.values
-    before (map (node_at t) now.list.items) after 0 c.loop-place-test.true c.args.table.now now.invariant.drops c.drop_for_number.ensures.drops in
-    let nothing = nothing_absent c.args.tree.now c.drop_for_number.new.values c.summaries-in-loop-place.result.now c.args.numbers.now (now.place + 1) next.result c.summaries-in-loop-place.ensures
-    (dropped.whole ∙ c.requires.whole) next.ensures.nothing in
+pub drop_one-requires-clause-room : goal.drop_one-requires-clause-room
+drop_one-requires-clause-room c = omega (arith, c.requires.room, c.loop-number.invariant.drops.room, c.loop-number.invariant.capacity)
+
+pub loop-number-init : goal.loop-number-init
+loop-number-init c = record {
+  drops = nothing_dropped (Contains (take 0 c.args.numbers.now)) c.args.values.now c.args.list.now.items (λ k listed. absurd (omega (arith, listed.1)));
+  capacity = omega arith;
+}
+
+pub loop-number-preserved : goal.loop-number-preserved
+loop-number-preserved c =
+    let now = c.loop-number in
+    let numbers = c.args.numbers.now in
+    let i = now.number-index in
+    let next : ℕ = get_or numbers i 0 in
+    let more : take (i + 1) numbers ≡ take i numbers ++ next ∷ [] = take_more numbers i 0 c.loop-number-test.true in
     record {
-      inside = inside;
-      drops = row_passed_to c.args.tree.now c.args.table.now c.args.numbers.now c.args.values.now c.drop_for_number.new.values before after
-          (now.place + 1) next.result next.ensures.from inside nothing dropped;
-      walked = c.drop_for_number.ensures.walked;
-      capacity = omega (arith, now.invariant.capacity, c.drop_for_number.ensures.capacity);
+      drops = drops_then (Contains (take i numbers)) (λ k. k ≡ next) (Contains (take (i + 1) numbers)) c.args.values.now now.values c.drop_one.new.values
+          c.args.list.now.items now.list.items c.drop_one.new.list.items
+          (λ k listed. subst (λ xs. Contains xs k) (sym more) (Contains-append_left (take i numbers) (next ∷ []) k listed))
+          (λ k e. subst (λ xs. Contains xs k) (sym more) (subst (Contains (take i numbers ++ next ∷ [])) (sym e) (Contains-push (take i numbers) next)))
+          (λ k listed. ⊎_elim (λ early. inl early) (λ same. inr (sym same)) (Contains-push_cases (take i numbers) next k (subst (λ xs. Contains xs k) more listed)))
+          now.invariant.drops c.drop_one.ensures.drops;
+      capacity = omega (arith, now.invariant.capacity, c.drop_one.ensures.capacity);
     }
 
 pub returns-clause-drops : goal.returns-clause-drops
 returns-clause-drops c =
-    let t = c.args.tree.now in
-    let now = c.loop-place in
-    subst (λ ks. DropsAll t (map (node_at t) (whole_row (node_count t) c.args.table.now ks)) c.args.values.now now.values (map (node_at t) c.args.list.now.items) (map (node_at t) now.list.items))
-    (take_all now.place c.args.numbers.now (omega (arith, c.loop-place-test.false))) now.invariant.drops
-
-pub drop_for_number-requires-clause-room : goal.drop_for_number-requires-clause-room
-drop_for_number-requires-clause-room c =
-    omega (
-      arith,
-      c.requires.room,
-      c.loop-place.invariant.drops.room,
-      c.loop-place.invariant.capacity,
-      length-map c.args.list.now.items (node_at c.args.tree.now),
-      length-map c.loop-place.list.items (node_at c.args.tree.now),
-    )
+    let now = c.loop-number in
+    subst (λ ks. DropsAll (Contains ks) c.args.values.now now.values c.args.list.now.items now.list.items)
+    (take_all now.number-index c.args.numbers.now (omega (arith, c.loop-number-test.false))) now.invariant.drops

@@ -3,7 +3,7 @@ use Rattle.std.proofs.lemmas.List.{append_assoc, append-nil}
 use Rattle.kc_outline.specs.TreeValue.{BlockValue, blocks_from}
 use Rattle.kc_outline.specs.declared.limits.TheConstants.{MOST_OPEN_BLOCKS}
 use Rattle.kc_tree.specs.ConditionTable.{own_lines, depends_around}
-use Rattle.kc_value.specs.Assignment.{assignment_of}
+use Rattle.kc_value.specs.Known.{given}
 use Rattle.kc_value.specs.Factors.{Judged, judged, judged_factors}
 use Rattle.kc_value.proofs.BlockLemmas.{blocks_from-next, blocks_from-none}
 use Rattle.kc_value.proofs.FactorLists.{judged_depends}
@@ -11,22 +11,22 @@ use Rattle.kc_value.proofs.factors.add_depends_around.Goals as goal
 
 pub returns-in_default : goal.returns-in_default
 returns-in_default c =
-    let t = c.args.tree.now in
-    let all : List BlockValue → List Judged = λ blocks. judged_factors t (assignment_of t c.args.values.now) (depends_around blocks) in
+    let t = c.args.known.now.tree in
+    let all : List BlockValue → List Judged = λ blocks. judged_factors t (given c.args.known.now) (depends_around blocks) in
     let none : blocks_from t.blocks (MOST_OPEN_BLOCKS - c.loop.counter) c.loop.next ≡ [] = blocks_from-none t.blocks (MOST_OPEN_BLOCKS - c.loop.counter) c.loop.next (search rules) in
     sym (append-nil (map judged c.loop.factors.items)) ∙ ap (λ bs. map judged c.loop.factors.items ++ all bs) (sym none) ∙ c.loop.invariant
 
 pub returns-in_default-block_at : goal.returns-in_default-block_at
 returns-in_default-block_at c =
-    let t = c.args.tree.now in
-    let all : List BlockValue → List Judged = λ blocks. judged_factors t (assignment_of t c.args.values.now) (depends_around blocks) in
+    let t = c.args.known.now.tree in
+    let all : List BlockValue → List Judged = λ blocks. judged_factors t (given c.args.known.now) (depends_around blocks) in
     let none : blocks_from t.blocks (MOST_OPEN_BLOCKS - c.loop.counter) c.loop.next ≡ [] = blocks_from-none t.blocks (MOST_OPEN_BLOCKS - c.loop.counter) c.loop.next (search rules) in
     sym (append-nil (map judged c.loop.factors.items)) ∙ ap (λ bs. map judged c.loop.factors.items ++ all bs) (sym none) ∙ c.loop.invariant
 
 pub loop-preserved : goal.loop-preserved
 loop-preserved c =
-    let t = c.args.tree.now in
-    let a = assignment_of c.args.tree.now c.args.values.now in
+    let t = c.args.known.now.tree in
+    let a = given c.args.known.now in
     let all : List BlockValue → List Judged = λ blocks. judged_factors t a (depends_around blocks) in
     let left = MOST_OPEN_BLOCKS - (c.loop.counter + 1) in
     let block = c.in-Some-block_at.block.now in
@@ -43,7 +43,7 @@ loop-preserved c =
 
 pub returns : goal.returns
 returns c =
-    let t = c.args.tree.now in
-    let all : List BlockValue → List Judged = λ blocks. judged_factors t (assignment_of t c.args.values.now) (depends_around blocks) in
+    let t = c.args.known.now.tree in
+    let all : List BlockValue → List Judged = λ blocks. judged_factors t (given c.args.known.now) (depends_around blocks) in
     let end : MOST_OPEN_BLOCKS - c.loop.counter ≡ 0 = search rules in
     sym (append-nil (map judged c.loop.factors.items)) ∙ ap (λ n. map judged c.loop.factors.items ++ all (blocks_from t.blocks n c.loop.next)) (sym end) ∙ c.loop.invariant

@@ -1,17 +1,17 @@
 use Rattle.std.proofs.Common.{◌≡◌, map}
 use Rattle.std.proofs.lemmas.Result.{IfOk-weaker}
 use Rattle.kc_statement.specs.Tristate.{least_of}
-use Rattle.kc_value.specs.Assignment.{assignment_of}
+use Rattle.kc_value.specs.Known.{given}
 use Rattle.kc_value.specs.Factors.{judged, judged_of, worth_of, comment_condition_at}
 use Rattle.kc_value.proofs.FactorLists.{least_judged_of}
 use Rattle.kc_value.proofs.factors.comment_factors.Goals as goal
 
 pub returns-clause-value : goal.returns-clause-value
 returns-clause-value c =
-    let t = c.args.tree.now in
-    let a = assignment_of c.args.tree.now c.args.values.now in
+    let t = c.args.known.now.tree in
+    let a = given c.args.known.now in
     IfOk-weaker c.comment_list.result
-    (λ v. map judged v.items ≡ judged_of t a (comment_condition_at c.args.tree.now c.args.comment))
-    (λ v. least_of (map (λ f. f.value) v.items) ≡ worth_of t a (comment_condition_at c.args.tree.now c.args.comment))
-    (λ v is. least_judged_of t a (comment_condition_at c.args.tree.now c.args.comment) v.items is)
+    (λ v. map judged v.items ≡ judged_of t a (comment_condition_at c.args.known.now.tree c.args.comment))
+    (λ v. least_of (map (λ f. f.value) v.items) ≡ worth_of t a (comment_condition_at c.args.known.now.tree c.args.comment))
+    (λ v is. least_judged_of t a (comment_condition_at c.args.known.now.tree c.args.comment) v.items is)
     c.comment_list.ensures

@@ -31,6 +31,15 @@ returns-in_err-value-clause-grew g c =
     let uses : Uses t n next = used_at t _ n _ _ _ c.tree.ensures c.uses.ensures.exact c.in_ok-nodes.ensures c.as_slice-next-items.ensures.value c.loop-next.next-index any c.loop-next-test.true in
     laws.grew_wider _ _ (n ∷ [] ++ next ∷ []) (n ∷ []) (used_in_one t n next uses) (laws.grew_then _ _ _ (n ∷ []) (next ∷ []) c.loop-next.invariant.grew c.value_at.ensures.grew)
 
+pub returns-in_err-put-clause-grew : goal.returns-in_err-put-clause-grew
+returns-in_err-put-clause-grew g c =
+    let laws = g.met.R.Resolver in
+    let t = g.R.Resolver.tree_of c.args.resolver.now in
+    let n = c.args.node in
+    let next : Node = get_or c.as_slice-next-items.result.now c.loop-next.next-index any in
+    let uses : Uses t n next = used_at t _ n _ _ _ c.tree.ensures c.uses.ensures.exact c.in_ok-nodes.ensures c.as_slice-next-items.ensures.value c.loop-next.next-index any c.loop-next-test.true in
+    laws.grew_wider _ _ (n ∷ [] ++ next ∷ []) (n ∷ []) (used_in_one t n next uses) (laws.grew_then _ _ _ (n ∷ []) (next ∷ []) c.loop-next.invariant.grew c.value_at.ensures.grew)
+
 pub put-requires : goal.put-requires
 put-requires g c =
     let t = g.R.Resolver.tree_of c.args.resolver.now in
@@ -74,9 +83,9 @@ loop-next-preserved g c =
       tree = c.value_at.ensures.tree ∙ kept.tree;
       user = c.value_at.ensures.user ∙ kept.user;
       grew = laws.grew_wider _ _ (n ∷ [] ++ next ∷ []) (n ∷ []) (used_in_one t n next uses) (laws.grew_then _ _ _ (n ∷ []) (next ∷ []) kept.grew c.value_at.ensures.grew);
-      long = ap length c.put.ensures ∙ length-set env c.number-number.result (Some v) ∙ kept.long;
+      long = ap length c.in_ok-put.ensures.value ∙ length-set env c.number-number.result (Some v) ∙ kept.long;
       right = λ m k.
-          ap (λ vs. assignment_of t vs m) c.put.ensures
+          ap (λ vs. assignment_of t vs m) c.in_ok-put.ensures.value
           ∙ ap (λ j. assignment_of t (slice_set env j (Some v)) m) number
           ∙ one_more_right t u items i any c.loop-next-test.true inside nodes_in env v kept.long is kept.right m k;
     }

@@ -1,6 +1,10 @@
-use Rattle.kc_session.proofs.AskedLaws.{choices_there}
+use Rattle.kc_session.proofs.AskedLaws.{selections_there, modes_there}
 use Rattle.kc_session.proofs.kept_resolver.KeptResolver.choices.Goals as goal
 
 pub choices_text-requires-clause-asked : goal.choices_text-requires-clause-asked
 choices_text-requires-clause-asked c =
-    choices_there c.args.self.now c.fill_choices.new.self c.tree.result.now c.values.result.now c.fill_choices.ensures.laws.numbered c.tree.ensures c.values.ensures.values c.fill_choices.ensures.asked c.in_ok-fill_choices.ensures.done
+    selections_there c.args.self.now c.fill_choices.new.self c.solved.result c.fill_choices.ensures.laws.numbered c.solved.ensures.solved c.fill_choices.ensures.asked c.in_ok-fill_choices.ensures.done
+
+pub choices_text-requires-clause-modes : goal.choices_text-requires-clause-modes
+choices_text-requires-clause-modes c =
+    modes_there c.args.self.now c.fill_choices.new.self c.solved.result c.fill_choices.ensures.laws.numbered c.solved.ensures.solved c.fill_choices.ensures.asked c.in_ok-fill_choices.ensures.done

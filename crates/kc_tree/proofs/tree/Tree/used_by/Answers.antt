@@ -1,9 +1,11 @@
-use Rattle.std.proofs.Common.{length, ap}
+use Rattle.std.proofs.Common.{◌↔◌, List, subst, sym}
+use Rattle.std.specs.List.{Contains}
+use Rattle.kc_tree.specs.declared.node.Node.{Node}
 use Rattle.kc_tree.specs.Uses.{Uses}
-use Rattle.kc_tree.proofs.NodeGraphLaws.{row_exact}
+use Rattle.kc_tree.proofs.UserLaws.{users_exact}
 use Rattle.kc_tree.proofs.tree.Tree.used_by.Goals as goal
 
 pub returns-clause-exact : goal.returns-clause-exact
-returns-clause-exact c =
-    row_exact c.self.inside.outline c.args.self.now (λ x n m. Uses x m n) c.self.inside.used_by c.args.node (length c.symbols-symbols.result.now) c.number_in.result c.row.result c.of.result
-    c.self.view_is c.self.invariant.used_by c.requires (ap length c.symbols-symbols.ensures) c.number_in.ensures c.row.ensures.row c.of.ensures
+returns-clause-exact c = λ m.
+    let t = c.args.self.now in
+    subst (λ (ns : List Node). Contains ns m ↔ Uses t m c.args.node) (sym c.of.ensures.users) (users_exact t c.args.node c.requires m)

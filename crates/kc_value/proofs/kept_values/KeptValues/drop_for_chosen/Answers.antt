@@ -1,30 +1,81 @@
-use Rattle.std.proofs.Common.{◌&&◌, not, is_some, ap, ◌∙◌}
+use Rattle.std.proofs.Common.{◌≡◌, ◌&&◌, [], not, is_some, length, ap, ◌∙◌, arith}
 use Rattle.kc_value.specs.ChangedValue.{same_mark, same_member}
+use Rattle.kc_value.specs.DropWalk.{DropsAll, IsChangedNumber, IsDropped, IsOneIf}
+use Rattle.kc_value.specs.Kept.{KeptValue}
 use Rattle.kc_value.specs.UserValues.{with_chosen}
 use Rattle.kc_value.specs.Without.{is_optional_choice}
 use Rattle.kc_value.proofs.DirtyLaws.{kept_after}
-use Rattle.kc_value.proofs.EditLemmas.{chosen_edits}
+use Rattle.kc_value.proofs.DropSteps.{walk_begun}
+use Rattle.kc_value.proofs.EditLemmas.{chosen_drops, dropped_edits, drops_begun, listed_inside}
+use Rattle.kc_value.proofs.KeptCounts.{value_count-within}
 use Rattle.kc_value.proofs.SolutionLaws.{one_solution}
 use Rattle.kc_value.proofs.kept_values.KeptValues.drop_for_chosen.Goals as goal
 
-pub returns-clause-edits : goal.returns-clause-edits
-returns-clause-edits c =
+pub drop_if-requires-clause-room : goal.drop_if-requires-clause-room
+drop_if-requires-clause-room c = omega (arith, ap length c.clear.ensures.items, c.clear.ensures.capacity, value_count-within c.self.inside.values, c.self.invariant)
+
+pub drop_if-requires-2-clause-room : goal.drop_if-requires-2-clause-room
+drop_if-requires-2-clause-room c = omega (arith, ap length c.clear.ensures.items, c.clear.ensures.capacity, value_count-within c.self.inside.values, c.self.invariant, c.drop_if.ensures.drops.room, c.drop_if.ensures.capacity)
+
+pub walk-requires-clause-room : goal.walk-requires-clause-room
+walk-requires-clause-room c = omega (arith, ap length c.clear.ensures.items, c.clear.ensures.capacity, value_count-within c.self.inside.values, c.self.invariant, c.drop_if.ensures.drops.room, c.drop_if.ensures.capacity, c.drop_if-2.ensures.drops.room, c.drop_if-2.ensures.capacity)
+
+pub walk-requires-clause-inside : goal.walk-requires-clause-inside
+walk-requires-clause-inside c =
     let t = c.args.tree.now in
     let u = c.args.user.now in
-    let d = c.args.choice in
+    let old = c.args.self.now.values in
+    let held = c.self.inside.values in
+    let cleared = c.clear.new.self.items in
+    let values : held ≡ old = ap (λ (k : KeptValue). k.values) c.self.view_is in
+    let k = c.args.choice in
     let m = c.args.member in
-    chosen_edits t u d m c.args.self.now c.drop_if.new.self c.drop_if-2.new.self c.is_mode_changed-mode_changes.result c.is_selection_changed-selection_changes.result
-    c.requires.inside c.requires.user
-    (c.is_mode_changed-mode_changes.ensures.change ∙ ap (λ x. is_optional_choice t d && not (same_mark (is_some x) (is_some m))) c.chosen-chosen.ensures)
+    let b = c.is_mode_changed-mode_changes.result in
+    let d = c.is_selection_changed-selection_changes.result in
+    let mode = c.number-mode.result in
+    let drops : DropsAll (IsChangedNumber c.args.tree.now c.args.user.now (with_chosen c.args.user.now c.args.choice c.args.member)) c.args.self.now.values c.drop_if-2.new.values [] c.drop_if-2.new.list.items =
+    chosen_drops t u k m old c.drop_if.new.values c.drop_if-2.new.values c.drop_if.new.list.items c.drop_if-2.new.list.items b d mode c.number-selection.result c.requires.inside c.requires.user
+    (c.is_mode_changed-mode_changes.ensures ∙ ap (λ x. is_optional_choice t k && not (same_mark (is_some x) (is_some m))) c.chosen-chosen.ensures)
     (c.is_selection_changed-selection_changes.ensures ∙ ap (λ x. not (same_member x m)) c.chosen-chosen.ensures)
-    c.drop_if.ensures.drops c.drop_if-2.ensures.drops c.drop_if.ensures.evals c.drop_if-2.ensures.evals
+    c.number-mode.ensures.number c.number-selection.ensures.number
+    (drops_begun (IsOneIf b mode) held old c.drop_if.new.values cleared c.drop_if.new.list.items values c.clear.ensures.items c.drop_if.ensures.drops)
+    c.drop_if-2.ensures.drops
+    in
+    listed_inside c.args.tree.now c.args.user.now (with_chosen c.args.user.now c.args.choice c.args.member) c.args.self.now.values c.drop_if-2.new.values c.drop_if-2.new.list.items drops
+
+walked : (c : goal.After-walk) → IsDropped c.args.tree.now c.args.user.now (with_chosen c.args.user.now c.args.choice c.args.member) c.args.self.now.values c.walk.new.values
+walked c =
+    let t = c.args.tree.now in
+    let u = c.args.user.now in
+    let w = with_chosen c.args.user.now c.args.choice c.args.member in
+    let old = c.args.self.now.values in
+    let held = c.self.inside.values in
+    let cleared = c.clear.new.self.items in
+    let values : held ≡ old = ap (λ (k : KeptValue). k.values) c.self.view_is in
+    let k = c.args.choice in
+    let m = c.args.member in
+    let b = c.is_mode_changed-mode_changes.result in
+    let d = c.is_selection_changed-selection_changes.result in
+    let mode = c.number-mode.result in
+    let drops : DropsAll (IsChangedNumber c.args.tree.now c.args.user.now (with_chosen c.args.user.now c.args.choice c.args.member)) c.args.self.now.values c.drop_if-2.new.values [] c.drop_if-2.new.list.items =
+    chosen_drops t u k m old c.drop_if.new.values c.drop_if-2.new.values c.drop_if.new.list.items c.drop_if-2.new.list.items b d mode c.number-selection.result c.requires.inside c.requires.user
+    (c.is_mode_changed-mode_changes.ensures ∙ ap (λ x. is_optional_choice t k && not (same_mark (is_some x) (is_some m))) c.chosen-chosen.ensures)
+    (c.is_selection_changed-selection_changes.ensures ∙ ap (λ x. not (same_member x m)) c.chosen-chosen.ensures)
+    c.number-mode.ensures.number c.number-selection.ensures.number
+    (drops_begun (IsOneIf b mode) held old c.drop_if.new.values cleared c.drop_if.new.list.items values c.clear.ensures.items c.drop_if.ensures.drops)
+    c.drop_if-2.ensures.drops
+    in
+    let closed = c.requires.kept.closed in
+    c.walk.ensures.drops u w old closed (walk_begun t c.walk.ensures.laws u w old closed c.drop_if-2.new.values c.drop_if-2.new.list.items drops)
+
+pub returns-clause-edits : goal.returns-clause-edits
+returns-clause-edits c =
+    dropped_edits c.args.tree.now c.args.user.now (with_chosen c.args.user.now c.args.choice c.args.member) c.args.self.now (record { values = c.walk.new.values; evals = c.self.inside.meter }) (walked c)
+    (ap (λ (k : KeptValue). k.evals) c.self.view_is)
 
 pub returns-clause-kept : goal.returns-clause-kept
 returns-clause-kept c =
-    let t = c.args.tree.now in
-    let u = c.args.user.now in
-    let w = with_chosen u c.args.choice c.args.member in
-    kept_after t u w c.is_mode_changed-mode_changes.ensures.accepted c.args.self.now c.drop_if-2.new.self c.requires.kept (returns-clause-edits c) c.drop_if-2.ensures.closed
+    kept_after c.args.tree.now c.args.user.now (with_chosen c.args.user.now c.args.choice c.args.member) c.walk.ensures.accepted c.walk.ensures.laws c.args.self.now.values c.walk.new.values c.requires.kept (walked c)
 
 pub returns-clause-solved : goal.returns-clause-solved
-returns-clause-solved c = λ u. one_solution c.args.tree.now u c.is_mode_changed-mode_changes.ensures.accepted
+returns-clause-solved c = λ u. one_solution c.args.tree.now u c.walk.ensures.accepted

@@ -1,55 +1,60 @@
-use Rattle.kc_tree.specs.declared.node.Node.{Node}
-use Rattle.kc_tree.specs.declared.node.Node.TheVariants.{Vis}
-use Rattle.kc_value.proofs.OrderSteps.{next_node, next_ready, next_filled, next_done, all_done, none_done, all_begun}
+use Rattle.kc_tree.specs.Nodes.{all_nodes}
+use Rattle.kc_value.specs.FillLaws.{fills_again}
+use Rattle.kc_value.proofs.OrderSteps.{all_begun, all_done, next_cell, next_done, next_ready, none_done}
 use Rattle.kc_value.proofs.SolutionLaws.{one_solution}
+use Rattle.std.proofs.Common.{refl}
 use Rattle.kc_value.proofs.kept_values.KeptValues.fill_all.Goals as goal
 
-abbrev any : Node
-any = Vis (record { 0 = 0 })
-
-pub loop-node-init : goal.loop-node-init
-loop-node-init c = record {
+pub loop-number-init : goal.loop-number-init
+loop-number-init c = record {
   kept = c.requires.kept;
   fills = all_begun c.args.tree.now c.args.self.now;
-  known = c.in_ok-found.ensures c.args.tree.now c.args.self.now.values;
-  done = none_done c.args.tree.now c.order-order.result.now c.args.self.now.values;
+  done = none_done c.cell_order-number-items.result.now c.args.self.now.values;
 }
 
 pub fill_next-requires-clause-inside : goal.fill_next-requires-clause-inside
-fill_next-requires-clause-inside c = next_node c.args.tree.now c.order-order.result.now c.order-order.ensures.order c.loop-node.node-index any c.loop-node-test.true
+fill_next-requires-clause-inside c =
+    let from = c.cell_order-number-items in
+    next_cell c.args.tree.now from.ensures.laws from.result.now from.ensures.order c.loop-number.number-index c.loop-number-test.true
+
+pub fill_next-requires-clause-kept : goal.fill_next-requires-clause-kept
+fill_next-requires-clause-kept c = c.loop-number.invariant.kept
 
 pub fill_next-requires-clause-ready : goal.fill_next-requires-clause-ready
 fill_next-requires-clause-ready c =
-    next_ready c.args.tree.now c.order-order.result.now c.order-order.ensures.order c.loop-node.node-index any c.loop-node-test.true c.loop-node.self.values c.loop-node.invariant.done
+    let from = c.cell_order-number-items in
+    next_ready c.args.tree.now from.ensures.laws from.result.now from.ensures.order c.loop-number.number-index c.loop-number-test.true c.loop-number.self.values c.loop-number.invariant.done
 
 pub returns-in_err-fill_next-clause-fills : goal.returns-in_err-fill_next-clause-fills
 returns-in_err-fill_next-clause-fills c =
-    next_filled c.args.tree.now c.order-order.result.now c.order-order.ensures.order c.loop-node.node-index any c.loop-node-test.true c.args.self.now c.loop-node.self c.fill_next.new.self
-    c.loop-node.invariant.fills c.fill_next.ensures.fills
-
-pub loop-node-preserved : goal.loop-node-preserved
-loop-node-preserved c =
     let t = c.args.tree.now in
-    let order = c.order-order.result.now in
-    let is = c.order-order.ensures.order in
-    let i = c.loop-node.node-index in
-    let now = c.loop-node.invariant in
+    fills_again t t (all_nodes t) (all_nodes t) c.args.self.now c.loop-number.self c.fill_next.new.self refl (λ n listed. listed) c.loop-number.invariant.fills c.fill_next.ensures.fills
+
+pub loop-number-preserved : goal.loop-number-preserved
+loop-number-preserved c =
+    let t = c.args.tree.now in
+    let from = c.cell_order-number-items in
+    let now = c.loop-number.invariant in
     record {
       kept = c.fill_next.ensures.kept;
-      fills = next_filled t order is i any c.loop-node-test.true c.args.self.now c.loop-node.self c.fill_next.new.self now.fills c.fill_next.ensures.fills;
-      known = c.fill_next.ensures.known;
-      done = next_done t order is i any c.loop-node-test.true c.loop-node.self c.fill_next.new.self now.done c.fill_next.ensures.fills c.in_ok-fill_next.ensures.done;
+      fills = fills_again t t (all_nodes t) (all_nodes t) c.args.self.now c.loop-number.self c.fill_next.new.self refl (λ n listed. listed) now.fills c.fill_next.ensures.fills;
+      done = next_done t from.ensures.laws from.result.now from.ensures.order c.loop-number.number-index c.loop-number-test.true c.loop-number.self.values c.fill_next.new.self.values now.done
+          c.fill_next.ensures.stay c.in_ok-fill_next.ensures.done;
     }
+
+pub returns-clause-kept : goal.returns-clause-kept
+returns-clause-kept c = c.loop-number.invariant.kept
+
+pub returns-clause-fills : goal.returns-clause-fills
+returns-clause-fills c = c.loop-number.invariant.fills
 
 pub returns-clause-done : goal.returns-clause-done
 returns-clause-done c =
-    all_done c.args.tree.now c.order-order.result.now c.order-order.ensures.order c.loop-node.node-index c.loop-node.self.values c.loop-node-test.false c.loop-node.invariant.done
-
-pub returns-in_err-found-clause-solved : goal.returns-in_err-found-clause-solved
-returns-in_err-found-clause-solved c = one_solution c.args.tree.now c.args.user.now c.order-order.ensures.accepted
+    let from = c.cell_order-number-items in
+    all_done c.args.tree.now from.ensures.laws from.result.now from.ensures.order c.loop-number.number-index c.loop-number.self.values c.loop-number-test.false c.loop-number.invariant.done
 
 pub returns-in_err-fill_next-clause-solved : goal.returns-in_err-fill_next-clause-solved
-returns-in_err-fill_next-clause-solved c = one_solution c.args.tree.now c.args.user.now c.order-order.ensures.accepted
+returns-in_err-fill_next-clause-solved c = one_solution c.args.tree.now c.args.user.now c.cell_order-number-items.ensures.accepted
 
 pub returns-clause-solved : goal.returns-clause-solved
-returns-clause-solved c = one_solution c.args.tree.now c.args.user.now c.order-order.ensures.accepted
+returns-clause-solved c = one_solution c.args.tree.now c.args.user.now c.cell_order-number-items.ensures.accepted

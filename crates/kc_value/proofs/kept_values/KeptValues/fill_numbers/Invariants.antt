@@ -1,16 +1,12 @@
 use Rattle.std.proofs.Common.{◌≤◌, map}
 use Rattle.std.specs.List.{range_with_len}
-use Rattle.kc_tree.specs.Nodes.{node_at, node_count}
-use Rattle.kc_value.specs.FillWalk.{AreMarked}
+use Rattle.kc_tree.specs.Nodes.{node_at}
 use Rattle.kc_value.specs.Kept.{AreKept, Fills}
-use Rattle.kc_value.specs.KnownConditions.{AreKnown}
 use Rattle.kc_value.proofs.NumberedSteps.{AreDone}
 use Rattle.kc_value.proofs.kept_values.KeptValues.fill_numbers.Given as goal
 
 abbrev pub invariant-loop-number : goal.invariant-loop-number
 invariant-loop-number l = record {
-  marked : AreMarked (node_count l.tree) l.table l.self.values l.marks.items;
-  known : AreKnown l.tree l.self.values l.found.depends.items l.found.visible.items l.found.own.items;
   kept : AreKept l.tree l.user l.self.values;
   fills : Fills l.tree (map (node_at l.tree) (range_with_len l.fn.first l.fn.count)) l.fn.self l.self;
   from : l.fn.first ≤ l.number;

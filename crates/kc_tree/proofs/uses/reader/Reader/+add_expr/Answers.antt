@@ -4,8 +4,8 @@ use Rattle.std.specs.List.{flat_map}
 use Rattle.kc_statement.proofs.NodeLaws.{all_falls, any_falls, not_falls, kept_as, formula_as}
 use Rattle.kc_tree.specs.declared.node.Node.{Node}
 use Rattle.kc_tree.specs.Uses.{value_nodes}
-use Rattle.kc_tree.specs.Collected.{Adds}
-use Rattle.kc_tree.proofs.CollectedLaws.{adds_none, adds_more}
+use Rattle.kc_tree.specs.CellRows.{Adds}
+use Rattle.kc_tree.proofs.RowLaws.{adds_none, adds_more}
 use Rattle.kc_tree.proofs.ExprLaws.{value_negated, all_parts, any_parts}
 use Rattle.kc_tree.proofs.uses.reader.Reader.+add_expr.Goals as goal
 

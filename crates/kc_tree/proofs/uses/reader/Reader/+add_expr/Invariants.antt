@@ -1,6 +1,6 @@
 use Rattle.std.proofs.Common.{length, take, flat_map}
 use Rattle.kc_tree.specs.Uses.{value_nodes}
-use Rattle.kc_tree.specs.Collected.{Adds}
+use Rattle.kc_tree.specs.CellRows.{Adds}
 use Rattle.kc_tree.proofs.uses.reader.Reader.+add_expr.Given as goal
 
 -- the row has what those so far read

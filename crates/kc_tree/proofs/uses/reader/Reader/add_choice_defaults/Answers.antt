@@ -1,5 +1,5 @@
 use Rattle.std.proofs.Common.{length}
-use Rattle.kc_tree.proofs.CollectedLaws.{adds_none}
+use Rattle.kc_tree.proofs.RowLaws.{adds_none}
 use Rattle.kc_tree.proofs.uses.reader.Reader.add_choice_defaults.Goals as goal
 
 pub loop-default-init : goal.loop-default-init

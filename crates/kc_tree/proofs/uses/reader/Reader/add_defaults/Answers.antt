@@ -1,7 +1,7 @@
 use Rattle.std.proofs.Common.{length}
 use Rattle.kc_tree.specs.Uses.{value_nodes, own_condition_nodes}
-use Rattle.kc_tree.specs.Collected.{default_alone_nodes}
-use Rattle.kc_tree.proofs.CollectedLaws.{adds_none, adds_then, adds_more}
+use Rattle.kc_tree.specs.Cells.{default_alone_nodes}
+use Rattle.kc_tree.proofs.RowLaws.{adds_none, adds_then, adds_more}
 use Rattle.kc_tree.proofs.uses.reader.Reader.add_defaults.Goals as goal
 
 pub loop-default-init : goal.loop-default-init

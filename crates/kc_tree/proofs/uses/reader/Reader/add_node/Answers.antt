@@ -2,7 +2,7 @@ use Rattle.std.proofs.Common.{◌≡◌, ◌≤◌, ◌<◌, ◌∙◌, ℕ, tru
 use Rattle.std.specs.Prelude.{nat_lt}
 use Rattle.std.proofs.lemmas.Bool.Decides.{nat_tests}
 use Rattle.kc_tree.specs.Nodes.{number_in, IsNodeOf}
-use Rattle.kc_tree.proofs.CollectedLaws.{IsPast, adds_none, adds_number, adds_equal, there_within, there_past}
+use Rattle.kc_tree.proofs.RowLaws.{IsPast, adds_none, adds_number, adds_equal, there_within, there_past}
 use Rattle.kc_tree.proofs.uses.reader.Reader.add_node.Goals.{in-Mode2, in-Vis2}
 use Rattle.kc_tree.proofs.uses.reader.Reader.add_node.Goals as goal
 

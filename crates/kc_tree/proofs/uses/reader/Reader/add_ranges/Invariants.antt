@@ -1,5 +1,6 @@
 use Rattle.std.proofs.Common.{length, take, flat_map}
-use Rattle.kc_tree.specs.Collected.{Adds, range_alone_nodes}
+use Rattle.kc_tree.specs.CellRows.{Adds}
+use Rattle.kc_tree.specs.Cells.{range_alone_nodes}
 use Rattle.kc_tree.proofs.uses.reader.Reader.add_ranges.Given as goal
 
 -- the row has what those so far read

@@ -1,7 +1,7 @@
 use Rattle.std.proofs.Common.{length, get_or}
 use Rattle.kc_tree.specs.Uses.{visibility_node}
 use Rattle.std.proofs.lemmas.List.{get_or_default}
-use Rattle.kc_tree.proofs.CollectedLaws.{adds_none, adds_more}
+use Rattle.kc_tree.proofs.RowLaws.{adds_none, adds_more}
 use Rattle.kc_tree.proofs.uses.reader.Reader.add_visibilities.Goals as goal
 
 pub loop-symbol-init : goal.loop-symbol-init

@@ -1,0 +1,30 @@
+use Rattle.std.proofs.Common.{length, map, ◌≡◌, ◌++◌, [], Option, Some, ap, sym, ◌∙◌, subst}
+use Rattle.std.specs.List.{slice_get}
+use Rattle.std.specs.Option.{option_map_or}
+use Rattle.std.proofs.lemmas.Option.{slice_get-get_or}
+use Rattle.std.proofs.lemmas.Result.{on_ok_weaker}
+use Rattle.kc_outline.specs.declared.id.BlockId.{BlockId}
+use Rattle.kc_tree.specs.declared.cell.Cell.TheVariants.{Visible}
+use Rattle.kc_tree.specs.Nodes.{IsNodeOf}
+use Rattle.kc_tree.specs.Uses.{conditions_nodes}
+use Rattle.kc_tree.specs.Cells.{cell_number, visible_cells, nodes_in}
+use Rattle.kc_tree.specs.CellRows.{Adds}
+use Rattle.kc_tree.proofs.CellSteps.{visible_few, row_of_condition}
+use Rattle.kc_tree.proofs.WithinLaws.{conditions}
+use Rattle.kc_tree.proofs.uses.reader.Reader.read_visible.Goals as goal
+
+pub returns : goal.returns
+returns c =
+    let t = c.args.self.now.outline.now in
+    let n = c.args.block in
+    let x = c.in-Some.block.now in
+    let there : slice_get t.blocks n.0 ≡ Some x = ap (λ ys. slice_get ys n.0) (sym c.blocks-2.ensures) ∙ slice_get-get_or c.blocks-2.result.now n.0 x c.in-Some.ensures.lookup.3.0 ∙ ap Some (sym c.in-Some.ensures.lookup.1) in
+    let ns = conditions_nodes t x.visible in
+    let nodes = subst (λ xs. Adds (length t.symbols) c.args.row.now.items c.add_conditions.new.row.items (conditions_nodes t xs)) c.visible.ensures c.in_ok-add_conditions.ensures in
+    on_ok_weaker c.add_visible.result
+    (λ (e : c.add_visible.new.row.items ≡ c.each_once.new.row.items ++ map (cell_number t) (visible_cells t c.parent.result)).
+    row_of_condition t (Visible n) ns (visible_cells t x.parent) _ _ _ _
+    (ap (λ o. option_map_or (λ y. nodes_in (conditions_nodes t y.visible) ++ visible_cells t y.parent) o []) there)
+    (conditions t (λ m. IsNodeOf t m) (λ s h. h) x.visible) (visible_few t x.parent) c.requires nodes c.each_once.ensures
+    (e ∙ ap (λ (o : Option BlockId). c.each_once.new.row.items ++ map (cell_number t) (visible_cells t o)) c.parent.ensures))
+    c.add_visible.ensures

@@ -1,6 +1,0 @@
-use Rattle.kc_value.proofs.KnownLaws.{nothing_found}
-use Rattle.kc_value.proofs.shared_conditions.SharedConditions.none.Goals as goal
-
-pub returns : goal.returns
-returns c = λ t values.
-    (nothing_found t values 0 0 0 c.new.result.items c.new-2.result.items c.new-3.result.items c.new.ensures.items c.new-2.ensures.items c.new-3.ensures.items).right
