@@ -1,15 +1,22 @@
 -- Lists of factors with their values.
 use Rattle.std.proofs.Common.{◌≡◌, List, [], ◌∷◌, ◌++◌, map, Option, Some, None, refl, sym, ap, ◌∙◌}
+use Rattle.std.specs.Prelude.{option_and_then, option_map, slice_get}
 use Rattle.std.specs.List.{flat_map}
 use Rattle.std.proofs.lemmas.List.{append_assoc, map-append}
+use Rattle.kc_statement.specs.declared.attribute.DefaultValue.{DefaultValue}
+use Rattle.kc_statement.specs.declared.attribute.Range.{Range}
 use Rattle.kc_statement.specs.declared.expr.Expr.{Expr}
 use Rattle.kc_statement.specs.Tristate.{least_of}
-use Rattle.kc_outline.specs.TreeValue.{TreeValue, BlockValue}
-use Rattle.kc_tree.specs.ConditionTable.{Condition, own_lines, depends_around, visible_around, also, Factor as Part, expression, factors}
+use Rattle.kc_outline.specs.TreeValue.{TreeValue, BlockValue, DefinitionValue}
+use Rattle.kc_tree.specs.ConditionTable.{Condition, own_lines, of_property, also, Factor as Part, expression, factors}
+use Rattle.kc_value.specs.declared.factors.BlockLines.{BlockLines}
+use Rattle.kc_value.specs.declared.factors.BlockLines.TheVariants.{Depends, Visible}
 use Rattle.kc_value.specs.declared.factors.Factor.{Factor}
+use Rattle.kc_value.specs.declared.places.DefaultPlace.{DefaultPlace}
+use Rattle.kc_value.specs.declared.places.RangePlace.{RangePlace}
 use Rattle.kc_value.specs.Assignment.{Assignment}
 use Rattle.kc_value.specs.Conditions.{condition_value, factor_value}
-use Rattle.kc_value.specs.Factors.{Judged, judged, judged_part, judged_expression, judged_factors, judged_of, worth_of}
+use Rattle.kc_value.specs.Factors.{Judged, judged, judged_part, judged_expression, judged_factors, judged_of, lines_of, of_blocks, worth_of, default_condition_at, range_condition_at}
 use Rattle.kc_value.proofs.FactorLaws.{value_of_factors}
 
 module _ (t : TreeValue) (a : Assignment) where
@@ -20,13 +27,14 @@ module _ (t : TreeValue) (a : Assignment) where
   judged_lines [] = refl
   judged_lines (e ∷ es) = ap (λ js. judged_expression t a e ∷ js) (judged_lines es)
 
-  pub judged_depends : (b : BlockValue) (bs : List BlockValue)
-      → judged_factors t a (depends_around (b ∷ bs)) ≡ judged_factors t a (own_lines b.depends) ++ judged_factors t a (depends_around bs)
-  judged_depends b bs = map-append (judged_part t a) (map expression b.depends) (flat_map (λ b. map expression b.depends) bs)
+  pub judged_blocks : (w : BlockLines) (b : BlockValue) (bs : List BlockValue)
+      → judged_factors t a (of_blocks w (b ∷ bs)) ≡ judged_factors t a (own_lines (lines_of w b)) ++ judged_factors t a (of_blocks w bs)
+  judged_blocks Depends b bs = map-append (judged_part t a) (map expression b.depends) (flat_map (λ b. map expression b.depends) bs)
+  judged_blocks Visible b bs = map-append (judged_part t a) (map expression b.visible) (flat_map (λ b. map expression b.visible) bs)
 
-  pub judged_visible : (b : BlockValue) (bs : List BlockValue)
-      → judged_factors t a (visible_around (b ∷ bs)) ≡ judged_factors t a (own_lines b.visible) ++ judged_factors t a (visible_around bs)
-  judged_visible b bs = map-append (judged_part t a) (map expression b.visible) (flat_map (λ b. map expression b.visible) bs)
+  pub judged_no_blocks : (w : BlockLines) → judged_factors t a (of_blocks w []) ≡ []
+  judged_no_blocks Depends = refl
+  judged_no_blocks Visible = refl
 
   values_judged : (fs : List Factor) → map (λ f. f.value) fs ≡ map (λ (j : Judged). j.value) (map judged fs)
   values_judged [] = refl
@@ -44,6 +52,23 @@ module _ (t : TreeValue) (a : Assignment) where
   pub least_judged_of : (o : Option Condition) (fs : List Factor) → map judged fs ≡ judged_of t a o → least_of (map (λ f. f.value) fs) ≡ worth_of t a o
   least_judged_of None fs h = ap least_of (values_judged fs ∙ ap (map (λ (j : Judged). j.value)) h)
   least_judged_of (Some c) fs h = least_judged c fs h
+
+  -- and so it is of the condition of a default or a range that was found, whose factors were added to none
+  pub least_default : (p : DefaultPlace) (d : DefinitionValue) (v : DefaultValue) (o : Option Expr) (old new : List Factor)
+      → slice_get t.definitions p.definition ≡ Some d → slice_get d.defaults p.default ≡ Some v → o ≡ v.condition
+      → map judged new ≡ map judged old ++ judged_factors t a (of_property t d o) → old ≡ [] → least_of (map (λ f. f.value) new) ≡ worth_of t a (default_condition_at t p)
+  least_default p d v o old new found has same added none =
+      least_judged (of_property t d o) new (added ∙ ap (λ (fs : List Factor). map judged fs ++ judged_factors t a (of_property t d o)) none)
+      ∙ ap (λ c. condition_value t a (of_property t d c)) same
+      ∙ sym (ap (λ x. worth_of t a (option_and_then (λ e. option_map (λ w. of_property t e w.condition) (slice_get e.defaults p.default)) x)) found ∙ ap (λ x. worth_of t a (option_map (λ (w : DefaultValue). of_property t d w.condition) x)) has)
+
+  pub least_range : (p : RangePlace) (d : DefinitionValue) (v : Range) (o : Option Expr) (old new : List Factor)
+      → slice_get t.definitions p.definition ≡ Some d → slice_get d.ranges p.range ≡ Some v → o ≡ v.condition
+      → map judged new ≡ map judged old ++ judged_factors t a (of_property t d o) → old ≡ [] → least_of (map (λ f. f.value) new) ≡ worth_of t a (range_condition_at t p)
+  least_range p d v o old new found has same added none =
+      least_judged (of_property t d o) new (added ∙ ap (λ (fs : List Factor). map judged fs ++ judged_factors t a (of_property t d o)) none)
+      ∙ ap (λ c. condition_value t a (of_property t d c)) same
+      ∙ sym (ap (λ x. worth_of t a (option_and_then (λ e. option_map (λ w. of_property t e w.condition) (slice_get e.ranges p.range)) x)) found ∙ ap (λ x. worth_of t a (option_map (λ (w : Range). of_property t d w.condition) x)) has)
 
   -- one condition after another
   pub joined : (c d : Condition) (js : List Judged) → (js ++ judged_factors t a c) ++ judged_factors t a d ≡ js ++ judged_factors t a (also c d)

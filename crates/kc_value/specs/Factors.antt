@@ -8,8 +8,10 @@ use Rattle.kc_statement.specs.declared.tri.Tri.TheVariants.{Yes}
 use Rattle.kc_outline.specs.declared.id.BlockId.{BlockId}
 use Rattle.kc_outline.specs.declared.id.ChoiceId.{ChoiceId}
 use Rattle.kc_outline.specs.declared.id.CommentId.{CommentId}
-use Rattle.kc_outline.specs.TreeValue.{TreeValue, choice_of, prompt_of, choice_prompt_of}
-use Rattle.kc_tree.specs.ConditionTable.{Condition, mode_of, also, of_prompt, of_property, of_menu, of_comment, of_choice_prompt, Factor as Part, expression, mode, missing, factors}
+use Rattle.kc_outline.specs.TreeValue.{TreeValue, BlockValue, choice_of, prompt_of, choice_prompt_of}
+use Rattle.kc_tree.specs.ConditionTable.{Condition, depends_around, visible_around, mode_of, also, of_prompt, of_property, of_menu, of_comment, of_choice_prompt, Factor as Part, expression, mode, missing, factors}
+use Rattle.kc_value.specs.declared.factors.BlockLines.{BlockLines}
+use Rattle.kc_value.specs.declared.factors.BlockLines.TheVariants.{Depends, Visible}
 use Rattle.kc_value.specs.declared.factors.Factor.{Factor}
 use Rattle.kc_value.specs.declared.factors.FactorPart.{FactorPart}
 use Rattle.kc_value.specs.declared.factors.FactorPart.TheVariants.{Expression, Mode as ModeOf, Missing as NoDefinition}
@@ -53,8 +55,18 @@ judged_of t a o = option_map_or (judged_factors t a) o []
 -- ---- where a factor is
 abbrev pub origin_in : Lines → ℕ → Origin
 origin_in lines.Own i = origin.Own i
-origin_in (lines.Depends b) i = origin.Block b i
-origin_in (lines.Visible b) i = origin.Visible b i
+origin_in (lines.Block b Depends) i = origin.Block b i
+origin_in (lines.Block b Visible) i = origin.Visible b i
+
+-- ---- the lines of blocks
+abbrev pub lines_of : BlockLines → BlockValue → List Expr
+lines_of Depends b = b.depends
+lines_of Visible b = b.visible
+
+-- what they are for who is inside
+abbrev pub of_blocks : BlockLines → List BlockValue → Condition
+of_blocks Depends bs = depends_around bs
+of_blocks Visible bs = visible_around bs
 
 -- ---- the conditions of the parts of a tree, by number: none where the tree has no such part
 abbrev pub worth_of : TreeValue → Assignment → Option Condition → Tri

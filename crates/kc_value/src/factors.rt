@@ -5,10 +5,10 @@ ghost use Rattle.std.specs.Option.{option_copied};
 ghost use Rattle.kc_statement.specs.declared.expr.Expr.{Expr};
 ghost use Rattle.kc_statement.specs.Tristate.{least_of};
 ghost use Rattle.kc_outline.specs.TreeValue.{blocks_around, choice_of};
-ghost use Rattle.kc_tree.specs.ConditionTable.{also, own_if, own_lines, depends_around, visible_around, mode_of, dependencies_in, dependencies, of_prompt, of_property, of_reverse, of_menu, of_comment, of_choice_prompt};
+ghost use Rattle.kc_tree.specs.ConditionTable.{also, own_if, own_lines, mode_of, dependencies_in, dependencies, of_prompt, of_property, of_reverse, of_menu, of_comment, of_choice_prompt};
 ghost use Rattle.kc_value.specs.Conditions.{condition_value};
 ghost use Rattle.kc_value.specs.Known.{given};
-ghost use Rattle.kc_value.specs.Factors.{judged, judged_factors, judged_of, judged_expression, worth_of, origin_in, prompt_condition, default_condition_at, range_condition_at, menu_condition_at, comment_condition_at, choice_condition_at};
+ghost use Rattle.kc_value.specs.Factors.{judged, judged_factors, judged_of, judged_expression, worth_of, lines_of, of_blocks, origin_in, prompt_condition, default_condition_at, range_condition_at, menu_condition_at, comment_condition_at, choice_condition_at};
 
 use crate::conditions::{block_at, mode_tri};
 use crate::expr_value::tri;
@@ -16,8 +16,7 @@ use crate::known::Known;
 use crate::places::{DefaultPlace, RangePlace};
 use kc_outline::MOST_OPEN_BLOCKS;
 use kc_tree::{
-    Block, BlockId, Choice, ChoiceId, Comment, CommentId, Definition, Expr, Prompt, Reverse, SymId,
-    Tree, Tri,
+    Block, BlockId, Choice, ChoiceId, Comment, CommentId, Definition, Expr, Prompt, Reverse, Tri,
 };
 use std::alloc::{AllocError, Global};
 
@@ -57,15 +56,34 @@ pub struct Factor<'t> {
     pub value: Tri,
 }
 
+/// Which lines of a block.
+#[derive(Clone, Copy)]
+enum BlockLines {
+    /// What all inside depends on.
+    Depends,
+    /// The `visible if` lines.
+    Visible,
+}
+
+impl BlockLines {
+    /// These lines of a block.
+    fn of(self, block: &Block) -> &[Expr]
+        ensures { result.now ≡ lines_of self block.now }
+    {
+        match self {
+            BlockLines::Depends => block.depends(),
+            BlockLines::Visible => block.visible(),
+        }
+    }
+}
+
 /// Lines that `&&` joins, by where they are.
 #[derive(Clone, Copy)]
 enum Lines {
     /// The own `depends on` lines.
     Own,
-    /// What all inside a block depends on.
-    Depends(BlockId),
-    /// The `visible if` lines of a block.
-    Visible(BlockId),
+    /// Lines of a block.
+    Block(BlockId, BlockLines),
 }
 
 impl Lines {
@@ -75,8 +93,8 @@ impl Lines {
     {
         match self {
             Lines::Own => Origin::Own(place),
-            Lines::Depends(block) => Origin::Block(block, place),
-            Lines::Visible(block) => Origin::Visible(block, place),
+            Lines::Block(block, BlockLines::Depends) => Origin::Block(block, place),
+            Lines::Block(block, BlockLines::Visible) => Origin::Visible(block, place),
         }
     }
 }
@@ -143,15 +161,15 @@ fn add_mode(
     Ok(())
 }
 
-/// Adds what all inside the blocks around a place depends on, from the innermost outwards. The error comes where memory
-/// is refused.
-fn add_depends_around<'t>(
+/// Adds lines of the blocks around a place, from the innermost outwards. The error comes where memory is refused.
+fn add_around<'t>(
     known: &Known<'t>,
     factors: &mut Vec<Factor<'t>>,
     innermost: Option<BlockId>,
+    lines: BlockLines,
 ) -> Result<(), AllocError>
     ensures { OnOk result (map judged factors.new.items ≡ map judged factors.old.items
-        ++ judged_factors known.now.tree (given known.now) (depends_around (blocks_around known.now.tree innermost))) }
+        ++ judged_factors known.now.tree (given known.now) (of_blocks lines (blocks_around known.now.tree innermost))) }
 {
     let mut next = innermost;
     for _ in 0..MOST_OPEN_BLOCKS {
@@ -161,31 +179,7 @@ fn add_depends_around<'t>(
         let Some(block) = block_at(known, next) else {
             return Ok(());
         };
-        add_lines(known, factors, block.depends(), Lines::Depends(id))?;
-        next = block.parent();
-    }
-    Ok(())
-}
-
-/// Adds the `visible if` lines of the blocks around a place, from the innermost outwards. The error comes where memory is
-/// refused.
-fn add_visible_around<'t>(
-    known: &Known<'t>,
-    factors: &mut Vec<Factor<'t>>,
-    innermost: Option<BlockId>,
-) -> Result<(), AllocError>
-    ensures { OnOk result (map judged factors.new.items ≡ map judged factors.old.items
-        ++ judged_factors known.now.tree (given known.now) (visible_around (blocks_around known.now.tree innermost))) }
-{
-    let mut next = innermost;
-    for _ in 0..MOST_OPEN_BLOCKS {
-        let Some(id) = next else {
-            return Ok(());
-        };
-        let Some(block) = block_at(known, next) else {
-            return Ok(());
-        };
-        add_lines(known, factors, block.visible(), Lines::Visible(id))?;
+        add_lines(known, factors, lines.of(block), Lines::Block(id, lines))?;
         next = block.parent();
     }
     Ok(())
@@ -202,7 +196,7 @@ fn add_dependencies<'t>(
         ++ judged_factors known.now.tree (given known.now) (dependencies known.now.tree definition.now)) }
 {
     add_lines(known, factors, definition.depends(), Lines::Own)?;
-    add_depends_around(known, factors, definition.block())
+    add_around(known, factors, definition.block(), BlockLines::Depends)
 }
 
 /// Adds the dependencies of the definition of a number; without one, that there is none. The error comes where memory is
@@ -255,15 +249,7 @@ fn add_prompt<'t>(
 {
     add_condition(known, factors, prompt.condition.as_ref())?;
     add_dependencies(known, factors, definition)?;
-    add_visible_around(known, factors, definition.block())
-}
-
-/// The choice that a symbol is a member of.
-fn choice_of(tree: &Tree, symbol: SymId) -> Option<ChoiceId>
-    ensures { result ≡ choice_of tree.now symbol }
-{
-    let symbol = tree.symbols().get(symbol.0 as usize)?;
-    symbol.choice()
+    add_around(known, factors, definition.block(), BlockLines::Visible)
 }
 
 /// Adds the condition of the prompt of a definition, and of a member of a choice the mode of the choice. The error comes
@@ -278,7 +264,7 @@ fn add_whole_prompt<'t>(
         ++ judged_factors known.now.tree (given known.now) (also (of_prompt known.now.tree definition.now prompt.now) (mode_of (choice_of known.now.tree definition.now.symbol)))) }
 {
     add_prompt(known, factors, definition, prompt)?;
-    add_mode(known, factors, choice_of(known.tree(), definition.symbol()))
+    add_mode(known, factors, known.tree().choice_of(definition.symbol()))
 }
 
 /// Adds the condition of a menu, which has this number. The error comes where memory is refused.
@@ -292,8 +278,13 @@ fn add_menu<'t>(
         ++ judged_factors known.now.tree (given known.now) (of_menu known.now.tree block.now)) }
 {
     add_lines(known, factors, block.depends(), Lines::Own)?;
-    add_depends_around(known, factors, block.parent())?;
-    add_lines(known, factors, block.visible(), Lines::Visible(menu))
+    add_around(known, factors, block.parent(), BlockLines::Depends)?;
+    add_lines(
+        known,
+        factors,
+        block.visible(),
+        Lines::Block(menu, BlockLines::Visible),
+    )
 }
 
 /// Adds the condition of a comment. The error comes where memory is refused.
@@ -306,7 +297,7 @@ fn add_comment<'t>(
         ++ judged_factors known.now.tree (given known.now) (of_comment known.now.tree comment.now)) }
 {
     add_lines(known, factors, comment.depends(), Lines::Own)?;
-    add_depends_around(known, factors, comment.block())?;
+    add_around(known, factors, comment.block(), BlockLines::Depends)?;
     add_mode(known, factors, comment.choice())
 }
 
@@ -321,25 +312,12 @@ fn add_choice_prompt<'t>(
         ++ judged_factors known.now.tree (given known.now) (of_choice_prompt known.now.tree choice.now prompt.now)) }
 {
     add_condition(known, factors, prompt.condition.as_ref())?;
-    add_depends_around(known, factors, Some(choice.block()))?;
-    add_visible_around(known, factors, Some(choice.block()))
-}
-
-/// Adds the condition of a `select` or `imply` line. The error comes where memory is refused.
-fn add_reverse<'t>(
-    known: &Known<'t>,
-    factors: &mut Vec<Factor<'t>>,
-    reverse: &'t Reverse,
-) -> Result<(), AllocError>
-    ensures { OnOk result (map judged factors.new.items ≡ map judged factors.old.items
-        ++ judged_factors known.now.tree (given known.now) (of_reverse known.now.tree reverse.now)) }
-{
-    add_condition(known, factors, reverse.condition.as_ref())?;
-    add_numbered(known, factors, reverse.definition)
+    add_around(known, factors, Some(choice.block()), BlockLines::Depends)?;
+    add_around(known, factors, Some(choice.block()), BlockLines::Visible)
 }
 
 /// Each factor of the dependencies of the definition of a number, in the order of docs/VALUES.md, "Conditions", with its
-/// value. `values` has the values of the nodes by number.
+/// value.
 ///
 /// # Errors
 ///
@@ -359,26 +337,6 @@ pub fn dependency_factors<'t>(
     Ok(factors)
 }
 
-/// The factors of the condition of a prompt of a definition by number.
-fn prompt_list<'t>(
-    alloc: Global,
-    known: &Known<'t>,
-    number: usize,
-) -> Result<Vec<Factor<'t>>, AllocError>
-    ensures { IfOk result (λ v. map judged v.items
-        ≡ judged_of known.now.tree (given known.now) (prompt_condition known.now.tree number)) }
-{
-    let mut factors = Vec::new(alloc);
-    let Some(definition) = known.definition(number) else {
-        return Ok(factors);
-    };
-    let Some(prompt) = definition.prompt() else {
-        return Ok(factors);
-    };
-    add_whole_prompt(known, &mut factors, definition, prompt)?;
-    Ok(factors)
-}
-
 /// Each factor of the condition of the prompt of a definition by number, and of a member of a choice the mode of the
 /// choice; none of a definition without a prompt, as its prompt is never shown.
 ///
@@ -395,26 +353,14 @@ pub fn prompt_factors<'t>(
     ensures value { IfOk result (λ v. least_of (map (λ f. f.value) v.items)
         ≡ worth_of known.now.tree (given known.now) (prompt_condition known.now.tree number)) }
 {
-    prompt_list(alloc, known, number)
-}
-
-/// The factors of the condition of a default.
-fn default_list<'t>(
-    alloc: Global,
-    known: &Known<'t>,
-    place: DefaultPlace,
-) -> Result<Vec<Factor<'t>>, AllocError>
-    ensures { IfOk result (λ v. map judged v.items
-        ≡ judged_of known.now.tree (given known.now) (default_condition_at known.now.tree place)) }
-{
     let mut factors = Vec::new(alloc);
-    let Some(definition) = known.definition(place.definition) else {
+    let Some(definition) = known.definition(number) else {
         return Ok(factors);
     };
-    let Some(default) = definition.defaults().get(place.default) else {
+    let Some(prompt) = definition.prompt() else {
         return Ok(factors);
     };
-    add_property(known, &mut factors, definition, default.condition.as_ref())?;
+    add_whole_prompt(known, &mut factors, definition, prompt)?;
     Ok(factors)
 }
 
@@ -433,26 +379,14 @@ pub fn default_factors<'t>(
     ensures value { IfOk result (λ v. least_of (map (λ f. f.value) v.items)
         ≡ worth_of known.now.tree (given known.now) (default_condition_at known.now.tree place)) }
 {
-    default_list(alloc, known, place)
-}
-
-/// The factors of the condition of a range.
-fn range_list<'t>(
-    alloc: Global,
-    known: &Known<'t>,
-    place: RangePlace,
-) -> Result<Vec<Factor<'t>>, AllocError>
-    ensures { IfOk result (λ v. map judged v.items
-        ≡ judged_of known.now.tree (given known.now) (range_condition_at known.now.tree place)) }
-{
     let mut factors = Vec::new(alloc);
     let Some(definition) = known.definition(place.definition) else {
         return Ok(factors);
     };
-    let Some(range) = definition.ranges().get(place.range) else {
+    let Some(default) = definition.defaults().get(place.default) else {
         return Ok(factors);
     };
-    add_property(known, &mut factors, definition, range.condition.as_ref())?;
+    add_property(known, &mut factors, definition, default.condition.as_ref())?;
     Ok(factors)
 }
 
@@ -471,7 +405,15 @@ pub fn range_factors<'t>(
     ensures value { IfOk result (λ v. least_of (map (λ f. f.value) v.items)
         ≡ worth_of known.now.tree (given known.now) (range_condition_at known.now.tree place)) }
 {
-    range_list(alloc, known, place)
+    let mut factors = Vec::new(alloc);
+    let Some(definition) = known.definition(place.definition) else {
+        return Ok(factors);
+    };
+    let Some(range) = definition.ranges().get(place.range) else {
+        return Ok(factors);
+    };
+    add_property(known, &mut factors, definition, range.condition.as_ref())?;
+    Ok(factors)
 }
 
 /// Each factor of the condition of a `select` or `imply` line: its own `if`, and the dependencies of the definition that
@@ -491,24 +433,8 @@ pub fn reverse_factors<'t>(
         ≡ condition_value known.now.tree (given known.now) (of_reverse known.now.tree reverse.now)) }
 {
     let mut factors = Vec::new(alloc);
-    add_reverse(known, &mut factors, reverse)?;
-    Ok(factors)
-}
-
-/// The factors of the condition of a menu.
-fn menu_list<'t>(
-    alloc: Global,
-    known: &Known<'t>,
-    menu: BlockId,
-) -> Result<Vec<Factor<'t>>, AllocError>
-    ensures { IfOk result (λ v. map judged v.items
-        ≡ judged_of known.now.tree (given known.now) (menu_condition_at known.now.tree menu)) }
-{
-    let mut factors = Vec::new(alloc);
-    let Some(block) = known.block(menu) else {
-        return Ok(factors);
-    };
-    add_menu(known, &mut factors, menu, block)?;
+    add_condition(known, &mut factors, reverse.condition.as_ref())?;
+    add_numbered(known, &mut factors, reverse.definition)?;
     Ok(factors)
 }
 
@@ -527,23 +453,11 @@ pub fn menu_factors<'t>(
     ensures value { IfOk result (λ v. least_of (map (λ f. f.value) v.items)
         ≡ worth_of known.now.tree (given known.now) (menu_condition_at known.now.tree menu)) }
 {
-    menu_list(alloc, known, menu)
-}
-
-/// The factors of the condition of a comment.
-fn comment_list<'t>(
-    alloc: Global,
-    known: &Known<'t>,
-    comment: CommentId,
-) -> Result<Vec<Factor<'t>>, AllocError>
-    ensures { IfOk result (λ v. map judged v.items
-        ≡ judged_of known.now.tree (given known.now) (comment_condition_at known.now.tree comment)) }
-{
     let mut factors = Vec::new(alloc);
-    let Some(comment) = known.comment(comment) else {
+    let Some(block) = known.block(menu) else {
         return Ok(factors);
     };
-    add_comment(known, &mut factors, comment)?;
+    add_menu(known, &mut factors, menu, block)?;
     Ok(factors)
 }
 
@@ -562,26 +476,11 @@ pub fn comment_factors<'t>(
     ensures value { IfOk result (λ v. least_of (map (λ f. f.value) v.items)
         ≡ worth_of known.now.tree (given known.now) (comment_condition_at known.now.tree comment)) }
 {
-    comment_list(alloc, known, comment)
-}
-
-/// The factors of the condition of a prompt of a choice.
-fn choice_list<'t>(
-    alloc: Global,
-    known: &Known<'t>,
-    choice: ChoiceId,
-) -> Result<Vec<Factor<'t>>, AllocError>
-    ensures { IfOk result (λ v. map judged v.items
-        ≡ judged_of known.now.tree (given known.now) (choice_condition_at known.now.tree choice)) }
-{
     let mut factors = Vec::new(alloc);
-    let Some(choice) = known.choice(choice) else {
+    let Some(comment) = known.comment(comment) else {
         return Ok(factors);
     };
-    let Some(prompt) = choice.prompt() else {
-        return Ok(factors);
-    };
-    add_choice_prompt(known, &mut factors, choice, prompt)?;
+    add_comment(known, &mut factors, comment)?;
     Ok(factors)
 }
 
@@ -600,5 +499,13 @@ pub fn choice_factors<'t>(
     ensures value { IfOk result (λ v. least_of (map (λ f. f.value) v.items)
         ≡ worth_of known.now.tree (given known.now) (choice_condition_at known.now.tree choice)) }
 {
-    choice_list(alloc, known, choice)
+    let mut factors = Vec::new(alloc);
+    let Some(choice) = known.choice(choice) else {
+        return Ok(factors);
+    };
+    let Some(prompt) = choice.prompt() else {
+        return Ok(factors);
+    };
+    add_choice_prompt(known, &mut factors, choice, prompt)?;
+    Ok(factors)
 }

@@ -1,17 +1,11 @@
-use Rattle.std.proofs.Common.{◌≡◌, map}
-use Rattle.std.proofs.lemmas.Result.{IfOk-weaker}
-use Rattle.kc_statement.specs.Tristate.{least_of}
+use Rattle.std.proofs.Common.{arith}
+use Rattle.std.proofs.lemmas.Grind.{common_steps}
 use Rattle.kc_value.specs.Known.{given}
-use Rattle.kc_value.specs.Factors.{judged, judged_of, worth_of, comment_condition_at}
+use Rattle.kc_value.specs.Factors.{comment_condition_at}
 use Rattle.kc_value.proofs.FactorLists.{least_judged_of}
 use Rattle.kc_value.proofs.factors.comment_factors.Goals as goal
 
 pub returns-clause-value : goal.returns-clause-value
 returns-clause-value c =
     let t = c.args.known.now.tree in
-    let a = given c.args.known.now in
-    IfOk-weaker c.comment_list.result
-    (λ v. map judged v.items ≡ judged_of t a (comment_condition_at c.args.known.now.tree c.args.comment))
-    (λ v. least_of (map (λ f. f.value) v.items) ≡ worth_of t a (comment_condition_at c.args.known.now.tree c.args.comment))
-    (λ v is. least_judged_of t a (comment_condition_at c.args.known.now.tree c.args.comment) v.items is)
-    c.comment_list.ensures
+    least_judged_of t (given c.args.known.now) (comment_condition_at t c.args.comment) c.add_comment.new.factors.items (grind (arith, common_steps))

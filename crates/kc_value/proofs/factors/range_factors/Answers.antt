@@ -1,17 +1,19 @@
-use Rattle.std.proofs.Common.{◌≡◌, map}
-use Rattle.std.proofs.lemmas.Result.{IfOk-weaker}
-use Rattle.kc_statement.specs.Tristate.{least_of}
+use Rattle.std.proofs.Common.{◌≡◌, Some, refl, sym, ap, ◌∙◌, subst}
+use Rattle.std.specs.List.{slice_get}
+use Rattle.std.specs.Option.{option_copied}
+use Rattle.std.proofs.lemmas.Option.{slice_get_read}
 use Rattle.kc_value.specs.Known.{given}
-use Rattle.kc_value.specs.Factors.{judged, judged_of, worth_of, range_condition_at}
-use Rattle.kc_value.proofs.FactorLists.{least_judged_of}
+use Rattle.kc_value.proofs.FactorLists.{least_range}
 use Rattle.kc_value.proofs.factors.range_factors.Goals as goal
 
 pub returns-clause-value : goal.returns-clause-value
 returns-clause-value c =
     let t = c.args.known.now.tree in
-    let a = given c.args.known.now in
-    IfOk-weaker c.range_list.result
-    (λ v. map judged v.items ≡ judged_of t a (range_condition_at c.args.known.now.tree c.args.place))
-    (λ v. least_of (map (λ f. f.value) v.items) ≡ worth_of t a (range_condition_at c.args.known.now.tree c.args.place))
-    (λ v is. least_judged_of t a (range_condition_at c.args.known.now.tree c.args.place) v.items is)
-    c.range_list.ensures
+    let d = c.in-Some.definition.now in
+    let v = c.in-Some-get.range.now in
+    let lookup = c.in-Some-get.ensures.lookup in
+    let found : slice_get t.definitions c.args.place.definition ≡ Some d = sym c.definition.ensures.definition ∙ ap (λ o. option_copied o) c.in-Some.is in
+    let has : slice_get d.ranges c.args.place.range ≡ Some v =
+    subst (λ xs. slice_get xs c.args.place.range ≡ Some v) c.ranges-2.ensures (slice_get_read c.ranges-2.result.now _ c.args.place.range v refl lookup.3.0 (lookup.3.1 v)) in
+    least_range t (given c.args.known.now) c.args.place d v (option_copied c.as_ref.result) c.new-factors.result.items c.add_property.new.factors.items found has
+    c.as_ref.ensures.value c.in_ok-add_property.ensures c.new-factors.ensures.items

@@ -7,4 +7,4 @@ use Rattle.kc_value.proofs.factors.reverse_factors.Goals as goal
 pub returns-clause-value : goal.returns-clause-value
 returns-clause-value c =
     least_judged c.args.known.now.tree (given c.args.known.now) (of_reverse c.args.known.now.tree c.args.reverse.now)
-    c.add_reverse.new.factors.items (search rules)
+    c.add_numbered.new.factors.items (search rules)
