@@ -4,6 +4,7 @@ pub mod AskedLaws
 pub mod BodyHolding
 pub mod BodyLines
 pub mod Cutting
+pub mod EditLaws
 pub mod EvaluationLaws
 mod Examples
 mod ReplyExamples

@@ -1,29 +1,25 @@
 -- User values that are merged take the place of others once, so that exactly what changes is dropped.
-use Rattle.std.proofs.Common.{◌≡◌, ◌⊎◌, inl, inr, ℕ, ◌+◌, ◌<◌, ◌==◌, Bool, true, false, true≢false, not, ◌&&◌, All, List, [], ◌∷◌, length, map, get_or, replicate, take, slice_set, slice_index_or, Option, Some, None, is_some, if◌then◌else◌, refl, sym, ap, ◌∙◌, subst, ⊎_elim, arith}
+use Rattle.std.proofs.Common.{◌≡◌, ◌⊎◌, inl, inr, ℕ, ◌+◌, ◌<◌, ◌==◌, Bool, true, false, true≢false, ◌&&◌, All, List, [], ◌∷◌, length, map, get_or, take, slice_set, slice_index_or, Option, Some, None, is_some, if◌then◌else◌, refl, sym, ap, ◌∙◌, subst, ⊎_elim, arith}
 use Rattle.std.specs.List.{Contains}
 use Rattle.std.specs.Option.{option_map_or, option_or}
 use Rattle.std.proofs.lemmas.Bool.{cases_eq, cases_lt, eqb-true, ne_eqb}
-use Rattle.std.proofs.lemmas.List.{get_or_past, get_or-set_same, get_or-set_other, length-replicate, take_more}
+use Rattle.std.proofs.lemmas.List.{get_or_past, get_or-set_same, get_or-set_other, take_more}
 use Rattle.std.proofs.lemmas.List.Elements.{All-contains, Contains-append_right, Contains-push_cases}
 use Rattle.std.proofs.lemmas.List.FromFn.{fill_by_all, get_or-map-range_with_len}
 use Rattle.kc_statement.specs.declared.id.SymId.{SymId}
 use Rattle.kc_outline.specs.declared.id.ChoiceId.{ChoiceId}
 use Rattle.kc_outline.specs.TreeValue.{TreeValue, choice_of}
-use Rattle.kc_tree.specs.declared.node.Node.{Node}
-use Rattle.kc_tree.specs.declared.node.Node.TheVariants.{Vis, Val, Mode, Sel}
 use Rattle.kc_tree.specs.declared.user_value.UserVal.{UserVal}
-use Rattle.kc_value.specs.ChangedValue.{same_mark, same_member}
-use Rattle.kc_value.specs.Dirty.{same_given, is_changed, IsDirty, Edits}
+use Rattle.kc_value.specs.Dirty.{Edits}
 use Rattle.kc_value.specs.Kept.{AreKept, KeptValue}
 use Rattle.kc_value.specs.UserValues.{UserValues, IsUserFor, no_values, user_value, chosen_in, with_value, with_chosen}
-use Rattle.kc_value.specs.Without.{is_optional_choice}
 use Rattle.kc_files.specs.declared.assign.Assign.{Assign}
-use Rattle.kc_files.specs.declared.loading.Load.TheVariants.{Merge, Replace}
+use Rattle.kc_files.specs.declared.loading.Load.TheVariants.{Merge}
 use Rattle.kc_files.specs.LineReading.{IsAssignFor}
 use Rattle.kc_files.specs.Loading.{last_of, value_for, is_yes, is_member_of, member_for, value_after, chosen_after, user_after}
-use Rattle.kc_session.specs.KeptResolver.{Edited, ResolverState}
 use Rattle.kc_session.specs.Merging.{Takes, AreTaking, IsTaken, IsTaking}
-use Rattle.kc_session.proofs.UnchangedLaws.{unchanged, edits_nothing, none_in, Contains-from_map}
+use Rattle.kc_session.proofs.EditLaws.{edits_then}
+use Rattle.kc_session.proofs.UnchangedLaws.{edits_nothing, none_in, Contains-from_map}
 
 -- ---- one place
 takes_then : {X : Type 0} (u n v m w l : Option X) → Takes u n v m → Takes v m w l → Takes u n w l
@@ -50,68 +46,6 @@ takes_once u n v m w l f g =
 none_left : {X : Type 0} (u n v m : Option X) → Takes u n v m → n ≡ None → m ≡ None
 none_left u n v m f e = ⊎_elim (λ stays. stays.1 ∙ e) (λ took. took.2) f
 
--- ---- one edit after the other
-module _ (t : TreeValue) (u v w : UserValues) where
-  abbrev ChangesOnce : Node → Type 0
-  ChangesOnce k = ((is_changed t u v k ≡ false) × (is_changed t u w k ≡ is_changed t v w k)) ⊎ ((is_changed t v w k ≡ false) × (is_changed t u w k ≡ is_changed t u v k))
-
-  value_once : (s : SymId) → (user_value v s ≡ user_value u s) ⊎ (user_value w s ≡ user_value v s) → ChangesOnce (Val s)
-  value_once s o =
-      let test : Option UserVal → Option UserVal → Bool = λ x y. not (is_some (choice_of t s)) && not (same_given x y) in
-      ⊎_elim
-      (λ same. inl (ap (test (user_value u s)) same ∙ unchanged t u (Val s), ap (λ x. test x (user_value w s)) (sym same)))
-      (λ same. inr (ap (test (user_value v s)) same ∙ unchanged t v (Val s), ap (test (user_value u s)) same))
-      o
-
-  mode_once : (c : ChoiceId) → (chosen_in v c ≡ chosen_in u c) ⊎ (chosen_in w c ≡ chosen_in v c) → ChangesOnce (Mode c)
-  mode_once c o =
-      let test : Option SymId → Option SymId → Bool = λ x y. is_optional_choice t c && not (same_mark (is_some x) (is_some y)) in
-      ⊎_elim
-      (λ same. inl (ap (test (chosen_in u c)) same ∙ unchanged t u (Mode c), ap (λ x. test x (chosen_in w c)) (sym same)))
-      (λ same. inr (ap (test (chosen_in v c)) same ∙ unchanged t v (Mode c), ap (test (chosen_in u c)) same))
-      o
-
-  selection_once : (c : ChoiceId) → (chosen_in v c ≡ chosen_in u c) ⊎ (chosen_in w c ≡ chosen_in v c) → ChangesOnce (Sel c)
-  selection_once c o =
-      let test : Option SymId → Option SymId → Bool = λ x y. not (same_member x y) in
-      ⊎_elim
-      (λ same. inl (ap (test (chosen_in u c)) same ∙ unchanged t u (Sel c), ap (λ x. test x (chosen_in w c)) (sym same)))
-      (λ same. inr (ap (test (chosen_in v c)) same ∙ unchanged t v (Sel c), ap (test (chosen_in u c)) same))
-      o
-
-  module _ (once : (k : Node) → ChangesOnce k) where
-    dirty_first : (n : Node) → IsDirty t u v n → IsDirty t u w n
-    dirty_first n dirty =
-        (dirty.0, dirty.1, ⊎_elim (λ o. absurd (true≢false (sym dirty.2 ∙ o.0))) (λ o. o.1 ∙ dirty.2) (once dirty.0), dirty.3)
-
-    dirty_second : (n : Node) → IsDirty t v w n → IsDirty t u w n
-    dirty_second n dirty =
-        (dirty.0, dirty.1, ⊎_elim (λ o. o.1 ∙ dirty.2) (λ o. absurd (true≢false (sym dirty.2 ∙ o.0))) (once dirty.0), dirty.3)
-
-    edits_both : (a b c : KeptValue) → Edits t u v a b → Edits t v w b c → Edits t u w a c
-    edits_both a b c first second = record {
-      dropped = λ n inside dirty.
-          ⊎_elim
-          (λ o. second.dropped n inside (dirty.0, dirty.1, sym o.1 ∙ dirty.2, dirty.3))
-          (λ o. ⊎_elim
-          (λ same. same ∙ first.dropped n inside (dirty.0, dirty.1, sym o.1 ∙ dirty.2, dirty.3))
-          (λ none. none.0)
-          (second.each n inside))
-          (once dirty.0);
-      each = λ n inside.
-          ⊎_elim
-          (λ same. ⊎_elim (λ was. inl (same ∙ was)) (λ none. inr (same ∙ none.0, dirty_first n none.1)) (first.each n inside))
-          (λ none. inr (none.0, dirty_second n none.1))
-          (second.each n inside);
-      evals = second.evals ∙ first.evals;
-    }
-
-once_all : (t : TreeValue) (u n v m w l : UserValues) → AreTaking u n v m → AreTaking v m w l → (k : Node) → ChangesOnce t u v w k
-once_all t u n v m w l f g (Vis s) = inl (refl, refl)
-once_all t u n v m w l f g (Val s) = value_once t u v w s (takes_once (user_value u s) (user_value n s) (user_value v s) (user_value m s) (user_value w s) (user_value l s) (f.values s) (g.values s))
-once_all t u n v m w l f g (Mode c) = mode_once t u v w c (takes_once (chosen_in u c) (chosen_in n c) (chosen_in v c) (chosen_in m c) (chosen_in w c) (chosen_in l c) (f.chosen c) (g.chosen c))
-once_all t u n v m w l f g (Sel c) = selection_once t u v w c (takes_once (chosen_in u c) (chosen_in n c) (chosen_in v c) (chosen_in m c) (chosen_in w c) (chosen_in l c) (f.chosen c) (g.chosen c))
-
 -- ---- taking
 pub taking_nothing : (t : TreeValue) (u n : UserValues) (k : KeptValue) → IsUserFor t u → IsUserFor t n → AreKept t u k.values → IsTaking t u n k u n k
 taking_nothing t u n k user next kept = record {
@@ -131,7 +65,10 @@ taking_then t u n v m w l a b c f g = record {
     values = λ s. takes_then (user_value u s) (user_value n s) (user_value v s) (user_value m s) (user_value w s) (user_value l s) (f.taking.values s) (g.taking.values s);
     chosen = λ d. takes_then (chosen_in u d) (chosen_in n d) (chosen_in v d) (chosen_in m d) (chosen_in w d) (chosen_in l d) (f.taking.chosen d) (g.taking.chosen d);
   };
-  edits = edits_both t u v w (once_all t u n v m w l f.taking g.taking) a b c f.edits g.edits;
+  edits = edits_then t u v w
+      (λ s. takes_once (user_value u s) (user_value n s) (user_value v s) (user_value m s) (user_value w s) (user_value l s) (f.taking.values s) (g.taking.values s))
+      (λ d. takes_once (chosen_in u d) (chosen_in n d) (chosen_in v d) (chosen_in m d) (chosen_in w d) (chosen_in l d) (f.taking.chosen d) (g.taking.chosen d))
+      a b c f.edits g.edits;
 }
 
 -- what was taken stays so
@@ -402,17 +339,6 @@ module _ (t : TreeValue) (u : UserValues) (bs : List Assign) where
         let chosen : is.chosen ≡ (user_after t u Merge bs).chosen = fill_by_all (λ k. chosen_after t u Merge bs (record { 0 = k })) is.chosen (length t.choices) None user.chosen (λ k l. chosen_is (record { 0 = k }) l) in
         λ i. record { values = values i; chosen = chosen i }
 
-    nothing : {X : Type 0} (xs : List (Option X)) (n : ℕ) → length xs ≡ n → ((k : ℕ) → k < n → slice_index_or xs k None ≡ None) → xs ≡ replicate n None
-    nothing {X} xs n long none =
-        fill_by_all {X = Option X} (λ k. None) xs n None long none
-        ∙ sym (fill_by_all {X = Option X} (λ k. None) (replicate n None) n None (length-replicate {A = Option X} n None) (λ k l. none_in {X = X} n k))
-
-    pub emptied : left ≡ no_values t
-    emptied =
-        let values : left.values ≡ (no_values t).values = nothing left.values (length t.symbols) rest.values (λ k l. value_gone (record { 0 = k }) l) in
-        let chosen : left.chosen ≡ (no_values t).chosen = nothing left.chosen (length t.choices) rest.chosen (λ k l. member_gone (record { 0 = k }) l) in
-        λ i. record { values = values i; chosen = chosen i }
-
 -- ---- a merge
 pub assigned_inside : (t : TreeValue) (bs : List Assign) (symbols : List SymId) → symbols ≡ map (λ a. a.symbol) bs → All (IsAssignFor t) bs
     → (s : SymId) → Contains symbols s → s.0 < length t.symbols
@@ -426,25 +352,3 @@ pub merge_user : (t : TreeValue) (u none given v m : UserValues) (old new : Kept
 merge_user t u none given v m old new bs symbols none_is given_is symbols_is taking taken =
     let from : given ≡ next t u bs = given_is ∙ ap (λ x. user_after t x Merge bs) none_is in
     merged t u bs v m taking.user taking.next (subst (λ x. AreTaking u x v m) from taking.taking) (λ s listed. taken s (subst (λ xs. Contains xs s) (sym symbols_is) listed))
-
-pub merge_emptied : (t : TreeValue) (u none given v m : UserValues) (old new : KeptValue) (bs : List Assign) (symbols : List SymId) → none ≡ no_values t
-    → given ≡ user_after t none Merge bs → symbols ≡ map (λ a. a.symbol) bs → IsTaking t u given old v m new → ((s : SymId) → Contains symbols s → IsTaken t m s)
-    → m ≡ no_values t
-merge_emptied t u none given v m old new bs symbols none_is given_is symbols_is taking taken =
-    let from : given ≡ next t u bs = given_is ∙ ap (λ x. user_after t x Merge bs) none_is in
-    emptied t u bs v m taking.user taking.next (subst (λ x. AreTaking u x v m) from taking.taking) (λ s listed. taken s (subst (λ xs. Contains xs s) (sym symbols_is) listed))
-
-pub merge_edited : (old r new : ResolverState) (none given m : UserValues) (bs : List Assign) (symbols : List SymId) → r ≡ old → none ≡ no_values r.tree
-    → given ≡ user_after r.tree none Merge bs → symbols ≡ map (λ a. a.symbol) bs → IsTaking r.tree r.user given r.kept new.user m new.kept
-    → ((s : SymId) → Contains symbols s → IsTaken r.tree m s) → new.tree ≡ r.tree → Edited old (user_after old.tree old.user Merge bs) new
-merge_edited old r new none given m bs symbols same none_is given_is symbols_is taking taken tree =
-    let user = merge_user r.tree r.user none given new.user m r.kept new.kept bs symbols none_is given_is symbols_is taking taken in
-    subst (λ (x : ResolverState). Edited x (user_after x.tree x.user Merge bs) new) same
-    (record { tree = tree; user_is = user; edits = subst (λ y. Edits r.tree r.user y r.kept new.kept) user taking.edits })
-
--- ---- a load in the place of all
-pub replaced : (old r new : ResolverState) (none given : UserValues) (bs : List Assign) → r ≡ old → new.tree ≡ r.tree → new.user ≡ given
-    → given ≡ user_after r.tree none Replace bs → Edits r.tree r.user given r.kept new.kept → Edited old (user_after old.tree old.user Replace bs) new
-replaced old r new none given bs same tree user given_is edits =
-    subst (λ (x : ResolverState). Edited x (user_after x.tree x.user Replace bs) new) same
-    (record { tree = tree; user_is = user ∙ given_is; edits = subst (λ y. Edits r.tree r.user y r.kept new.kept) given_is edits })

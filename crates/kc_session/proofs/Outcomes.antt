@@ -1,5 +1,5 @@
 -- What an edit did, with or without its memory.
-use Rattle.std.proofs.Common.{◌≡◌, ◌≤◌, Bool, true, false, not, if◌then◌else◌, ℕ, List, [], length, Option, Some, None, Result, Ok, Err, IfOk, OnErr, is_some, IsTrue, refl, sym, ap, ◌∙◌, subst, arith, replicate}
+use Rattle.std.proofs.Common.{◌≡◌, ◌≤◌, Bool, true, false, not, if◌then◌else◌, ℕ, List, [], length, Option, Some, None, Result, Ok, Err, IfOk, OnErr, is_some, IsTrue, refl, sym, ap, ◌∙◌, subst, arith}
 use Rattle.std.proofs.lemmas.Bool.{false≢true}
 use Rattle.std.proofs.lemmas.List.{set_past}
 use Rattle.std.specs.Option.{option_map_or}
@@ -9,16 +9,14 @@ use Rattle.kc_tree.specs.declared.user_value.UserVal.{UserVal}
 use Rattle.kc_tree.specs.declared.user_value.UserVal.TheVariants.{Text}
 use Rattle.kc_statement.specs.SymbolTypes.{is_tri_type}
 use Rattle.kc_outline.specs.TreeValue.{TreeValue, symbol_named, choice_of}
-use Rattle.kc_value.specs.UserValues.{UserValues, IsUserFor, with_value, with_chosen, no_values}
+use Rattle.kc_value.specs.UserValues.{UserValues, IsUserFor, with_value, with_chosen}
 use Rattle.kc_tree.specs.Fits.{type_of}
 use Rattle.kc_session.specs.declared.command.Command.TheVariants.{Set}
 use Rattle.kc_session.specs.declared.command.Refusal.{Refusal}
 use Rattle.kc_session.specs.declared.command.Refusal.TheVariants.{UnknownCommand, UndefinedSymbol, BadValue, BadMemberValue, BadLineCount, TooLong, NoMemory}
 use Rattle.kc_session.specs.declared.command.Reply.{Reply}
 use Rattle.kc_session.specs.declared.command.Reply.TheVariants.{Done, Refused}
-use Rattle.kc_value.specs.Dirty.{Edits}
-use Rattle.kc_session.specs.KeptResolver.{Edited, ResolverState}
-use Rattle.kc_session.specs.Session.{SessionValue, with_user}
+use Rattle.kc_session.specs.Session.{IsSound, SessionState, SessionValue, with_user}
 use Rattle.kc_session.specs.Values.{value_of}
 use Rattle.kc_session.specs.Effect.{Outcome, IsOutcome, IsReplyTo, IsApplied, answer, perform, keeps_text, refuse, give_value, set_member, set_value, set_symbol, set_outcome, loaded, load_outcome}
 use Rattle.kc_files.specs.OneReading.{assigns_in}
@@ -42,6 +40,10 @@ pub text_answered : {T E : Type 0} (bytes : T → List ℕ) (s : SessionValue) (
     → IfOk r (λ t. reply ≡ Done (bytes t)) → OnErr r (reply ≡ Refused NoMemory) → IsReplyTo reply (answer s due)
 text_answered bytes s due (Ok t) reply is done starved = record { starved = false; may = λ h. refl; is = done ∙ ap Done is }
 text_answered bytes s due (Err e) reply is done starved = record { starved = true; may = λ h. refl; is = starved }
+
+-- memory was refused before it was there
+pub text_starved : (s : SessionValue) (due : List ℕ) → IsReplyTo (Refused NoMemory) (answer s due)
+text_starved s due = record { starved = true; may = λ h. refl; is = refl }
 
 -- ---- the value of a symbol
 pub value_refused : (s : SessionValue) (k : SymId) (value : List ℕ) (r : Reply) (n : SessionValue) → value_of (type_of s.tree k) value ≡ None
@@ -142,16 +144,6 @@ pub chosen_outside : (t : TreeValue) (u : UserValues) (c : ChoiceId) (m : Option
 chosen_outside t u c m sized out =
     ap (λ x. record { values = u.values; chosen = x }) (set_past u.chosen c.0 m (omega (arith, sized.chosen, out)))
 
--- .. so that nothing is dropped
-pub edited_outside : (r : ResolverState) (c : ChoiceId) (m : Option SymId) → IsUserFor r.tree r.user → length r.tree.choices ≤ c.0 → Edits r.tree r.user r.user r.kept r.kept
-    → Edited r (with_chosen r.user c m) r
-edited_outside r c m sized out stays =
-    subst (λ u. Edited r u r) (sym (chosen_outside r.tree r.user c m sized out))
-    (record { tree = refl; user_is = refl; edits = stays })
-
--- all places are empty
-pub all_taken : (t : TreeValue) (old new : UserValues) → IsUserFor t old → new.values ≡ replicate (length old.values) None
-    → new.chosen ≡ replicate (length old.chosen) None → new ≡ no_values t
-all_taken t old new sized values chosen =
-    ap (λ x. record { values = x; chosen = new.chosen }) (values ∙ ap (λ n. replicate n None) sized.values)
-    ∙ ap (λ x. record { values = replicate (length t.symbols) None; chosen = x }) (chosen ∙ ap (λ n. replicate n None) sized.chosen)
+-- .. so that the session is what it was
+pub chosen_past : (s : SessionState) (c : ChoiceId) (m : Option SymId) → IsSound s → length s.session.tree.choices ≤ c.0 → s.session ≡ with_user s.session (with_chosen s.session.user c m)
+chosen_past s c m sound out = ap (with_user s.session) (sym (chosen_outside s.session.tree s.session.user c m sound.user out))

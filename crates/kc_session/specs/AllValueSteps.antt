@@ -1,12 +1,14 @@
--- Steps: this project's own commands `allno` and `allyes`, a symbol at a time.
-use Rattle.std.specs.Prelude.{Some, if◌then◌else◌}
-use Rattle.kc_statement.specs.declared.id.SymId.{SymId}
-use Rattle.kc_tree.specs.declared.user_value.UserVal.TheVariants.{Tri as TriVal}
+-- Steps: this project's own commands `allno` and `allyes`, first the symbols and then the choices.
+use Rattle.std.specs.Prelude.{None, length, replicate}
 use Rattle.kc_outline.specs.TreeValue.{TreeValue}
-use Rattle.kc_value.specs.UserValues.{UserValues, with_value}
+use Rattle.kc_value.specs.UserValues.{UserValues}
 use Rattle.kc_session.specs.declared.all_values.AllValue.{AllValue}
-use Rattle.kc_session.specs.AllValues.{is_free_tri, tri_given}
+use Rattle.kc_session.specs.AllValues.{all_given}
 
--- after one symbol was given its value
-abbrev pub with_given : TreeValue → AllValue → UserValues → SymId → UserValues
-with_given t a u s = if is_free_tri t s then with_value u s (Some (TriVal (tri_given t a s))) else u
+-- the symbols have their values, and the choices are as they were
+abbrev pub values_given : TreeValue → AllValue → UserValues → UserValues
+values_given t a u = record { values = (all_given t a).values; chosen = u.chosen }
+
+-- no choice has a chosen member, and the symbols are as they were
+abbrev pub none_chosen : TreeValue → UserValues → UserValues
+none_chosen t u = record { values = u.values; chosen = replicate (length t.choices) None }

@@ -22,6 +22,10 @@ KeepsRight s = AreKept s.session.tree s.session.user s.kept.values
 abbrev pub KeepsAll : SessionState → Type 0
 KeepsAll s = (n : Node) → IsNodeOf s.session.tree n → IsKept s.session.tree s.kept.values n
 
+-- the values of some nodes are
+abbrev pub AreAllKept : List Node → SessionState → Type 0
+AreAllKept nodes s = (n : Node) → Contains nodes n → IsKept s.session.tree s.kept.values n
+
 -- ---- which nodes a query asks
 abbrev pub symbol_nodes : TreeValue → List Node
 symbol_nodes t = map (node_at t) (range_with_len 0 (2 * length t.symbols))

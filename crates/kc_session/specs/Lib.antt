@@ -11,8 +11,6 @@ pub mod Input
 pub mod Opened
 pub mod Output
 pub mod Keeping
-pub mod KeptResolver
-pub mod KeptResolverInside
 pub mod MergedBodies
 pub mod Merging
 pub mod NextCommand

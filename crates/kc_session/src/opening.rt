@@ -15,7 +15,6 @@ ghost use Rattle.kc_session.specs.Keeping.{KeepsRight};
 ghost use Rattle.kc_session.specs.Opened.{IsOpened, IsOpenedFrom, IsOpenFault, IsFaultFrom, IsTextFaultOf, IsTreeFaultOf, IsConfigFault, IsOnlySession, IsOnlySessionFrom, IsOnlyTreeFault, IsFirstOpenFault, IsFirstFaultFrom, user_of_config};
 
 use crate::command::Refusal;
-use crate::kept_resolver::KeptResolver;
 use crate::load::read_body;
 use crate::session::Session;
 use bumpalo::Bump;
@@ -180,10 +179,10 @@ pub fn open_lines(
     let Ok(prefix) = prefix.copy(alloc) else {
         return Err(OpenFault::NoMemory);
     };
-    let Ok(resolver) = KeptResolver::with_user(alloc, tree, user) else {
-        return Err(OpenFault::NoMemory);
-    };
-    Ok((Session::of(alloc, resolver, prefix), warnings))
+    match Session::with_user(alloc, tree, user, prefix) {
+        Ok(session) => Ok((session, warnings)),
+        Err(_) => Err(OpenFault::NoMemory),
+    }
 }
 
 /// The same for untrusted texts: the names of symbols are kept under the hash of a seed, so that they can't be chosen

@@ -1,20 +1,22 @@
 //! A session: a tree, user values, and the commands that read and change them.
-ghost use Rattle.std.specs.Prelude.{◌≡◌, ◌⊎◌, ℕ, List, [], true, None, All, IfSome, IfOk, IfErr, OnOk, OnErr};
+ghost use Rattle.std.specs.Prelude.{◌≡◌, ◌⊎◌, ◌∷◌, ℕ, List, [], None, true, All, IfSome, IfOk, IfErr, OnErr};
 ghost use Rattle.std.specs.String.{string_bytes};
-ghost use Rattle.kc_value.specs.KeptLaws.{KeptLaws};
-ghost use Rattle.kc_value.specs.Solution.{solution, AreSolved, IsOnlySolution};
+ghost use Rattle.kc_value.specs.Solution.{solution, IsOnlySolution};
 ghost use Rattle.kc_value.specs.UserValues.{UserValues, chosen_in};
 ghost use Rattle.kc_value.specs.ChoiceRule.{is_symbol};
 
 use crate::all_values::AllValue;
+use crate::choices::choices_text;
 use crate::command::{Command, Refusal, Reply};
-use crate::kept_resolver::KeptResolver;
 use crate::load::{read_body, warnings_text};
+use crate::show::{list_text, show_line};
 use crate::values::value_of;
-use kc_files::{Assign, Load, Prefix};
+use kc_files::{
+    Assign, Load, Prefix, config_text_over, defconfig_text_over, header_text_over, new_text_over,
+};
 use kc_text::Text;
 use kc_tree::{ChoiceId, Node, SymId, Tree};
-use kc_value::{Resolver, Solved, User, Value};
+use kc_value::{KeptValues, User};
 use std::alloc::{AllocError, Global};
 use std::marker::Model;
 
@@ -22,13 +24,15 @@ use std::marker::Model;
 /// edit can change it. Contracts see the tree, the user values and the prefix, and what is kept.
 #[derive(Drop)]
 pub struct Session {
-    alloc: Global,
-    resolver: KeptResolver,
-    prefix: Prefix,
+    pub(crate) alloc: Global,
+    pub(crate) tree: Tree,
+    pub(crate) user: User,
+    pub(crate) kept: KeptValues,
+    pub(crate) prefix: Prefix,
 }
 
 impl Model for Session {
-    ghost use Rattle.kc_session.specs.Session.{SessionState};
+    ghost use Rattle.kc_session.specs.Session.{SessionState, IsSound};
     ghost use Rattle.kc_statement.specs.contracts.expr.Expr as expr;
     ghost use Rattle.std.specs.Coded.{codes};
 
@@ -36,18 +40,17 @@ impl Model for Session {
 
     ghost coded = { Prim.hlevel (codes, expr.the_row.coded) };
 
-    ghost view = { λ s. record { session = record { tree = s.resolver.tree; user = s.resolver.user; prefix = s.prefix }; kept = s.resolver.kept } };
+    ghost view = { λ s. record { session = record { tree = s.tree; user = s.user; prefix = s.prefix }; kept = s.kept } };
+
+    ghost invariant = { λ s. IsSound (record { session = record { tree = s.tree; user = s.user; prefix = s.prefix }; kept = s.kept }) };
 }
 
 impl Session {
-    ghost use Rattle.kc_session.specs.Keeping.{Asks, EditsKept, Grew, Keeps, KeepsAll, KeepsRight, shown_nodes, symbol_nodes, choice_nodes};
-    ghost use Rattle.kc_session.specs.Session.{new_session, new_state, with_user};
-    ghost use Rattle.kc_tree.specs.declared.node.Node.TheVariants.{Vis};
+    ghost use Rattle.kc_session.specs.Keeping.{Asks, EditsKept, Keeps, KeepsRight, shown_nodes, symbol_nodes, choice_nodes};
+    ghost use Rattle.kc_session.specs.Session.{with_user};
+    ghost use Rattle.kc_tree.specs.declared.node.Node.TheVariants.{Vis, Val};
     ghost use Rattle.kc_tree.specs.Nodes.{IsNodeOf, all_nodes};
     ghost use Rattle.kc_outline.specs.TreeValue.{symbol_named, choice_of};
-    ghost use Rattle.kc_value.specs.Kept.{is_kept};
-    ghost use Rattle.kc_value.specs.UserValues.{with_chosen};
-    ghost use Rattle.kc_tree.specs.Fits.{type_of};
     ghost use Rattle.kc_files.specs.DefaultLoading.{HasNoFeeds};
     ghost use Rattle.kc_files.specs.LineReading.{IsAssignFor, IsUnfed};
     ghost use Rattle.kc_files.specs.Loading.{user_after};
@@ -55,107 +58,8 @@ impl Session {
     ghost use Rattle.kc_files.specs.OneReading.{assigns_in, IsReadAs};
     ghost use Rattle.kc_session.specs.Bodies.{fits_body, warnings_text_of, IsReadRefusal};
     ghost use Rattle.kc_session.specs.DefaultReply.{HasNoFeed, IsEnough, IsLoad, KeepsTheChanges};
-    ghost use Rattle.kc_session.specs.Effect.{IsApplied, IsOutcome, IsReplyTo, set_member, set_value, set_symbol, unset_outcome, unset_symbol, unchosen, reset_outcome, load_outcome, show_outcome, list_outcome, choices_outcome, config_outcome, header_outcome, defconfig_outcome, new_outcome};
-
-    /// A session of a tree, without user values, with the prefix of the names in files. Its values are those of the only
-    /// solution, also where its user values become others, and none is kept yet.
-    ///
-    /// # Errors
-    ///
-    /// Where memory was refused, with the tree and the prefix that were passed in.
-    pub fn new(
-        alloc: Global,
-        tree: Tree,
-        prefix: Prefix,
-    ) -> Result<Session, (Tree, Prefix, AllocError)>
-        ensures ok { IfOk result (λ s. s ≡ new_state (new_session tree prefix)) }
-        ensures right { IfOk result KeepsRight }
-        ensures unfed { IfOk result (λ s. HasNoFeeds s.session.user) }
-        ensures solved { IfOk result (λ s. (u : UserValues) → IsOnlySolution s.session.tree u (solution s.session.tree u)) }
-        ensures err { IfErr result (λ e. (e.0 ≡ tree) × (e.1 ≡ prefix)) }
-    {
-        match KeptResolver::new(alloc, tree) {
-            Ok(resolver) => Ok(Session::of(alloc, resolver, prefix)),
-            Err((tree, fault)) => Err((tree, prefix, fault)),
-        }
-    }
-
-    /// A session of a resolver.
-    pub(crate) fn of(alloc: Global, resolver: KeptResolver, prefix: Prefix) -> Session
-        ensures is { result ≡ record { session = record { tree = resolver.tree; user = resolver.user; prefix = prefix }; kept = resolver.kept } }
-        ensures right { KeepsRight result }
-        ensures solved { (u : UserValues) → IsOnlySolution result.session.tree u (solution result.session.tree u) }
-        ensures bodies { (body : List ℕ) → IsReadAs result.session.tree result.session.prefix body }
-    {
-        let session = Session {
-            alloc,
-            resolver,
-            prefix,
-        };
-        session.facts();
-        session
-    }
-
-    /// Whether the value of a node is kept: it is the solution's then, and a query of it evaluates nothing.
-    pub fn is_kept(&self, node: Node) -> bool
-        ensures kept { result ≡ is_kept self.now.session.tree self.now.kept.values node }
-        ensures right { KeepsRight self.now }
-    {
-        self.facts();
-        self.resolver.is_kept(node)
-    }
-
-    /// How many nodes were evaluated since the session began; from 2^64 - 1 on the count stays.
-    pub fn evals(&self) -> u64
-        ensures { result ≡ self.now.kept.evals }
-    {
-        self.resolver.evals()
-    }
-
-    /// Evaluates all nodes, as far as they are not kept: each once, and the values are kept, also where memory is refused
-    /// for others. Then `solved` has the value of each node.
-    ///
-    /// # Errors
-    ///
-    /// Where memory was refused.
-    #[tactic(auto, using(crate::proofs::AskedLaws::session_kept))]
-    pub fn fill(&mut self) -> Result<(), AllocError>
-        ensures grew { Grew (all_nodes self.old.session.tree) self.old self.new }
-        ensures all { OnOk result (KeepsAll self.new) }
-        ensures right { KeepsRight self.new }
-    {
-        self.facts();
-        let filled = self.resolver.fill_all();
-        self.facts();
-        filled
-    }
-
-    /// The tree with the user values and the values that are kept. They are the solution's: of all nodes where all are kept,
-    /// as after `fill`.
-    #[tactic(auto, using(crate::proofs::AskedLaws::kept_solved))]
-    pub fn solved(&self) -> Solved<'_>
-        ensures solved { result ≡ record { tree = self.now.session.tree; user = self.now.session.user; values = self.now.kept.values } }
-        ensures all { KeepsAll self.now → AreSolved self.now.session.tree self.now.session.user self.now.kept.values }
-        ensures only { IsOnlySolution self.now.session.tree self.now.session.user (solution self.now.session.tree self.now.session.user) }
-        ensures right { KeepsRight self.now }
-    {
-        self.facts();
-        self.resolver.solved()
-    }
-
-    /// What is true of a session, whatever was done before: what is kept is right; whatever the user values are, the tree
-    /// has one solution, and no other; and each body has one reading. Besides, the laws of what is kept; by one of them an
-    /// edit that changes no user value drops nothing.
-    pub(crate) fn facts(&self)
-        ensures right { KeepsRight self.now }
-        ensures solved { (u : UserValues) → IsOnlySolution self.now.session.tree u (solution self.now.session.tree u) }
-        ensures bodies { (body : List ℕ) → IsReadAs self.now.session.tree self.now.session.prefix body }
-        ensures laws { KeptLaws self.now.session.tree }
-        ensures stays { EditsKept self.now self.now }
-    {
-        self.resolver.facts();
-        let _ = self.prefix.as_str();
-    }
+    ghost use Rattle.kc_session.specs.Effect.{IsApplied, IsOutcome, IsReplyTo, answer, set_member, set_value, set_symbol, unset_outcome, unset_symbol, unchosen, reset_outcome, load_outcome, show_outcome, list_outcome, choices_outcome, config_outcome, header_outcome, defconfig_outcome, new_outcome};
+    ghost use Rattle.kc_session.specs.ShowLine.{show_line_of};
 
     /// Does one command. A refusal changes nothing, and only a query, a load and an edit that keeps a text can be refused
     /// their memory.
@@ -213,7 +117,7 @@ impl Session {
         ensures symbol { result ≡ symbol_named self.now.session.tree name.now }
         ensures inside { IfSome result (λ s. IsNodeOf self.now.session.tree (Vis s)) }
     {
-        self.resolver.tree().find(name)
+        self.tree.find(name)
     }
 
     /// The reply to an edit that is refused: it changes no user value, and drops nothing.
@@ -243,7 +147,7 @@ impl Session {
         ensures outcome { IsOutcome self.old.session (set_symbol self.old.session value.now symbol) result self.new.session }
         ensures edits { EditsKept self.old self.new }
     {
-        match self.resolver.tree().choice_of(symbol) {
+        match self.tree.choice_of(symbol) {
             Some(choice) => self.set_member(symbol, choice, value),
             None => self.set_value(symbol, value),
         }
@@ -256,7 +160,7 @@ impl Session {
         ensures edits { EditsKept self.old self.new }
     {
         if value == "y" {
-            self.resolver.choose(choice, Some(member));
+            self.choose(choice, Some(member));
             done(self.alloc)
         } else {
             self.refuse(Refusal::BadMemberValue)
@@ -271,9 +175,9 @@ impl Session {
         ensures outcome { IsOutcome self.old.session (set_value self.old.session symbol value.now) result self.new.session }
         ensures edits { EditsKept self.old self.new }
     {
-        match value_of(self.alloc, self.resolver.tree().symbol_type(symbol), value) {
+        match value_of(self.alloc, self.tree.symbol_type(symbol), value) {
             Ok(Some(value)) => {
-                self.resolver.set(symbol, value);
+                self.give(symbol, value);
                 done(self.alloc)
             }
             Ok(None) => self.refuse(Refusal::BadValue),
@@ -299,10 +203,10 @@ impl Session {
         ensures session { self.new.session ≡ with_user self.old.session (unset_symbol self.old.session symbol).user }
         ensures edits { EditsKept self.old self.new }
     {
-        match self.resolver.tree().choice_of(symbol) {
+        match self.tree.choice_of(symbol) {
             Some(choice) => self.unset_member(symbol, choice),
             None => {
-                self.resolver.unset(symbol);
+                self.remove(symbol);
                 done(self.alloc)
             }
         }
@@ -314,21 +218,22 @@ impl Session {
         ensures session { self.new.session ≡ with_user self.old.session (unchosen self.old.session.user member choice) }
         ensures edits { EditsKept self.old self.new }
     {
-        if !is_chosen(self.resolver.user(), member, choice) {
+        if !is_chosen(&self.user, member, choice) {
             self.facts();
             return done(self.alloc);
         }
-        self.resolver.choose(choice, None);
+        self.choose(choice, None);
         done(self.alloc)
     }
 
-    #[tactic(auto, using(crate::proofs::Outcomes::all_taken))]
+    /// Removes all values and chosen members, which takes no memory.
     fn reset(&mut self) -> Reply
         ensures reply { result ≡ (reset_outcome self.old.session).reply }
         ensures session { self.new.session ≡ with_user self.old.session (reset_outcome self.old.session).user }
         ensures edits { EditsKept self.old self.new }
     {
-        self.resolver.reset();
+        self.kept.drop_for_none(&self.tree, &self.user);
+        self.user.reset();
         done(self.alloc)
     }
 
@@ -356,7 +261,7 @@ impl Session {
         ensures edits { EditsKept self.old self.new }
         ensures unfed { HasNoFeeds self.old.session.user → HasNoFeeds self.new.session.user }
     {
-        match self.resolver.load(load, assigns) {
+        match self.load_assigns(load, assigns) {
             Ok(()) => Reply::Done(Text::new(warnings)),
             Err(_) => Reply::Refused(Refusal::NoMemory),
         }
@@ -373,19 +278,24 @@ impl Session {
         ensures warnings { IfOk result (λ r. string_bytes r.1 ≡ warnings_text_of self.now.session.tree self.now.session.prefix body.now) }
         ensures refusal { IfErr result (IsReadRefusal body.now) }
     {
-        let (assigns, warnings) = read_body(self.alloc, self.resolver.tree(), &self.prefix, body)?;
+        let (assigns, warnings) = read_body(self.alloc, &self.tree, &self.prefix, body)?;
         match warnings_text(self.alloc, warnings.as_slice()) {
             Ok(text) => Ok((assigns, text)),
             Err(_) => Err(Refusal::NoMemory),
         }
     }
 
+    /// Gives each bool and each tristate a value that is no member of a choice, and removes all other values and all
+    /// chosen members, which takes no memory: each place becomes another at most once, so that exactly what changes on
+    /// the whole is dropped.
+    #[tactic(auto, using(crate::proofs::AllValueLaws::all_are_given))]
     fn give_all(&mut self, all: AllValue) -> Reply
         ensures reply { result ≡ Reply.Done [] }
         ensures session { self.new.session ≡ with_user self.old.session (all_given self.old.session.tree all) }
         ensures edits { EditsKept self.old self.new }
     {
-        self.resolver.give_all(all);
+        self.give_values(all);
+        self.choose_none();
         done(self.alloc)
     }
 
@@ -395,58 +305,101 @@ impl Session {
         ensures asks { Asks (shown_nodes self.old.session.tree name.now) self.old result self.new }
     {
         match self.find(name) {
-            Some(symbol) => text_reply(self.resolver.show(self.alloc, symbol)),
+            Some(symbol) => self.show_symbol(symbol),
             None => Reply::Refused(Refusal::UndefinedSymbol),
         }
     }
 
+    /// The line about a symbol.
+    #[tactic(auto, using(crate::proofs::Outcomes::text_starved))]
+    fn show_symbol(&mut self, symbol: SymId) -> Reply
+        requires { IsNodeOf self.old.session.tree (Vis symbol) }
+        ensures reply { IsReplyTo result (answer self.old.session (show_line_of self.old.session.tree self.old.session.user symbol)) }
+        ensures session { self.new.session ≡ self.old.session }
+        ensures asks { Asks (Vis symbol ∷ Val symbol ∷ []) self.old result self.new }
+    {
+        match self.fill_node(Node::Val(symbol)) {
+            Ok(()) => text_reply(show_line(self.alloc, &self.solved(), symbol)),
+            Err(_) => Reply::Refused(Refusal::NoMemory),
+        }
+    }
+
+    #[tactic(auto, using(crate::proofs::Outcomes::text_starved, crate::proofs::AskedLaws::asks_refused, crate::proofs::AskedLaws::asks_these))]
     fn list(&mut self) -> Reply
         ensures reply { IsReplyTo result (list_outcome self.old.session) }
         ensures session { self.new.session ≡ self.old.session }
         ensures asks { Asks (symbol_nodes self.old.session.tree) self.old result self.new }
     {
-        text_reply(self.resolver.list(self.alloc))
+        match self.fill_symbols() {
+            Ok(()) => text_reply(list_text(self.alloc, &self.solved())),
+            Err(_) => Reply::Refused(Refusal::NoMemory),
+        }
     }
 
+    #[tactic(auto, using(crate::proofs::Outcomes::text_starved, crate::proofs::AskedLaws::asks_refused, crate::proofs::AskedLaws::asks_these))]
     fn choices(&mut self) -> Reply
         ensures reply { IsReplyTo result (choices_outcome self.old.session) }
         ensures session { self.new.session ≡ self.old.session }
         ensures asks { Asks (choice_nodes self.old.session.tree) self.old result self.new }
     {
-        text_reply(self.resolver.choices(self.alloc))
+        match self.fill_choices() {
+            Ok(()) => text_reply(choices_text(self.alloc, &self.solved())),
+            Err(_) => Reply::Refused(Refusal::NoMemory),
+        }
     }
 
+    #[tactic(auto, using(crate::proofs::Outcomes::text_starved))]
     fn config(&mut self) -> Reply
         ensures reply { IsReplyTo result (config_outcome self.old.session) }
         ensures session { self.new.session ≡ self.old.session }
         ensures asks { Asks (all_nodes self.old.session.tree) self.old result self.new }
     {
-        text_reply(self.resolver.config(self.alloc, &self.prefix))
+        match self.fill() {
+            Ok(()) => text_reply(config_text_over(
+                self.alloc,
+                self.solved().known(),
+                &self.prefix,
+                "",
+            )),
+            Err(_) => Reply::Refused(Refusal::NoMemory),
+        }
     }
 
+    #[tactic(auto, using(crate::proofs::Outcomes::text_starved))]
     fn header(&mut self) -> Reply
         ensures reply { IsReplyTo result (header_outcome self.old.session) }
         ensures session { self.new.session ≡ self.old.session }
         ensures asks { Asks (all_nodes self.old.session.tree) self.old result self.new }
     {
-        text_reply(self.resolver.header(self.alloc, &self.prefix))
+        match self.fill() {
+            Ok(()) => text_reply(header_text_over(self.alloc, self.solved().known(), &self.prefix)),
+            Err(_) => Reply::Refused(Refusal::NoMemory),
+        }
     }
 
+    #[tactic(auto, using(crate::proofs::Outcomes::text_starved))]
     fn defconfig(&mut self) -> Reply
         ensures reply { IsReplyTo result (defconfig_outcome self.old.session) }
         ensures enough { HasNoFeeds self.old.session.user → KeepsTheChanges self.old.session result }
         ensures session { self.new.session ≡ self.old.session }
         ensures asks { Asks (all_nodes self.old.session.tree) self.old result self.new }
     {
-        text_reply(self.resolver.defconfig(self.alloc, &self.prefix))
+        match self.fill() {
+            Ok(()) => text_reply(defconfig_text_over(self.alloc, &self.solved(), &self.prefix)),
+            Err(_) => Reply::Refused(Refusal::NoMemory),
+        }
     }
 
+    #[tactic(auto, using(crate::proofs::Outcomes::text_starved))]
     fn new_list(&mut self) -> Reply
         ensures reply { IsReplyTo result (new_outcome self.old.session) }
         ensures session { self.new.session ≡ self.old.session }
         ensures asks { Asks (all_nodes self.old.session.tree) self.old result self.new }
     {
-        text_reply(self.resolver.new_list(self.alloc, &self.prefix))
+        match self.fill() {
+            Ok(()) => text_reply(new_text_over(self.alloc, &self.solved(), &self.prefix)),
+            Err(_) => Reply::Refused(Refusal::NoMemory),
+        }
     }
 }
 
@@ -472,65 +425,5 @@ fn text_reply(text: Result<String, AllocError>) -> Reply
     match text {
         Ok(text) => Reply::Done(Text::new(text)),
         Err(_) => Reply::Refused(Refusal::NoMemory),
-    }
-}
-
-impl Resolver for Session {
-    ghost use Rattle.kc_session.specs.Keeping.{Grew, KeepsRight};
-    ghost use Rattle.kc_value.specs.Kept.{IsKept};
-    ghost use Rattle.std.specs.Borrow.{sem};
-    ghost use Rattle.std.specs.Io.BufRead.{Rests};
-    ghost use Rattle.std.specs.Prelude.{◌∷◌, IsOk, OnOk};
-    ghost use Rattle.std.proofs.Common.{refl, ap, ◌∙◌};
-    ghost use Rattle.kc_tree.specs.Nodes.{IsNodeOf};
-    ghost use Rattle.kc_value.specs.UserValues.{IsUserFor};
-    ghost use Rattle.kc_session.specs.contracts.session.Session.{the_row};
-    ghost use Rattle.kc_session.specs.Session.{SessionValue};
-    ghost use Rattle.kc_value.specs.FillLaws.{fills_nothing, fills_then, fills_wider, kept_after};
-
-    ghost tree_of = { λ s. s.session.tree };
-
-    ghost user_of = { λ s. s.session.user };
-
-    ghost grew = { λ old new asked. Grew asked old new };
-
-    ghost knows = { λ s n. IsKept s.session.tree s.kept.values n };
-
-    ghost grew_nothing = { λ r. record { session = refl; fills = fills_nothing r.session.tree r.kept } };
-
-    ghost grew_then = { λ r s t p q g h. record {
-      session = h.session ∙ g.session;
-      fills = fills_then r.session.tree s.session.tree p q r.kept s.kept t.kept (ap (λ (x : SessionValue). x.tree) g.session) g.fills h.fills;
-    } };
-
-    ghost grew_wider = { λ r s p q wider g. record {
-      session = g.session;
-      fills = fills_wider r.session.tree p q r.kept s.kept wider g.fills;
-    } };
-
-    ghost knows_after = { λ r s p n inside known g.
-        kept_after r.session.tree s.session.tree p r.kept s.kept n (ap (λ (x : SessionValue). x.tree) g.session) inside known g.fills };
-
-    fn tree(&self) -> &Tree {
-        self.resolver.tree()
-    }
-
-    fn user(&self) -> &User {
-        self.resolver.user()
-    }
-
-    fn node(&mut self, node: Node) -> Result<&Value, AllocError>
-        requires { IsNodeOf self.old.session.tree node }
-        ensures value { IfOk result (λ v. v.now ≡ solution self.old.session.tree self.old.session.user node) }
-        ensures solved { IsOnlySolution self.old.session.tree self.old.session.user (solution self.old.session.tree self.old.session.user) }
-        ensures fitting { IsUserFor self.old.session.tree self.old.session.user }
-        ensures right { KeepsRight self.old }
-        ensures kept_before { IsKept self.old.session.tree self.old.kept.values node → IsOk result }
-        ensures* after_borrow { sem 𝓛 (Rests the_row self.entry (λ new.
-            (new.session.tree ≡ self.old.session.tree) × (new.session.user ≡ self.old.session.user)
-            × Grew (node ∷ []) self.old new × OnOk result (IsKept new.session.tree new.kept.values node))) }
-    {
-        self.facts();
-        self.resolver.node(node)
     }
 }

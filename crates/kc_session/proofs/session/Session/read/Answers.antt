@@ -15,5 +15,4 @@ text_of_warnings t prefix body text warnings lines are = lines ∙ ap warnings_t
 pub returns-in-Ok-clause-warnings : goal.returns-in-Ok-clause-warnings
 returns-in-Ok-clause-warnings c =
     subst (λ (s : SessionState). string_bytes c.in-Ok.text ≡ warnings_text_of s.session.tree s.session.prefix c.args.body.now) c.self.view_is
-    (subst (λ t. string_bytes c.in-Ok.text ≡ warnings_text_of t c.self.inside.prefix c.args.body.now) c.tree.ensures
-    (text_of_warnings _ _ _ _ _ c.in-Ok.ensures (c.as_slice.ensures.value ∙ c.in_ok-assigns.ensures.warnings)))
+    (text_of_warnings _ _ _ _ _ c.in-Ok.ensures (c.as_slice.ensures.value ∙ c.in_ok-assigns.ensures.warnings))
