@@ -1,5 +1,5 @@
 -- The reply to a command of the stream, by what its line asks for.
-use Rattle.std.proofs.Common.{◌≡◌, ℕ, true, false, List, length, Option, Some, None, Result, Ok, Err, if◌then◌else◌, refl, sym, ap, subst, ◌∙◌}
+use Rattle.std.proofs.Common.{◌≡◌, ℕ, true, false, List, length, Option, Result, Ok, Err, if◌then◌else◌, refl, sym, ap, subst, ◌∙◌}
 use Rattle.std.proofs.lemmas.Bool.{eq-eqb}
 use Rattle.kc_files.specs.declared.loading.Load.{Load}
 use Rattle.kc_files.specs.declared.loading.Load.TheVariants.{Replace, Merge as MergeLoad}
@@ -12,7 +12,7 @@ use Rattle.kc_session.specs.declared.command.Reply.TheVariants.{Refused}
 use Rattle.kc_session.specs.declared.command_line.Request.{Request}
 use Rattle.kc_session.specs.declared.command_line.Request.TheVariants.{Whole, WithBody}
 use Rattle.kc_session.specs.Bodies.{fits_body}
-use Rattle.kc_session.specs.Commands.{request_of, request_of_text, load_command, lines_asked}
+use Rattle.kc_session.specs.Commands.{request_of_text, load_command, lines_asked}
 use Rattle.kc_session.specs.Effect.{IsOutcome, refuse, perform, loaded}
 use Rattle.kc_session.specs.EvaluationBound.{IsBounded}
 use Rattle.kc_session.specs.HeldBody.{HeldBody, GivesBody, body_held, joined}
@@ -25,8 +25,8 @@ use Rattle.kc_session.specs.Replies.{body_outcome, request_outcome, outcome, rep
 use Rattle.kc_session.specs.Serving.{AnswersCommand, StopsInReply}
 use Rattle.kc_session.specs.Session.{SessionState, SessionValue}
 use Rattle.kc_session.specs.Steps.{IsStep, KeepsRequest}
-use Rattle.kc_session.specs.Stream.{lines_of, text_if_fits}
-use Rattle.kc_session.specs.StreamCommands.{StreamCommand, lines_taken}
+use Rattle.kc_session.specs.Stream.{lines_of}
+use Rattle.kc_session.specs.StreamCommands.{StreamCommand, lines_taken, request_of_line}
 use Rattle.kc_session.proofs.BodyHolding.{fits_body-joined}
 use Rattle.kc_session.proofs.EvaluationLaws.{request_bounded, request_counts}
 use Rattle.kc_session.proofs.Outcomes.{same_due, done_as_due}
@@ -83,78 +83,73 @@ load_done_reply s load held bytes r n is o k lines gives are =
     body_loaded s load k lines bytes r n (subst (λ c. GivesBody c k lines) is gives) o
 
 -- ---- a command, by what its line asks for
-asked : (s : SessionValue) (c : StreamCommand) (q : Result Request Refusal) (text : Option (List ℕ)) (r : Reply) (n : SessionValue) → text ≡ text_if_fits c.line
-    → request_of_text text ≡ q → IsOutcome s (request_outcome s q c.body) r n → IsOutcome s (outcome s c) r n
+asked : (s : SessionValue) (c : StreamCommand) (q : Result Request Refusal) (r : Reply) (n : SessionValue) → q ≡ request_of_line c.line
+    → IsOutcome s (request_outcome s q c.body) r n → IsOutcome s (outcome s c) r n
 unfolding outcome
-asked s c q text r n is asks o =
-    same_due s (request_outcome s q c.body) (outcome s c) r n
-    (ap (λ (x : Result Request Refusal). request_outcome s x c.body) (sym asks ∙ ap request_of_text is)) o
+asked s c q r n is o =
+    same_due s (request_outcome s q c.body) (outcome s c) r n (ap (λ (x : Result Request Refusal). request_outcome s x c.body) is) o
 
-asked_lines : (c : StreamCommand) (load : Load) (k : ℕ) (text : Option (List ℕ)) → text ≡ text_if_fits c.line → request_of_text text ≡ Ok (WithBody load k)
-    → lines_taken c.line ≡ k
+asked_lines : (c : StreamCommand) (load : Load) (k : ℕ) → Ok (WithBody load k) ≡ request_of_line c.line → lines_taken c.line ≡ k
 unfolding lines_taken
-asked_lines c load k text is asks = ap lines_asked (ap request_of_text (sym is) ∙ asks)
+asked_lines c load k is = ap lines_asked (sym is)
 
-module _ (s : SessionValue) (held : HeldBody) (text : Option (List ℕ)) (r : Reply) (n : SessionValue) where
-  -- whichever command has this text and this body, it was done as it is to be
+module _ (s : SessionValue) (held : HeldBody) (q : Result Request Refusal) (r : Reply) (n : SessionValue) where
+  -- whichever command asks for this and has this body, it was done as it is to be
   abbrev pub IsReplyToHeld : Type 0
   IsReplyToHeld =
-      (c : StreamCommand) → text ≡ text_if_fits c.line → GivesBody (body_held held) (lines_taken c.line) c.body → lines_of (joined c.body) ≡ c.body
-      → IsOutcome s (outcome s c) r n
+      (c : StreamCommand) → q ≡ request_of_line c.line → GivesBody (body_held held) (lines_taken c.line) c.body → lines_of (joined c.body) ≡ c.body → IsOutcome s (outcome s c) r n
 
-  pub no_text_reply : text ≡ None → r ≡ Refused TooLong → n ≡ s → IsReplyToHeld
-  no_text_reply none replied same c is gives are =
-      asked s c (Err TooLong) text r n is (ap request_of_text none) (done_as_due s (refuse s TooLong) r n replied same)
+  pub refused_reply : (f : Refusal) → q ≡ Err f → r ≡ Refused f → n ≡ s → IsReplyToHeld
+  refused_reply f asks replied same c is gives are = asked s c (Err f) r n (sym asks ∙ is) (done_as_due s (refuse s f) r n replied same)
 
-  pub refused_reply : (bytes : List ℕ) (f : Refusal) → text ≡ Some bytes → request_of bytes ≡ Err f → r ≡ Refused f → n ≡ s → IsReplyToHeld
-  refused_reply bytes f some asks replied same c is gives are =
-      asked s c (Err f) text r n is (ap request_of_text some ∙ asks) (done_as_due s (refuse s f) r n replied same)
+  pub whole_reply : (k : Command) → q ≡ Ok (Whole k) → IsOutcome s (perform s k) r n → IsReplyToHeld
+  whole_reply k asks o c is gives are = asked s c (Ok (Whole k)) r n (sym asks ∙ is) o
 
-  pub whole_reply : (bytes : List ℕ) (q : Command) → text ≡ Some bytes → request_of bytes ≡ Ok (Whole q) → IsOutcome s (perform s q) r n → IsReplyToHeld
-  whole_reply bytes q some asks o c is gives are =
-      asked s c (Ok (Whole q)) text r n is (ap request_of_text some ∙ asks) o
-
-  pub load_reply : (bytes : List ℕ) (load : Load) (k : ℕ) → text ≡ Some bytes → request_of bytes ≡ Ok (WithBody load k)
+  pub load_reply : (load : Load) (k : ℕ) → q ≡ Ok (WithBody load k)
       → ((m : ℕ) (lines : List (List ℕ)) → GivesBody (body_held held) m lines → lines_of (joined lines) ≡ lines → IsOutcome s (body_outcome s load m lines) r n) → IsReplyToHeld
-  load_reply bytes load k some asks loads c is gives are =
-      let asked_is : request_of_text text ≡ Ok (WithBody load k) = ap request_of_text some ∙ asks in
-      asked s c (Ok (WithBody load k)) text r n is asked_is
-      (loads k c.body (subst (λ m. GivesBody (body_held held) m c.body) (asked_lines c load k text is asked_is) gives) are)
+  load_reply load k asks loads c is gives are =
+      let asked_is : Ok (WithBody load k) ≡ request_of_line c.line = sym asks ∙ is in
+      asked s c (Ok (WithBody load k)) r n asked_is (loads k c.body (subst (λ m. GivesBody (body_held held) m c.body) (asked_lines c load k asked_is) gives) are)
 
 -- ---- the command, its reply and its bytes
-module _ (s n : SessionState) (line : HeldLine) (held : HeldBody) (text : Option (List ℕ)) (r : Reply) (is : text ≡ text_held line)
-    (replies : IsReplyToHeld s.session held text r n.session) (keeps : KeepsRequest s (request_of_text text) r n) (laws : KeptLaws s.session.tree) (right_before : KeepsRight s) (right : KeepsRight n) where
-  held_step : (c : StreamCommand) → HoldsCommand line held c → (o : IsOutcome s.session (outcome s.session c) r n.session) → IsStep c o.starved s n
-  held_step c h o =
-      let asks : KeepsRequest s (request_of_text (text_if_fits c.line)) r n = subst (λ x. KeepsRequest s (request_of_text x) r n) (is ∙ h.text) keeps in
-      record {
-        session_is = o.session;
-        keeps = subst (λ x. KeepsRequest s (request_of_text (text_if_fits c.line)) x n) o.replied asks;
-        right = right;
-        counts = request_counts s n r (request_of_text text) keeps;
-      }
+module _ (s n : SessionState) (held : HeldBody) (q : Result Request Refusal) (r : Reply) (replies : IsReplyToHeld s.session held q r n.session) (keeps : KeepsRequest s q r n)
+    (laws : KeptLaws s.session.tree) (right_before : KeepsRight s) (right : KeepsRight n) where
+  held_step : (c : StreamCommand) → q ≡ request_of_line c.line → (o : IsOutcome s.session (outcome s.session c) r n.session) → IsStep c o.starved s n
+  held_step c asks o = record {
+    session_is = o.session;
+    keeps = subst (λ x. KeepsRequest s (request_of_line c.line) x n) o.replied (subst (λ x. KeepsRequest s x r n) asks keeps);
+    right = right;
+    counts = request_counts s n r q keeps;
+  }
 
   held_bounded : (o : SessionValue) → n.session ≡ o → o.tree ≡ s.session.tree → IsBounded s n
-  held_bounded o session tree = request_bounded s n laws (ap (λ x. x.tree) session ∙ tree) right_before right r (request_of_text text) keeps
+  held_bounded o session tree = request_bounded s n laws (ap (λ x. x.tree) session ∙ tree) right_before right r q keeps
 
-  pub answers_held : (w0 w1 : Option (List ℕ)) → Appends w0 w1 (reply_bytes r) → (c : StreamCommand) → HoldsCommand line held c → AnswersCommand c w0 w1 s n
-  answers_held w0 w1 wrote c h =
-      let o = replies c (is ∙ h.text) h.gives h.are_lines in
+  asks_this : (line : HeldLine) (c : StreamCommand) → q ≡ request_of_text (text_held line) → HoldsCommand line held c → q ≡ request_of_line c.line
+  asks_this line c is h = is ∙ ap request_of_text h.text
+
+  pub answers_held : (w0 w1 : Option (List ℕ)) → Appends w0 w1 (reply_bytes r) → (line : HeldLine) (c : StreamCommand) → q ≡ request_of_text (text_held line) → HoldsCommand line held c
+      → AnswersCommand c w0 w1 s n
+  answers_held w0 w1 wrote line c is h =
+      let asks = asks_this line c is h in
+      let o = replies c asks h.gives h.are_lines in
       record {
         starved = o.starved;
         may = o.may;
         output = subst (λ x. Appends w0 w1 (reply_bytes x)) o.replied wrote;
-        step = held_step c h o;
+        step = held_step c asks o;
         bounded = held_bounded _ o.session refl;
       }
 
-  pub stops_held : (w0 w1 : Option (List ℕ)) → WritesPart w0 w1 (reply_bytes r) → (c : StreamCommand) → HoldsCommand line held c → StopsInReply c w0 w1 s n
-  stops_held w0 w1 wrote c h =
-      let o = replies c (is ∙ h.text) h.gives h.are_lines in
+  pub stops_held : (w0 w1 : Option (List ℕ)) → WritesPart w0 w1 (reply_bytes r) → (line : HeldLine) (c : StreamCommand) → q ≡ request_of_text (text_held line) → HoldsCommand line held c
+      → StopsInReply c w0 w1 s n
+  stops_held w0 w1 wrote line c is h =
+      let asks = asks_this line c is h in
+      let o = replies c asks h.gives h.are_lines in
       record {
         starved = o.starved;
         may = o.may;
         output = subst (λ x. WritesPart w0 w1 (reply_bytes x)) o.replied wrote;
-        step = held_step c h o;
+        step = held_step c asks o;
         bounded = held_bounded _ o.session refl;
       }

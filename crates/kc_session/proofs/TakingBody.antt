@@ -244,13 +244,12 @@ StopsInCommand-body left mid after line text k takes is asks stops =
     }
 
 -- ---- by what was found
-pub command_of_body : (r : Result CommandRead IoFault) (left mid after : Option (List ℕ)) (line : HeldLine) (body : HeldBody) (text : Option (List ℕ)) (k : ℕ) → TakesEndedLine left mid line
-    → text ≡ text_held line → k ≡ lines_asked (request_of_text text) → IfOk r (λ found. TakesBody found k mid after body)
-    → IfOk r (λ found. TakesCommand found left after line body)
-command_of_body (Ok Whole) left mid after line body text k takes is asks b = TakesWholeCommand-body left mid after line body text k takes is asks b
-command_of_body (Ok Last) left mid after line body text k takes is asks b = TakesLastCommand-body left mid after line body text k takes is asks b
-command_of_body (Ok Nothing) left mid after line body text k takes is asks b = absurd b
-command_of_body (Err e) left mid after line body text k takes is asks b = tt
+pub command_of_body : (r : Result CommandRead IoFault) (mid after : Option (List ℕ)) (body : HeldBody) (k : ℕ) → IfOk r (λ read. TakesBody read k mid after body)
+    → IfOk r (λ read. (left : Option (List ℕ)) (line : HeldLine) → TakesEndedLine left mid line → k ≡ lines_asked (request_of_text (text_held line)) → TakesCommand read left after line body)
+command_of_body (Ok Whole) mid after body k b = λ left line takes asks. TakesWholeCommand-body left mid after line body (text_held line) k takes refl asks b
+command_of_body (Ok Last) mid after body k b = λ left line takes asks. TakesLastCommand-body left mid after line body (text_held line) k takes refl asks b
+command_of_body (Ok Nothing) mid after body k b = absurd b
+command_of_body (Err e) mid after body k b = tt
 
 pub if_it_goes_on : (r : Result CommandRead IoFault) (P : Type 0) → P → IfOk r (λ found. IsTrue (may_go_on found) → P)
 if_it_goes_on (Ok found) P p = λ h. p

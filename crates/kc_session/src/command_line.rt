@@ -35,23 +35,29 @@ pub(crate) fn load_command(load: Load, body: &[u8]) -> Command<'_>
     }
 }
 
-/// How many lines behind a line are its body: none where the line is refused, or is no load. A line that is too long has
-/// no text.
-pub(crate) fn lines_asked(text: Option<&[u8]>) -> u64
-    ensures { result ≡ lines_asked (request_of_text (option_copied text.entry)) }
+/// How many lines after a line are its body: none where the line is refused, or is no load.
+pub(crate) fn body_lines(request: &Result<Request<'_>, Refusal>) -> u64
+    ensures { result ≡ lines_asked request.now }
 {
-    let Some(text) = text else {
-        return 0;
-    };
-    match read_request(text) {
-        Ok(Request::WithBody(_, count)) => count,
+    match request {
+        Ok(Request::WithBody(_, count)) => *count,
         Ok(Request::Whole(_)) | Err(_) => 0,
+    }
+}
+
+/// What a line asks for, or why it is refused. A line that is too long has no text.
+pub(crate) fn read_request(text: Option<&[u8]>) -> Result<Request<'_>, Refusal>
+    ensures { result ≡ request_of_text (option_copied text.entry) }
+{
+    match text {
+        Some(text) => read_bytes(text),
+        None => Err(Refusal::TooLong),
     }
 }
 
 /// What the text of a line asks for, or why the line is refused.
 #[tactic(auto, unfolding(crate::specs::Commands::request_of), using(crate::proofs::Texts::text_facts))]
-pub(crate) fn read_request(text: &[u8]) -> Result<Request<'_>, Refusal>
+fn read_bytes(text: &[u8]) -> Result<Request<'_>, Refusal>
     ensures { result ≡ request_of text.now }
 {
     match str::from_utf8(text) {

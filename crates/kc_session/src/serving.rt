@@ -7,11 +7,13 @@ ghost use Rattle.kc_value.specs.UserValues.{UserValues};
 ghost use Rattle.kc_session.specs.Serving.{Serves, ServesAll, StopsReading, StopsWriting};
 
 use crate::body_buffer::BodyBuffer;
+use crate::command_line::{body_lines, read_request};
 use crate::fault::IoFault;
 use crate::input::Input;
 use crate::line::LineBuffer;
-use crate::next_command::{CommandRead, read_command};
-use crate::replies::answer_command;
+use crate::next_command::{CommandRead, read_body};
+use crate::next_line::read_line;
+use crate::replies::answer;
 use crate::session::Session;
 use std::alloc::Global;
 use std::io::{Read, Write};
@@ -45,13 +47,22 @@ pub fn run<R: Read, W: Write>(
     ensures unfed { HasNoFeeds session.old.session.user → HasNoFeeds session.new.session.user }
 {
     session.facts();
-    let mut line = LineBuffer::new(alloc)?;
-    let mut next = LineBuffer::new(alloc)?;
-    let mut body = BodyBuffer::new(alloc);
-    let mut input = Input::new();
-    serve(
-        reader, writer, session, &mut input, &mut line, &mut next, &mut body,
-    )
+    let mut buffers = Buffers {
+        line: LineBuffer::new(alloc)?,
+        next: LineBuffer::new(alloc)?,
+        body: BodyBuffer::new(alloc),
+        input: Input::new(),
+    };
+    serve(reader, writer, session, &mut buffers)
+}
+
+/// What is read of a stream: the line of a command, the next line of its body, the body, and what was read and not yet taken.
+#[derive(Drop)]
+struct Buffers {
+    line: LineBuffer,
+    next: LineBuffer,
+    body: BodyBuffer,
+    input: Input,
 }
 
 /// Serves a stream with its buffers, from an input of which nothing is unread.
@@ -59,21 +70,29 @@ fn serve<R: Read, W: Write>(
     reader: &mut R,
     writer: &mut W,
     session: &mut Session,
-    input: &mut Input,
-    line: &mut LineBuffer,
-    next: &mut LineBuffer,
-    body: &mut BodyBuffer,
+    buffers: &mut Buffers,
 ) -> Result<(), IoFault>
-    requires { input.old.bytes ≡ [] }
+    requires { buffers.old.input.bytes ≡ [] }
     ensures served { Serves result (R.remaining reader.old) (R.remaining reader.new)
         (W.contents writer.old) (W.contents writer.new) session.old session.new }
     ensures unfed { HasNoFeeds session.old.session.user → HasNoFeeds session.new.session.user }
 {
     session.facts();
     loop {
-        match read_command(reader, input, line, next, body)? {
-            CommandRead::Whole => answer_command(line, body, writer, session)?,
-            CommandRead::Last => return answer_command(line, body, writer, session),
+        let found = read_line(reader, &mut buffers.input, &mut buffers.line)?;
+        let request = read_request(buffers.line.text());
+        let count = body_lines(&request);
+        let read = read_body(
+            reader,
+            &mut buffers.input,
+            found,
+            count,
+            &mut buffers.next,
+            &mut buffers.body,
+        )?;
+        match read {
+            CommandRead::Whole => answer(request, &buffers.body, writer, session)?,
+            CommandRead::Last => return answer(request, &buffers.body, writer, session),
             CommandRead::Nothing => return Ok(()),
         }
     }

@@ -1,7 +1,7 @@
 use Rattle.std.proofs.Common.{◌≤◌}
 use Rattle.std.specs.Io.KnownBytes.{prepend_known}
 use Rattle.kc_session.proofs.TakingBody.{HasTakenLines}
-use Rattle.kc_session.proofs.next_command.read_body.Given as goal
+use Rattle.kc_session.proofs.next_command.read_lines.Given as goal
 
 -- the lines so far were taken and are held
 abbrev pub invariant-loop-left : goal.invariant-loop-left
