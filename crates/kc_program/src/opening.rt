@@ -12,7 +12,7 @@ use crate::read_ahead::{Named, Reach, Waiting, path_of_source};
 use crate::targets::Target;
 use bumpalo::Bump;
 use kc_files::{Prefix, Warning};
-use kc_session::{OpenFault, Session, open_seeded};
+use kc_session::{KconfigTexts, OpenFault, Session, open_seeded};
 use kc_text::{Line, Sources, Text, TextFault, TextProblem, Vars, logical_lines};
 use kc_tree::{Seed, TreeFault, all_faults};
 use std::alloc::{AllocError, Global};
@@ -153,15 +153,12 @@ impl Opening for PlainOpening {
         sources: &Sources,
         kconfig: &Kconfig<'_, F>,
     ) -> Result<Opened, OpenFault> {
-        open_seeded(
-            alloc,
-            seed,
+        let texts = KconfigTexts {
             sources,
-            kconfig.vars,
-            kconfig.top,
-            kconfig.prefix,
-            kconfig.config.bytes(),
-        )
+            vars: kconfig.vars,
+            top: kconfig.top,
+        };
+        open_seeded(alloc, seed, &texts, kconfig.prefix, kconfig.config.bytes())
     }
 }
 

@@ -31,6 +31,6 @@ pub use body::Body;
 pub use command::{Command, Refusal, Reply};
 pub use fault::IoFault;
 pub use merging::{MergeFault, merged};
-pub use opening::{OpenFault, open, open_lines, open_seeded};
+pub use opening::{KconfigTexts, OpenFault, open, open_lines, open_seeded};
 pub use serving::run;
 pub use session::Session;

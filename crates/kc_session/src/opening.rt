@@ -37,6 +37,14 @@ pub enum OpenFault {
     NoMemory,
 }
 
+/// The texts of a Kconfig: its files, the variables that its lines name, and the path of the top file.
+#[derive(Clone, Copy)]
+pub struct KconfigTexts<'a> {
+    pub sources: &'a Sources,
+    pub vars: &'a Vars,
+    pub top: &'a str,
+}
+
 /// The logical lines of the top file, whose tokens the arena keeps.
 fn read_lines<'a>(
     alloc: Global,
@@ -145,7 +153,8 @@ pub fn open(
     ensures fault { IfErr result (IsOpenFault sources.now vars.now top.now config.now) }
     ensures first { IfErr result (IsFirstOpenFault sources.now vars.now top.now prefix.now config.now) }
 {
-    open_seeded(alloc, Seed::fixed(), sources, vars, top, prefix, config)
+    let texts = KconfigTexts { sources, vars, top };
+    open_seeded(alloc, Seed::fixed(), &texts, prefix, config)
 }
 
 /// The session of logical lines that were read before, for a caller who needs them afterwards, as for the places of faults
@@ -195,25 +204,23 @@ pub fn open_lines(
 pub fn open_seeded(
     alloc: Global,
     seed: Seed,
-    sources: &Sources,
-    vars: &Vars,
-    top: &str,
+    texts: &KconfigTexts<'_>,
     prefix: &Prefix,
     config: &[u8],
 ) -> Result<(Session, Vec<Warning>), OpenFault>
-    ensures opened { IfOk result (λ r. IsOpened sources.now vars.now top.now prefix.now config.now r.0.session) }
+    ensures opened { IfOk result (λ r. IsOpened texts.now.sources.now texts.now.vars.now texts.now.top.now prefix.now config.now r.0.session) }
     ensures warnings { IfOk result (λ r. r.1.items ≡ warnings_in r.0.session.tree prefix.now config.now) }
     ensures unfed { IfOk result (λ r. HasNoFeeds r.0.session.user) }
     ensures bodies { IfOk result (λ r. (body : List ℕ) → IsReadAs r.0.session.tree r.0.session.prefix body) }
     ensures nothing_kept { IfOk result (λ r. r.0.kept ≡ nothing_kept r.0.session.tree) }
     ensures right { IfOk result (λ r. KeepsRight r.0) }
     ensures solved { IfOk result (λ r. (u : UserValues) → IsOnlySolution r.0.session.tree u (solution r.0.session.tree u)) }
-    ensures only { IfOk result (λ r. IsOnlySession sources.now vars.now top.now prefix.now config.now r.0.session) }
-    ensures fault { IfErr result (IsOpenFault sources.now vars.now top.now config.now) }
-    ensures first { IfErr result (IsFirstOpenFault sources.now vars.now top.now prefix.now config.now) }
+    ensures only { IfOk result (λ r. IsOnlySession texts.now.sources.now texts.now.vars.now texts.now.top.now prefix.now config.now r.0.session) }
+    ensures fault { IfErr result (IsOpenFault texts.now.sources.now texts.now.vars.now texts.now.top.now config.now) }
+    ensures first { IfErr result (IsFirstOpenFault texts.now.sources.now texts.now.vars.now texts.now.top.now prefix.now config.now) }
 {
     let arena = Bump::new(alloc);
-    let lines = read_lines(alloc, &arena, sources, vars, top)?;
+    let lines = read_lines(alloc, &arena, texts.sources, texts.vars, texts.top)?;
     let opened = open_lines(alloc, seed, lines.as_slice(), prefix, config)?;
     Ok(opened)
 }

@@ -1,7 +1,7 @@
 //! Sessions that serve streams of commands, over readers and writers that fail at a given call.
 use crate::failing::{FailingReader, FailingWriter, NEVER};
 use kc_files::Prefix;
-use kc_session::{IoFault, Session, open_seeded, run};
+use kc_session::{IoFault, KconfigTexts, Session, open_seeded, run};
 use kc_text::{Sources, Vars};
 use kc_tree::Seed;
 use std::alloc::Global;
@@ -26,7 +26,12 @@ fn seeded_session(alloc: Global, seed: Seed, kconfig: &str) -> Result<Session, F
     sources.add("Kconfig", kconfig)?;
     let vars = Vars::none(alloc);
     let prefix = Prefix::new(alloc, "CONFIG_")?;
-    let (session, _) = open_seeded(alloc, seed, &sources, &vars, "Kconfig", &prefix, b"")?;
+    let texts = KconfigTexts {
+        sources: &sources,
+        vars: &vars,
+        top: "Kconfig",
+    };
+    let (session, _) = open_seeded(alloc, seed, &texts, &prefix, b"")?;
     Ok(session)
 }
 

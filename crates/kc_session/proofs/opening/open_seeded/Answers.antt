@@ -7,11 +7,11 @@ use Rattle.kc_session.proofs.opening.open_seeded.Goals as goal
 
 pub returns-clause-only : goal.returns-clause-only
 returns-clause-only c =
-    let are : logical_lines_of c.args.sources.now (texts_in c.args.vars.now) c.args.top.now ≡ Ok c.as_slice.result.now = c.in_ok-lines.ensures.lines ∙ ap (λ (ls : List LineValue). Ok ls) (sym c.as_slice.ensures.value) in
-    only_of c.args.sources.now c.args.vars.now c.args.top.now c.args.prefix.now c.args.config.now c.as_slice.result.now are _ c.in_ok-opened.ensures.only
+    let are : logical_lines_of c.args.texts.now.sources.now (texts_in c.args.texts.now.vars.now) c.args.texts.now.top.now ≡ Ok c.as_slice.result.now = c.in_ok-lines.ensures.lines ∙ ap (λ (ls : List LineValue). Ok ls) (sym c.as_slice.ensures.value) in
+    only_of c.args.texts.now.sources.now c.args.texts.now.vars.now c.args.texts.now.top.now c.args.prefix.now c.args.config.now c.as_slice.result.now are _ c.in_ok-opened.ensures.only
 
 pub returns-in_err-opened-clause-first : goal.returns-in_err-opened-clause-first
 returns-in_err-opened-clause-first c =
-    let are : logical_lines_of c.args.sources.now (texts_in c.args.vars.now) c.args.top.now ≡ Ok c.as_slice.result.now = c.in_ok-lines.ensures.lines ∙ ap (λ (ls : List LineValue). Ok ls) (sym c.as_slice.ensures.value) in
-    let first = first_of c.args.sources.now c.args.vars.now c.args.top.now c.args.prefix.now c.args.config.now c.as_slice.result.now are _ c.in_err-opened.ensures.first in
+    let are : logical_lines_of c.args.texts.now.sources.now (texts_in c.args.texts.now.vars.now) c.args.texts.now.top.now ≡ Ok c.as_slice.result.now = c.in_ok-lines.ensures.lines ∙ ap (λ (ls : List LineValue). Ok ls) (sym c.as_slice.ensures.value) in
+    let first = first_of c.args.texts.now.sources.now c.args.texts.now.vars.now c.args.texts.now.top.now c.args.prefix.now c.args.config.now c.as_slice.result.now are _ c.in_err-opened.ensures.first in
     search (rules, first)
