@@ -6,7 +6,6 @@ use Rattle.kc_outline.specs.TreeValue.{TreeValue}
 use Rattle.kc_tree.specs.declared.node.Node.TheVariants.{Val, Sel}
 use Rattle.kc_tree.specs.Nodes.{IsNodeOf}
 use Rattle.kc_value.specs.ChangedValue.{changed_value, ChangesAreJustEnough}
-use Rattle.kc_value.specs.Solution.{solution, IsOnlySolution}
 use Rattle.kc_value.specs.UserValues.{UserValues, user_value, chosen_in}
 
 pub own_value : (t : TreeValue) (u : UserValues) (s : SymId) → ChangesAreJustEnough t u → IsNodeOf t (Val s) → user_value u s ≡ None
@@ -16,7 +15,3 @@ own_value t u s just node none = just.needed u (λ n inside owned. refl) s node 
 pub own_member : (t : TreeValue) (u : UserValues) (c : ChoiceId) → ChangesAreJustEnough t u → IsNodeOf t (Sel c) → chosen_in u c ≡ None
     → changed_value t u (Sel c) ≡ None
 own_member t u c just node none = just.needed_members u (λ n inside owned. refl) c node none
-
--- the tree has one solution for any user values
-pub one_solution : (t : TreeValue) (u w : UserValues) → ChangesAreJustEnough t u → IsOnlySolution t w (solution t w)
-one_solution t u w just = just.solved w

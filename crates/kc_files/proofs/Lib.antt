@@ -1,3 +1,4 @@
+pub mod AllSolved
 pub mod AssignLines
 pub mod AssignLists
 pub mod AssignTexts

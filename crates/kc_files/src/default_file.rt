@@ -17,7 +17,7 @@ use crate::prefix::Prefix;
 use crate::symbol_line::push_symbol_line;
 use crate::symbols::selected_member;
 use kc_tree::{ChoiceId, Entry, Node, SymId, Tri, UserVal};
-use kc_value::{Resolver, Solved, Value, all_values, changed_value};
+use kc_value::{Resolver, Solved, Value, changed_value};
 use std::alloc::{AllocError, Global};
 
 /// The value of a symbol, where it is another than without the user's own: it is the same where the user gave none.
@@ -200,7 +200,6 @@ pub fn defconfig_text_over(
 /// values, it gives each visibility, value and selection as it is, and each mode but that of an optional choice, which
 /// is n where the choice selects none; and with any one of its lines left out, some value or selection is another. That
 /// the tree has one solution, and no other, for any user values holds whatever the call returns.
-#[tactic(auto, using(crate::proofs::DefaultChanges::one_solution))]
 pub fn defconfig_text<R: Resolver>(
     alloc: Global,
     resolver: &mut R,
@@ -215,7 +214,9 @@ pub fn defconfig_text<R: Resolver>(
     ensures user { R.user_of resolver.new ≡ R.user_of resolver.old }
     ensures grew { R.grew resolver.old resolver.new (all_nodes (R.tree_of resolver.old)) }
 {
-    let values = all_values(alloc, resolver)?;
-    let solved = Solved::of_all(resolver.tree(), resolver.user(), &values);
+    resolver.fill_all()?;
+    let solved = resolver.solved();
+    // That the values are those of the solution is a clause of this call.
+    let _ = solved.values();
     defconfig_text_over(alloc, &solved, prefix)
 }

@@ -34,7 +34,7 @@ pub(crate) fn why_outcome(
             status: Status::Fault,
         });
     }
-    session.fill()?;
+    session.fill_all()?;
     let view = View::new(session.solved());
     let places = Places::new(alloc, inputs.lines)?;
     let output = why_texts(alloc, inputs, &view, &places)?;
@@ -97,7 +97,7 @@ pub(crate) fn check_outcome(
     inputs: &ReportInputs<'_>,
     session: &mut Session,
 ) -> Result<Outcome, AllocError> {
-    session.fill()?;
+    session.fill_all()?;
     let view = View::new(session.solved());
     let places = Places::new(alloc, inputs.lines)?;
     let given = names_of(alloc, inputs.variables)?;
@@ -178,11 +178,11 @@ pub(crate) fn merge_outcome(
 ) -> Result<Outcome, AllocError> {
     let prefix = &inputs.arguments.prefix;
     let config = input_of(inputs.config);
-    session.fill()?;
+    session.fill_all()?;
     let view = View::new(session.solved());
     let before = read_again(effects_before(alloc, &view, prefix, &config))?;
     let output = merged_text(alloc, inputs.fragments, session)?;
-    session.fill()?;
+    session.fill_all()?;
     let view = View::new(session.solved());
     let places = Places::new(alloc, inputs.lines)?;
     let fragments = inputs_of(alloc, inputs.fragments)?;
@@ -214,7 +214,7 @@ pub(crate) fn menu_outcome(
     session: &mut Session,
     warnings: Vec<Warning>,
 ) -> Result<Outcome, AllocError> {
-    session.fill()?;
+    session.fill_all()?;
     let view = View::new(session.solved());
     let places = Places::new(alloc, inputs.lines)?;
     let help = if inputs.arguments.has_help {

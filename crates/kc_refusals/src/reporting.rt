@@ -24,7 +24,7 @@ pub(crate) fn check_lines(texts: &Texts, tree: &Tree) -> Result<Call, Stop> {
     })
 }
 
-/// Checks `fill`: where it is refused, what was kept stays.
+/// Checks `fill_all`: where it is refused, what was kept stays.
 pub(crate) fn check_fill(alloc: Global, session: &mut Session) -> Result<Call, Stop> {
     let before = held_by(alloc, session)?;
     made(|time| fill(alloc, session, &before, time))
@@ -35,7 +35,7 @@ fn fill(alloc: Global, session: &mut Session, before: &Held, time: Time) -> Resu
     if let Time::Second = time {
         want_held(alloc, session, before, true)?;
     }
-    match session.fill() {
+    match session.fill_all() {
         Ok(()) => want_held(alloc, session, before, true),
         Err(_) => Err(Stop::Refused),
     }
@@ -43,7 +43,7 @@ fn fill(alloc: Global, session: &mut Session, before: &Held, time: Time) -> Resu
 
 /// Checks `lines_without_effect`, of the lines of the body over the values that another `.config` gives.
 pub(crate) fn check_effects(texts: &Texts, session: &mut Session) -> Result<Call, Stop> {
-    session.fill()?;
+    session.fill_all()?;
     check_lost(texts, session.tree(), session.solved().values())
 }
 

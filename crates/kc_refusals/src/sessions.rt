@@ -133,7 +133,7 @@ pub(crate) enum SessionCall {
     Apply(Word),
     /// `run`.
     Run,
-    /// `fill`.
+    /// `fill_all`.
     Fill,
     /// `lines_without_effect`.
     LinesWithoutEffect,

@@ -109,7 +109,7 @@ impl Session {
     /// # Errors
     ///
     /// Where memory was refused.
-    pub fn fill(&mut self) -> Result<(), AllocError>
+    pub fn fill_all(&mut self) -> Result<(), AllocError>
         ensures grew { Grew (all_nodes self.old.session.tree) self.old self.new }
         ensures all { OnOk result (KeepsAll self.new) }
         ensures right { KeepsRight self.new }
@@ -162,7 +162,7 @@ impl Session {
     }
 
     /// The tree with the user values and the values that are kept. They are the solution's: of all nodes where all are kept,
-    /// as after `fill`.
+    /// as after `fill_all`.
     #[tactic(auto, using(crate::proofs::AskedLaws::kept_solved))]
     pub fn solved(&self) -> Solved<'_>
         ensures solved { result ≡ record { tree = self.now.session.tree; user = self.now.session.user; values = self.now.kept.values } }
@@ -199,6 +199,8 @@ impl Resolver for Session {
     ghost grew = { λ old new asked. Grew asked old new };
 
     ghost knows = { λ s n. IsKept s.session.tree s.kept.values n };
+
+    ghost lends = { λ s n. IsKept s.session.tree s.kept.values n };
 
     ghost grew_nothing = { λ r. record { session = refl; fills = fills_nothing r.session.tree r.kept } };
 
@@ -237,5 +239,19 @@ impl Resolver for Session {
         self.facts();
         self.fill_node(node)?;
         Ok(self.value(node))
+    }
+
+    fn fill_node(&mut self, node: Node) -> Result<(), AllocError> {
+        self.facts();
+        Session::fill_node(self, node)
+    }
+
+    fn fill_all(&mut self) -> Result<(), AllocError> {
+        self.facts();
+        Session::fill_all(self)
+    }
+
+    fn solved(&self) -> Solved<'_> {
+        Session::solved(self)
     }
 }

@@ -354,7 +354,7 @@ impl Session {
         ensures session { self.new.session ≡ self.old.session }
         ensures asks { Asks (all_nodes self.old.session.tree) self.old result self.new }
     {
-        match self.fill() {
+        match self.fill_all() {
             Ok(()) => text_reply(config_text_over(
                 self.alloc,
                 self.solved().known(),
@@ -371,7 +371,7 @@ impl Session {
         ensures session { self.new.session ≡ self.old.session }
         ensures asks { Asks (all_nodes self.old.session.tree) self.old result self.new }
     {
-        match self.fill() {
+        match self.fill_all() {
             Ok(()) => text_reply(header_text_over(self.alloc, self.solved().known(), &self.prefix)),
             Err(_) => Reply::Refused(Refusal::NoMemory),
         }
@@ -384,7 +384,7 @@ impl Session {
         ensures session { self.new.session ≡ self.old.session }
         ensures asks { Asks (all_nodes self.old.session.tree) self.old result self.new }
     {
-        match self.fill() {
+        match self.fill_all() {
             Ok(()) => text_reply(defconfig_text_over(self.alloc, &self.solved(), &self.prefix)),
             Err(_) => Reply::Refused(Refusal::NoMemory),
         }
@@ -396,7 +396,7 @@ impl Session {
         ensures session { self.new.session ≡ self.old.session }
         ensures asks { Asks (all_nodes self.old.session.tree) self.old result self.new }
     {
-        match self.fill() {
+        match self.fill_all() {
             Ok(()) => text_reply(new_text_over(self.alloc, &self.solved(), &self.prefix)),
             Err(_) => Reply::Refused(Refusal::NoMemory),
         }

@@ -1,4 +1,4 @@
-//! The calls of kc_value over a resolver that keeps nothing and over a session: both give the same answers, which are those
+//! The calls of kc_value over a fresh resolver and over a session: both give the same answers, which are those
 //! of worked examples.
 ghost use Rattle.std.specs.Prelude.{◌≡◌, IsTrue};
 ghost use Rattle.kc_tree.specs.declared.node.Node.TheVariants.{Vis, Sel};
@@ -9,7 +9,7 @@ use crate::table::{rows, three_fields, two_fields};
 use kc_session::Session;
 use kc_tree::{ChoiceId, Node, SymId, Tree, Tri};
 use kc_value::{
-    Fresh, KeptValues, Known, Meter, Resolver, User, Value, all_values, assignable, eval, tri,
+    Fresh, KeptValues, Known, Meter, Resolver, User, Value, assignable, eval, tri,
     without_user,
 };
 use std::alloc::Global;
@@ -113,13 +113,13 @@ fn answers<R: Resolver>(alloc: Global, resolver: &mut R, lines: &str) -> Result<
     Ok(out)
 }
 
-/// The same over a resolver that keeps nothing, for the tree and the user values of a session.
+/// The same over a fresh resolver, for the tree and the user values of a session.
 fn fresh_answers(alloc: Global, session: &Session, lines: &str) -> Result<String, Fail> {
     let mut resolver = Fresh::new(alloc, session.tree(), session.user());
     answers(alloc, &mut resolver, lines)
 }
 
-/// Wants these answers after commands, from a resolver that keeps nothing, from the session, and from what it has kept by
+/// Wants these answers after commands, from a fresh resolver, from the session, and from what it has kept by
 /// then.
 fn compare_answers(
     alloc: Global,
@@ -207,21 +207,22 @@ fn first_condition(known: &Known<'_>) -> Result<Tri, Fail> {
 
 /// The value of the condition of the first block, and the visibility of the symbol in it.
 fn condition<R: Resolver>(alloc: Global, resolver: &mut R) -> Result<String, Fail> {
-    let values = all_values(alloc, resolver)?;
-    let known = Known::of_nodes(resolver.tree(), &values);
+    resolver.fill_all()?;
+    let solved = resolver.solved();
+    let known = solved.known();
     let inside = known.tree().find("INSIDE").ok_or("no symbol INSIDE")?;
-    let condition = first_condition(&known)?.letter();
+    let condition = first_condition(known)?.letter();
     let visibility = known.tri(Node::Vis(inside)).letter();
     Ok(format!(in alloc; "{condition} {visibility}")?)
 }
 
-/// The same over a resolver that keeps nothing.
+/// The same over a fresh resolver.
 fn fresh_condition(alloc: Global, session: &Session) -> Result<String, Fail> {
     let mut resolver = Fresh::new(alloc, session.tree(), session.user());
     condition(alloc, &mut resolver)
 }
 
-/// Wants this value of the condition, over all values of a resolver that keeps nothing and over those of the session.
+/// Wants this value of the condition, over all values of a fresh resolver and over those of the session.
 fn compare_conditions(alloc: Global, session: &mut Session, want: &str) -> Result<(), Fail> {
     let want = format!(in alloc; "{want} {want}")?;
     let fresh = fresh_condition(alloc, session)?;
@@ -281,21 +282,22 @@ fn nodes_at_odds(
 
 /// The nodes at odds over all values of a resolver, and how many evaluations were counted.
 fn show_rules<R: Resolver>(alloc: Global, resolver: &mut R) -> Result<String, Fail> {
-    let values = all_values(alloc, resolver)?;
+    resolver.fill_all()?;
     let (_, mut meter) = KeptValues::new(alloc, resolver.tree())?.into_parts();
-    let (tree, user) = (resolver.tree(), resolver.user());
-    let at_odds = nodes_at_odds(alloc, &Known::of_nodes(tree, &values), user, &mut meter)?;
+    let solved = resolver.solved();
+    let tree = solved.tree();
+    let at_odds = nodes_at_odds(alloc, solved.known(), solved.user(), &mut meter)?;
     let counted = meter.count() == tree.node_count() as u64;
     Ok(format!(in alloc; "{at_odds} {counted}")?)
 }
 
-/// The same over a resolver that keeps nothing.
+/// The same over a fresh resolver.
 fn show_fresh_rules(alloc: Global, session: &Session) -> Result<String, Fail> {
     let mut resolver = Fresh::new(alloc, session.tree(), session.user());
     show_rules(alloc, &mut resolver)
 }
 
-/// Wants the rule of each node to give its value, over the values of a resolver that keeps nothing and over those of the
+/// Wants the rule of each node to give its value, over the values of a fresh resolver and over those of the
 /// session, after commands.
 fn compare_rules(alloc: Global, session: &mut Session, commands: &str) -> Result<(), Fail> {
     let _ = replies_in(alloc, session, commands)?;

@@ -122,7 +122,7 @@ fn effects_in(
 /// The same once a `.config` was merged in a session.
 fn effects_after(alloc: Global, session: &mut Session, config: &[u8]) -> Result<String, Fail> {
     let _ = merged(session, &[Body::new(config)])?;
-    session.fill()?;
+    session.fill_all()?;
     effects_in(alloc, session.tree(), session.solved().values(), config)
 }
 

@@ -1,4 +1,4 @@
-//! Why symbols have their values, over a resolver that keeps nothing and over a session: the branches of docs/VALUES.md,
+//! Why symbols have their values, over a fresh resolver and over a session: the branches of docs/VALUES.md,
 //! "Reasons", one or more rows for each. And the factors of a condition, in the order of its "Conditions".
 ghost use Rattle.kc_tree.specs.declared.node.Node.TheVariants.{Val};
 ghost use Rattle.kc_tree.specs.Nodes.{IsNodeOf};
@@ -8,8 +8,7 @@ use crate::table::{rows, three_fields};
 use kc_session::Session;
 use kc_tree::{SymId, Tree};
 use kc_value::{
-    DefaultPlace, Factor, Fresh, Known, Origin, RangePlace, Reason, Resolver, all_values,
-    prompt_factors, reason_of,
+    DefaultPlace, Factor, Fresh, Origin, RangePlace, Reason, Resolver, prompt_factors, reason_of,
 };
 use std::alloc::{AllocError, Global};
 use std::test::Fail;
@@ -97,7 +96,7 @@ fn symbol_words<R: Resolver>(
 ) -> Result<String, AllocError>
     requires { IsNodeOf (R.tree_of resolver.old) (Val symbol) }
 {
-    let reason = reason_of(alloc, resolver, symbol)?;
+    let reason = reason_of(resolver, symbol)?;
     reason_words(alloc, resolver.tree(), reason)
 }
 
@@ -120,13 +119,13 @@ fn words<R: Resolver>(alloc: Global, resolver: &mut R, lines: &str) -> Result<St
     Ok(out)
 }
 
-/// The same over a resolver that keeps nothing, for the tree and the user values of a session.
+/// The same over a fresh resolver, for the tree and the user values of a session.
 fn fresh_words(alloc: Global, session: &Session, lines: &str) -> Result<String, Fail> {
     let mut resolver = Fresh::new(alloc, session.tree(), session.user());
     words(alloc, &mut resolver, lines)
 }
 
-/// Wants these reasons after commands, from a resolver that keeps nothing and from the session.
+/// Wants these reasons after commands, from a fresh resolver and from the session.
 fn compare_words(
     alloc: Global,
     session: &mut Session,
@@ -186,10 +185,10 @@ fn factor_words(alloc: Global, factor: Factor<'_>) -> Result<String, AllocError>
 
 /// The factors of the prompt of the third definition, a line each.
 fn prompt_words(alloc: Global, session: &mut Session) -> Result<String, Fail> {
-    let values = all_values(alloc, session)?;
-    let known = Known::of_nodes(session.tree(), &values);
+    session.fill_all()?;
+    let solved = session.solved();
     let mut out = String::new(alloc);
-    for factor in prompt_factors(alloc, &known, 2)?.as_slice() {
+    for factor in prompt_factors(alloc, solved.known(), 2)?.as_slice() {
         out.push_str(factor_words(alloc, *factor)?.as_str())?;
     }
     Ok(out)

@@ -2,6 +2,7 @@
 use Rattle.std.proofs.Common.{◌≡◌, ◌<◌, Bool, true, false, true≢false, cond, ◌||◌, ◌&&◌, List, [], ◌∷◌, ◌++◌, Option, Some, None, length, if◌then◌else◌, get_or-set_same, refl, sym, ap, ◌∙◌, arith}
 use Rattle.std.specs.Prelude.{is_some, option_and_then, unwrap_or}
 use Rattle.std.specs.List.{slice_get, filter, list_any}
+use Rattle.std.proofs.lemmas.List.Elements.{Contains-append_right}
 use Rattle.std.specs.Option.{option_map_or}
 use Rattle.kc_statement.specs.declared.id.SymId.{SymId}
 use Rattle.kc_outline.specs.declared.id.ChoiceId.{ChoiceId}
@@ -15,6 +16,7 @@ use Rattle.kc_tree.specs.declared.user_value.UserVal.TheVariants.{Tri as TriVal}
 use Rattle.kc_statement.specs.SymbolTypes.{is_tri_type}
 use Rattle.kc_outline.specs.TreeValue.{same_type}
 use Rattle.kc_outline.specs.TreeValue.{TreeValue, SymbolValue, kind_of, choice_of}
+use Rattle.kc_tree.specs.Reached.{Reached}
 use Rattle.kc_tree.specs.Uses.{Uses}
 use Rattle.kc_value.specs.declared.value.Value.TheVariants.{Tri as Level}
 use Rattle.kc_statement.specs.Tristate.{greatest, is_no, least}
@@ -164,3 +166,7 @@ pub no_values : (t : TreeValue) (u : UserValues) (s : SymId) (items : List Tri) 
 no_values t u s items is seen =
     let all = filter (is_shown_with_some t u (solution t u) s) (No ∷ Module ∷ Yes ∷ []) in
     is ∙ sym (ap (λ b. if b then [] else (if is_some (choice_of t s) then Yes ∷ [] else all)) seen)
+
+-- ---- a node reaches no more than it and another do
+pub second_in_both : (t : TreeValue) (p q : Node) → (n : Node) → Reached t (q ∷ []) n → Reached t (p ∷ q ∷ []) n
+second_in_both t p q n (m, asked, leads) = (m, Contains-append_right (p ∷ []) (q ∷ []) m asked, leads)

@@ -16,7 +16,7 @@ pub mod FactorLists
 pub mod FillSteps
 pub mod FirstLemmas
 pub mod FittingLaws
-pub mod GatheringLemmas
+pub mod FreshLaws
 pub mod KeptCounts
 pub mod KeptLaws
 pub mod KeptReading

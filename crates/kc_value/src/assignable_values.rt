@@ -19,7 +19,6 @@ ghost use Rattle.kc_value.specs.Rule.{in_type, user_part};
 ghost use Rattle.kc_value.specs.Solution.{solution, AreSolved, IsOnlySolution};
 ghost use Rattle.kc_value.specs.UserValues.{UserValues, IsUserFor};
 
-use crate::gathering::used_values;
 use crate::known::Known;
 use crate::resolver::Resolver;
 use crate::symbol_value::{LineValues, line_values, shown_tri};
@@ -135,9 +134,9 @@ pub fn assignable<R: Resolver>(
     ensures user { R.user_of resolver.new ≡ R.user_of resolver.old }
     ensures grew { R.grew resolver.old resolver.new (Vis symbol ∷ Val symbol ∷ []) }
 {
-    let values = used_values(alloc, resolver, Node::Val(symbol))?;
-    let _ = resolver.user();
-    assignable_among(alloc, &Known::of_nodes(resolver.tree(), &values), symbol)
+    resolver.fill_node(Node::Val(symbol))?;
+    let solved = resolver.solved();
+    assignable_among(alloc, solved.known(), symbol)
 }
 
 /// The values that a user can give a symbol with an effect, as [`assignable`] has them, over the values of all nodes, or

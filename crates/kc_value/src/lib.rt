@@ -14,7 +14,6 @@ mod expr_value;
 mod factors;
 mod filling;
 mod fresh;
-mod gathering;
 mod kept_values;
 mod known;
 mod node_values;
@@ -44,7 +43,6 @@ pub use factors::{
     dependency_factors, menu_factors, prompt_factors, range_factors, reverse_factors,
 };
 pub use fresh::{Fresh, solve};
-pub use gathering::all_values;
 pub use kept_values::{KeptValues, Meter};
 pub use known::Known;
 pub use node_values::NodeValues;

@@ -1,6 +1,6 @@
 //! The values of nodes, by number.
 
-ghost use Rattle.std.specs.Prelude.{◌≡◌, ◌<◌, ℕ, IfOk, IfSome, None, OnErr, OnOk, Some, false, is_some, length, map, nat_eq, replicate, slice_index_or, slice_set, true, unwrap_or};
+ghost use Rattle.std.specs.Prelude.{◌≡◌, ◌<◌, ℕ, [], IfOk, IfSome, None, OnErr, OnOk, Some, false, is_some, length, map, nat_eq, replicate, slice_index_or, slice_set, true, unwrap_or};
 ghost use Rattle.std.specs.Option.{option_copied};
 ghost use Rattle.indexmap.specs.IndexMap.{get};
 ghost use Rattle.kc_value.specs.declared.summary.Summary.TheVariants.{Absent};
@@ -77,6 +77,17 @@ fn store_if(
 }
 
 impl NodeValues {
+    /// No places.
+    pub(crate) fn none(alloc: Global) -> NodeValues
+        ensures { result ≡ [] }
+    {
+        NodeValues {
+            summaries: Vec::new(alloc),
+            stored: IndexMap::new(alloc),
+            said: SaidValues::new(),
+        }
+    }
+
     /// As many nodes without a value. The error comes where memory is refused.
     pub fn empty(alloc: Global, count: usize) -> Result<NodeValues, AllocError>
         ensures { IfOk result (λ s. s ≡ replicate count None) }

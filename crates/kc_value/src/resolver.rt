@@ -3,11 +3,13 @@ ghost use Rattle.std.specs.Borrow.{sem};
 ghost use Rattle.std.specs.Io.BufRead.{Rests};
 ghost use Rattle.kc_tree.specs.declared.node.Node.{Node};
 ghost use Rattle.kc_outline.specs.TreeValue.{TreeValue};
-ghost use Rattle.kc_tree.specs.Nodes.{IsNodeOf};
+ghost use Rattle.kc_tree.specs.Nodes.{IsNodeOf, all_nodes};
 ghost use Rattle.kc_tree.specs.Reached.{Reached};
+ghost use Rattle.kc_value.specs.Kept.{IsKept};
 ghost use Rattle.kc_value.specs.UserValues.{UserValues, IsUserFor};
 ghost use Rattle.kc_value.specs.Solution.{solution, IsOnlySolution};
 
+use crate::solved::Solved;
 use crate::user::User;
 use crate::value::Value;
 use kc_tree::{Node, Tree};
@@ -31,6 +33,10 @@ pub trait Resolver {
     /// That the value of the node is at hand: of a resolver that keeps values, that it is kept.
     ghost knows: { Self → Node → Type 0 };
 
+    /// That the value of the node is among those that [`solved`](Resolver::solved) lends. It need not stay so past the
+    /// next question.
+    ghost lends: { Self → Node → Type 0 };
+
     /// The tree that is answered for.
     fn tree(&self) -> &Tree
         ensures { result.now ≡ tree_of self.now };
@@ -50,6 +56,40 @@ pub trait Resolver {
         ensures* after_borrow { sem 𝓛 (Rests Self.row self.entry (λ new.
             (tree_of new ≡ tree_of self.old) × (user_of new ≡ user_of self.old)
             × grew self.old new (node ∷ []) × OnOk result (knows new node))) };
+
+    /// Evaluates a node, and all that it is computed from, as far as their values are not at hand, so that they can be
+    /// lent. That there is one solution, and no other, for these user values and for any others, holds whatever the call
+    /// returns; tree and user values stay.
+    ///
+    /// # Errors
+    ///
+    /// The error comes where memory is refused.
+    fn fill_node(&mut self, node: Node) -> Result<(), AllocError>
+        requires { IsNodeOf (tree_of self.old) node }
+        ensures tree { tree_of self.new ≡ tree_of self.old }
+        ensures user { user_of self.new ≡ user_of self.old }
+        ensures grew { grew self.old self.new (node ∷ []) }
+        ensures lent { OnOk result (lends self.new node) }
+        ensures solved { (u : UserValues) → IsOnlySolution (tree_of self.old) u (solution (tree_of self.old) u) };
+
+    /// Evaluates all nodes, as far as their values are not at hand, with what is said at [`fill_node`](Resolver::fill_node).
+    ///
+    /// # Errors
+    ///
+    /// The error comes where memory is refused.
+    fn fill_all(&mut self) -> Result<(), AllocError>
+        ensures tree { tree_of self.new ≡ tree_of self.old }
+        ensures user { user_of self.new ≡ user_of self.old }
+        ensures grew { grew self.old self.new (all_nodes (tree_of self.old)) }
+        ensures lent { OnOk result ((n : Node) → IsNodeOf (tree_of self.old) n → lends self.new n) }
+        ensures solved { (u : UserValues) → IsOnlySolution (tree_of self.old) u (solution (tree_of self.old) u) };
+
+    /// The tree with the user values and values of its nodes, those of the last question among them: texts and answers are
+    /// made from these.
+    fn solved(&self) -> Solved<'_>
+        ensures tree { result.tree ≡ tree_of self.now }
+        ensures user { result.user ≡ user_of self.now }
+        ensures lent { (n : Node) → IsNodeOf (tree_of self.now) n → lends self.now n → IsKept (tree_of self.now) result.values n };
 
     /// A resolver that was left alone was asked no node.
     ghost grew_nothing: { (r : Self) → grew r r [] };

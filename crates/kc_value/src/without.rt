@@ -13,7 +13,6 @@ ghost use Rattle.kc_value.specs.UserValues.{UserValues};
 ghost use Rattle.kc_value.specs.Without.{user_without, value_without, selects_none, IsOwned};
 
 use crate::choice_value::selection_value;
-use crate::gathering::used_values;
 use crate::known::Known;
 use crate::resolver::Resolver;
 use crate::symbol_value::symbol_value;
@@ -105,6 +104,9 @@ pub fn without_user<R: Resolver>(
     ensures user { R.user_of resolver.new ≡ R.user_of resolver.old }
     ensures grew { R.grew resolver.old resolver.new (node ∷ []) }
 {
-    let values = used_values(alloc, resolver, node)?;
-    value_without(alloc, &Known::of_nodes(resolver.tree(), &values), node)
+    // That the tree is accepted is a clause of this call.
+    let _ = resolver.tree().node_count();
+    resolver.fill_node(node)?;
+    let solved = resolver.solved();
+    value_without(alloc, solved.known(), node)
 }

@@ -1,7 +1,6 @@
-use Rattle.std.proofs.Common.{◌≡◌, true, false, Option, Some, None, if◌then◌else◌, sym, ap, ◌∙◌}
+use Rattle.std.proofs.Common.{◌≡◌, true, false, Some, None, if◌then◌else◌, sym, ap, ◌∙◌}
 use Rattle.kc_tree.specs.declared.node.Node.{Node}
 use Rattle.kc_tree.specs.Uses.{Uses}
-use Rattle.kc_value.specs.declared.value.Value.{Value}
 use Rattle.kc_value.specs.ChangedValue.{changed_value, same_value}
 use Rattle.kc_value.specs.Known.{given}
 use Rattle.kc_value.specs.Solution.{solution}

@@ -16,9 +16,9 @@ use Rattle.kc_session.proofs.session.Session.config.Goals as goal
 
 pub returns-clause-reply : goal.returns-clause-reply
 returns-clause-reply c =
-    let new = c.fill.new.self in
+    let new = c.fill_all.new.self in
     let a = solution new.session.tree new.session.user in
-    elim c.match-fill.branch [
+    elim c.match-fill_all.branch [
       | in-Ok w ↦
           let s = w.solved.result in
           let k = w.known.result.now in
@@ -27,15 +27,15 @@ returns-clause-reply c =
           let prefix : c.self.inside.prefix ≡ new.session.prefix = ap (λ (x : SessionState). x.session.prefix) c.self.view_is in
           let text : IfOk w.config_text_over.result (λ text. string_bytes text ≡ config_text_of new.session.tree new.session.prefix [] a) =
           IfOk-weaker w.config_text_over.result _ _ (λ text is. is a agrees ∙ (λ i. config_text_of (trees i) (prefix i) [] a)) w.config_text_over.ensures in
-          rw w.result-is (subst (λ (x : SessionValue). IsReplyTo w.text_reply.result (config_outcome x)) c.fill.ensures.grew.session (text_answered string_bytes new.session (config_text_of new.session.tree new.session.prefix [] a) w.config_text_over.result w.text_reply.result text w.text_reply.ensures.text w.text_reply.ensures.starved))
+          rw w.result-is (subst (λ (x : SessionValue). IsReplyTo w.text_reply.result (config_outcome x)) c.fill_all.ensures.grew.session (text_answered string_bytes new.session (config_text_of new.session.tree new.session.prefix [] a) w.config_text_over.result w.text_reply.result text w.text_reply.ensures.text w.text_reply.ensures.starved))
       | in-Err w ↦ rw w.result-is (text_starved c.args.self.now.session _)
     ]
 
 pub returns-clause-asks : goal.returns-clause-asks
 returns-clause-asks c =
     let old = c.args.self.now in
-    let new = c.fill.new.self in
-    elim c.match-fill.branch [
-      | in-Ok w ↦ asks_all old new c.match-fill.result (subst IsSound c.self.view_is c.self.invariant) c.fill.ensures.grew w.in-Ok.ensures.all
-      | in-Err w ↦ rw w.result-is (asks_refused (all_nodes old.session.tree) old new NoMemory c.fill.ensures.grew)
+    let new = c.fill_all.new.self in
+    elim c.match-fill_all.branch [
+      | in-Ok w ↦ asks_all old new c.match-fill_all.result (subst IsSound c.self.view_is c.self.invariant) c.fill_all.ensures.grew w.in-Ok.ensures.all
+      | in-Err w ↦ rw w.result-is (asks_refused (all_nodes old.session.tree) old new NoMemory c.fill_all.ensures.grew)
     ]

@@ -9,8 +9,8 @@ use Rattle.kc_session.proofs.session.Session.new_list.Goals as goal
 pub returns-clause-asks : goal.returns-clause-asks
 returns-clause-asks c =
     let old = c.args.self.now in
-    let new = c.fill.new.self in
-    elim c.match-fill.branch [
-      | in-Ok w ↦ asks_all old new c.match-fill.result (subst IsSound c.self.view_is c.self.invariant) c.fill.ensures.grew w.in-Ok.ensures.all
-      | in-Err w ↦ rw w.result-is (asks_refused (all_nodes old.session.tree) old new NoMemory c.fill.ensures.grew)
+    let new = c.fill_all.new.self in
+    elim c.match-fill_all.branch [
+      | in-Ok w ↦ asks_all old new c.match-fill_all.result (subst IsSound c.self.view_is c.self.invariant) c.fill_all.ensures.grew w.in-Ok.ensures.all
+      | in-Err w ↦ rw w.result-is (asks_refused (all_nodes old.session.tree) old new NoMemory c.fill_all.ensures.grew)
     ]
