@@ -1,354 +1,437 @@
--- User values that are merged take the place of others once, so that exactly what changes is dropped.
-use Rattle.std.proofs.Common.{◌≡◌, ◌⊎◌, inl, inr, ℕ, ◌+◌, ◌<◌, ◌==◌, Bool, true, false, true≢false, ◌&&◌, All, List, [], ◌∷◌, length, map, get_or, take, slice_set, slice_index_or, Option, Some, None, is_some, if◌then◌else◌, refl, sym, ap, ◌∙◌, subst, ⊎_elim, arith}
-use Rattle.std.specs.List.{Contains}
+-- Assignments that are merged one at a time, each place once, leave the user values that the last of them give.
+use Rattle.std.proofs.Common.{◌≡◌, ◌⊎◌, inl, inr, ℕ, ◌<◌, ◌≤◌, ◌==◌, Bool, true, false, true≢false, not, ◌&&◌, ◌||◌, All, List, [], ◌∷◌, ◌++◌, length, reverse, slice_get, slice_set, slice_index_or, Option, Some, None, is_some, if◌then◌else◌, refl, sym, ap, ◌∙◌, subst, ⊎_elim, arith}
+use Rattle.std.specs.List.{list_any}
 use Rattle.std.specs.Option.{option_map_or, option_or}
-use Rattle.std.proofs.lemmas.Bool.{cases_eq, cases_lt, eqb-true, ne_eqb}
-use Rattle.std.proofs.lemmas.List.{get_or_past, get_or-set_same, get_or-set_other, take_more}
-use Rattle.std.proofs.lemmas.List.Elements.{All-contains, Contains-append_right, Contains-push_cases}
-use Rattle.std.proofs.lemmas.List.FromFn.{fill_by_all, get_or-map-range_with_len}
+use Rattle.std.specs.Prelude.{option_and_then}
+use Rattle.std.proofs.lemmas.Bool.{cases_eq, cases_lt, eq-eqb, ne_eqb}
+use Rattle.std.proofs.lemmas.List.{get_or_past, get_or-set_same, get_or-set_other, length-set, reverse-append, reverse-reverse}
+use Rattle.std.proofs.lemmas.List.Elements.{All-head, All-tail}
+use Rattle.std.proofs.lemmas.List.FromFn.{fill_by_all}
+use Rattle.std.proofs.lemmas.Option.{none-some, same_Some, slice_get_cases}
 use Rattle.kc_statement.specs.declared.id.SymId.{SymId}
+use Rattle.kc_statement.specs.declared.symbol_type.SymbolType.TheVariants as kind
 use Rattle.kc_outline.specs.declared.id.ChoiceId.{ChoiceId}
-use Rattle.kc_outline.specs.TreeValue.{TreeValue, choice_of}
+use Rattle.kc_outline.specs.TreeValue.{TreeValue, SymbolValue, choice_of, kind_of}
 use Rattle.kc_tree.specs.declared.user_value.UserVal.{UserVal}
+use Rattle.kc_tree.specs.declared.user_value.UserVal.TheVariants.{Text}
+use Rattle.kc_tree.specs.Fits.{fits, fits_type}
 use Rattle.kc_value.specs.Dirty.{Edits}
-use Rattle.kc_value.specs.Kept.{AreKept, KeptValue}
-use Rattle.kc_value.specs.UserValues.{UserValues, IsUserFor, no_values, user_value, chosen_in, with_value, with_chosen}
+use Rattle.kc_value.specs.UserValues.{UserValues, user_value, chosen_in, with_value, with_chosen}
 use Rattle.kc_files.specs.declared.assign.Assign.{Assign}
 use Rattle.kc_files.specs.declared.loading.Load.TheVariants.{Merge}
-use Rattle.kc_files.specs.LineReading.{IsAssignFor}
-use Rattle.kc_files.specs.Loading.{last_of, value_for, is_yes, is_member_of, member_for, value_after, chosen_after, user_after}
-use Rattle.kc_session.specs.Merging.{Takes, AreTaking, IsTaken, IsTaking}
+use Rattle.kc_files.specs.DefaultLoading.{HasNoFeeds}
+use Rattle.kc_files.specs.LineReading.{has_feed, IsAssignFor, IsUnfed}
+use Rattle.kc_files.specs.Loading.{last_of, value_for, is_yes, member_for, value_after, chosen_after, user_after}
+use Rattle.kc_session.specs.Keeping.{EditsKept}
+use Rattle.kc_session.specs.Merging.{is_assign_to, is_choosing, merged_one}
+use Rattle.kc_session.specs.Session.{IsSound, SessionState, SessionValue, with_user}
 use Rattle.kc_session.proofs.EditLaws.{edits_then}
-use Rattle.kc_session.proofs.UnchangedLaws.{edits_nothing, none_in, Contains-from_map}
+
+-- ---- what an assignment gives, its symbol takes
+pub assign_fits : (t : TreeValue) (a : Assign) → IsAssignFor t a → choice_of t a.symbol ≡ None → fits t a.symbol a.value ≡ true
+assign_fits t a h alone =
+    ⊎_elim (λ at. found at.0 at.2) (λ past. absurd (omega (arith, h.0, past.0))) (slice_get_cases t.symbols a.symbol.0).1
+  where
+    both : (x : SymbolValue) → slice_get t.symbols a.symbol.0 ≡ Some x → (o : Option ChoiceId) → x.choice ≡ o → (not (is_some x.choice) && fits_type (kind_of x) a.value) ≡ true
+    both x e None f =
+        ap (λ (o : Option ChoiceId). not (is_some o) && fits_type (kind_of x) a.value) f
+        ∙ ap (λ (o : Option SymbolValue). fits_type (option_map_or kind_of o kind.Bool) a.value) (sym e)
+        ∙ h.1
+    both x e (Some c) f =
+        absurd (true≢false (ap is_some (sym f ∙ ap (λ (o : Option SymbolValue). option_and_then (λ z. z.choice) o) (sym e) ∙ alone)))
+
+    found : (x : SymbolValue) → slice_get t.symbols a.symbol.0 ≡ Some x → fits t a.symbol a.value ≡ true
+    found x e = ap (λ (o : Option SymbolValue). option_map_or (λ z. not (is_some z.choice) && fits_type (kind_of z) a.value) o false) e ∙ both x e x.choice refl
 
 -- ---- one place
-takes_then : {X : Type 0} (u n v m w l : Option X) → Takes u n v m → Takes v m w l → Takes u n w l
-takes_then u n v m w l f g =
+-- what it has by what is given: a member of a choice keeps what it had
+abbrev has_by : {X : Type 0} → Bool → Option X → Option X → Option X
+has_by member given had = if member then had else option_or given had
+
+-- .. unless a later one gives something
+abbrev merged_at : {X : Type 0} → Bool → Option X → Option X → Option X → Option X
+merged_at member last given had = if is_some last then had else has_by member given had
+
+-- the later ones give it what all do
+same_later : {X : Type 0} (b : Bool) (last given had : Option X) → has_by b last (merged_at b last given had) ≡ has_by b (option_or last given) had
+same_later true None given had = refl
+same_later true (Some x) given had = refl
+same_later false None given had = refl
+same_later false (Some x) given had = refl
+
+nothing_given : {X : Type 0} (b : Bool) (had : Option X) → has_by b None had ≡ had
+nothing_given true had = refl
+nothing_given false had = refl
+
+-- what is given nothing stays
+stays : {X : Type 0} (b later : Bool) (given had : Option X) → (b ≡ true) ⊎ (given ≡ None) → had ≡ (if later then had else has_by b given had)
+stays b true given had why = refl
+stays {X} b false given had why =
     ⊎_elim
-    (λ stays. ⊎_elim
-    (λ still. inl (still.0 ∙ stays.0, still.1 ∙ stays.1))
-    (λ takes. inr (ap is_some (sym stays.1) ∙ takes.0, takes.1 ∙ stays.1, takes.2))
-    g)
-    (λ took. ⊎_elim
-    (λ still. inr (took.0, still.0 ∙ took.1, still.1 ∙ took.2))
-    (λ takes. absurd (true≢false (sym takes.0 ∙ ap is_some took.2)))
-    g)
-    f
+    (λ (e : b ≡ true). sym (ap (λ m. has_by {X = X} m given had) e))
+    (λ (e : given ≡ None). sym (ap (λ g. has_by {X = X} b g had) e ∙ nothing_given {X = X} b had))
+    why
 
--- it becomes another at most once
-takes_once : {X : Type 0} (u n v m w l : Option X) → Takes u n v m → Takes v m w l → (v ≡ u) ⊎ (w ≡ v)
-takes_once u n v m w l f g =
-    ⊎_elim
-    (λ stays. inl stays.0)
-    (λ took. ⊎_elim (λ still. inr still.0) (λ takes. absurd (true≢false (sym takes.0 ∙ ap is_some took.2))) g)
-    f
+-- it was not changed yet, or is given nothing more
+merged_once : {X : Type 0} (b : Bool) (last given had was : Option X) → (had ≡ was) ⊎ (option_or last given ≡ None) → (merged_at b last given had ≡ was) ⊎ (last ≡ None)
+merged_once b None given had was h = inr refl
+merged_once b (Some x) given had was h = ⊎_elim (λ e. inl e) (λ e. absurd (true≢false (ap is_some e))) h
 
-none_left : {X : Type 0} (u n v m : Option X) → Takes u n v m → n ≡ None → m ≡ None
-none_left u n v m f e = ⊎_elim (λ stays. stays.1 ∙ e) (λ took. took.2) f
+stays_given : {X : Type 0} (b : Bool) (last given had : Option X) → option_or last given ≡ None → merged_at b last given had ≡ had
+stays_given b None given had e = sym (stays b false given had (inr e))
+stays_given b (Some x) given had e = refl
 
--- ---- taking
-pub taking_nothing : (t : TreeValue) (u n : UserValues) (k : KeptValue) → IsUserFor t u → IsUserFor t n → AreKept t u k.values → IsTaking t u n k u n k
-taking_nothing t u n k user next kept = record {
-  user = user;
-  next = next;
-  kept = kept;
-  taking = record { values = λ s. inl (refl, refl); chosen = λ c. inl (refl, refl) };
-  edits = edits_nothing t u k;
-}
+-- so it becomes another at most once
+other_once : {X : Type 0} (b : Bool) (last given had was : Option X) → (had ≡ was) ⊎ (option_or last given ≡ None) → (had ≡ was) ⊎ (merged_at b last given had ≡ had)
+other_once b last given had was h = ⊎_elim (λ e. inl e) (λ e. inr (stays_given b last given had e)) h
 
-pub taking_then : (t : TreeValue) (u n v m w l : UserValues) (a b c : KeptValue) → IsTaking t u n a v m b → IsTaking t v m b w l c → IsTaking t u n a w l c
-taking_then t u n v m w l a b c f g = record {
-  user = g.user;
-  next = g.next;
-  kept = g.kept;
-  taking = record {
-    values = λ s. takes_then (user_value u s) (user_value n s) (user_value v s) (user_value m s) (user_value w s) (user_value l s) (f.taking.values s) (g.taking.values s);
-    chosen = λ d. takes_then (chosen_in u d) (chosen_in n d) (chosen_in v d) (chosen_in m d) (chosen_in w d) (chosen_in l d) (f.taking.chosen d) (g.taking.chosen d);
-  };
-  edits = edits_then t u v w
-      (λ s. takes_once (user_value u s) (user_value n s) (user_value v s) (user_value m s) (user_value w s) (user_value l s) (f.taking.values s) (g.taking.values s))
-      (λ d. takes_once (chosen_in u d) (chosen_in n d) (chosen_in v d) (chosen_in m d) (chosen_in w d) (chosen_in l d) (f.taking.chosen d) (g.taking.chosen d))
-      a b c f.edits g.edits;
-}
+-- ---- what may be a value has no line feed
+abbrev IsPlain : Option UserVal → Type 0
+IsPlain o = (v : UserVal) → o ≡ Some v → has_feed v ≡ false
 
--- what was taken stays so
-pub taken_stays : (t : TreeValue) (u n v m : UserValues) (s : SymId) → AreTaking u n v m → IsTaken t n s → IsTaken t m s
-taken_stays t u n v m s f taken = record {
-  value = λ alone. none_left (user_value u s) (user_value n s) (user_value v s) (user_value m s) (f.values s) (taken.value alone);
-  chosen = λ c is. none_left (chosen_in u c) (chosen_in n c) (chosen_in v c) (chosen_in m c) (f.chosen c) (taken.chosen c is);
-}
+plain_or : (o p : Option UserVal) → IsPlain o → IsPlain p → IsPlain (option_or o p)
+plain_or None p h k = k
+plain_or (Some x) p h k = h
 
--- ---- lists with one place changed
-set_at : {X : Type 0} (xs : List (Option X)) (i j : ℕ) (y : Option X) → j ≡ i → i < length xs → slice_index_or (slice_set xs i y) j None ≡ y
-set_at {X} xs i j y same within = ap (λ k. slice_index_or (slice_set xs i y) k None) same ∙ get_or-set_same xs i y None within
+plain_merged : (b : Bool) (last given had : Option UserVal) → IsPlain given → IsPlain had → IsPlain (merged_at b last given had)
+plain_merged b (Some x) given had h k = k
+plain_merged true None given had h k = k
+plain_merged false None given had h k = plain_or given had h k
 
-takes_at : {X : Type 0} (us ns : List (Option X)) (i j : ℕ) (x : X) → slice_index_or ns i None ≡ Some x → i < length us → i < length ns
-    → Takes (slice_index_or us j None) (slice_index_or ns j None) (slice_index_or (slice_set us i (Some x)) j None) (slice_index_or (slice_set ns i None) j None)
-takes_at {X} us ns i j x given in_us in_ns =
-    ⊎_elim
-    (λ same.
-    let here : slice_index_or ns j None ≡ Some x = ap (λ k. slice_index_or ns k None) same ∙ given in
-    inr (ap is_some here, set_at us i j (Some x) same in_us ∙ sym here, set_at ns i j None same in_ns))
-    (λ other. inl (get_or-set_other us i j (Some x) None other, get_or-set_other ns i j None None other))
-    (cases_eq j i)
+plain_given : (b : Bool) (v : UserVal) → has_feed v ≡ false → IsPlain (if b then Some v else None)
+plain_given true v h = λ x e. sym (ap has_feed (same_Some v x e)) ∙ h
+plain_given false v h = λ x e. absurd (none-some x e)
 
-stays_at : {X : Type 0} (u : Option X) (ns : List (Option X)) (i j : ℕ) → slice_index_or ns i None ≡ None → i < length ns
-    → Takes u (slice_index_or ns j None) u (slice_index_or (slice_set ns i None) j None)
-stays_at {X} u ns i j none in_ns =
-    inl (
-      refl,
-      ⊎_elim
-          (λ same. set_at ns i j None same in_ns ∙ sym (ap (λ k. slice_index_or ns k None) same ∙ none))
-          (λ other. get_or-set_other ns i j None None other)
-          (cases_eq j i),
-    )
+plain_user : (u : UserValues) → HasNoFeeds u → (s : SymId) → IsPlain (user_value u s)
+plain_user u h s (Text w) e = h s w e
+plain_user u h s _ e = refl
 
--- ---- one symbol, one choice
-pub value_taking : (t : TreeValue) (u n : UserValues) (s : SymId) (x : UserVal) → s.0 < length t.symbols → IsUserFor t u → IsUserFor t n → user_value n s ≡ Some x
-    → AreTaking u n (with_value u s (Some x)) (with_value n s None)
-value_taking t u n s x inside user next given = record {
-  values = λ r. takes_at u.values n.values s.0 r.0 x given (omega (arith, inside, user.values)) (omega (arith, inside, next.values));
-  chosen = λ c. inl (refl, refl);
-}
-
-pub no_value_taking : (t : TreeValue) (u n : UserValues) (s : SymId) → s.0 < length t.symbols → IsUserFor t n → user_value n s ≡ None → AreTaking u n u (with_value n s None)
-no_value_taking t u n s inside next none = record {
-  values = λ r. stays_at (user_value u r) n.values s.0 r.0 none (omega (arith, inside, next.values));
-  chosen = λ c. inl (refl, refl);
-}
-
-pub chosen_within : (t : TreeValue) (n : UserValues) (c : ChoiceId) (x : SymId) → IsUserFor t n → chosen_in n c ≡ Some x → c.0 < length t.choices
-chosen_within t n c x next given =
-    ⊎_elim
-    (λ below. below)
-    (λ past. absurd (true≢false (sym (ap is_some given) ∙ ap is_some (get_or_past n.chosen c.0 None (omega (arith, past, next.chosen))))))
-    (cases_lt c.0 (length t.choices))
-
-pub member_taking : (t : TreeValue) (u n : UserValues) (c : ChoiceId) (x : SymId) → IsUserFor t u → IsUserFor t n → chosen_in n c ≡ Some x
-    → AreTaking u n (with_chosen u c (Some x)) (with_chosen n c None)
-member_taking t u n c x user next given =
-    let inside = chosen_within t n c x next given in record {
-      values = λ s. inl (refl, refl);
-      chosen = λ d. takes_at u.chosen n.chosen c.0 d.0 x given (omega (arith, inside, user.chosen)) (omega (arith, inside, next.chosen));
-    }
-
--- .. with what they drop
-pub value_taken : (t : TreeValue) (u n v m : UserValues) (s : SymId) (x : UserVal) (old new : KeptValue) → s.0 < length t.symbols → IsUserFor t u → IsUserFor t n
-    → user_value n s ≡ Some x → v ≡ with_value u s (Some x) → m ≡ with_value n s None → IsUserFor t v → IsUserFor t m
-    → AreKept t (with_value u s (Some x)) new.values → Edits t u (with_value u s (Some x)) old new → IsTaking t u n old v m new
-value_taken t u n v m s x old new inside user next given v_is m_is v_user m_next kept edits = record {
-  user = v_user;
-  next = m_next;
-  kept = subst (λ y. AreKept t y new.values) (sym v_is) kept;
-  taking = subst (λ (p : UserValues × UserValues). AreTaking u n p.0 p.1) (λ i. (sym v_is i, sym m_is i)) (value_taking t u n s x inside user next given);
-  edits = subst (λ y. Edits t u y old new) (sym v_is) edits;
-}
-
-pub no_value_taken : (t : TreeValue) (u n m : UserValues) (s : SymId) (k : KeptValue) → s.0 < length t.symbols → IsUserFor t u → IsUserFor t n
-    → user_value n s ≡ None → m ≡ with_value n s None → IsUserFor t m → AreKept t u k.values → IsTaking t u n k u m k
-no_value_taken t u n m s k inside user next none m_is m_next kept = record {
-  user = user;
-  next = m_next;
-  kept = kept;
-  taking = subst (λ y. AreTaking u n u y) (sym m_is) (no_value_taking t u n s inside next none);
-  edits = edits_nothing t u k;
-}
-
-pub value_gone_at : (t : TreeValue) (n m : UserValues) (s : SymId) → s.0 < length t.symbols → IsUserFor t n → m ≡ with_value n s None → user_value m s ≡ None
-value_gone_at t n m s inside next m_is = ap (λ y. user_value y s) m_is ∙ set_at n.values s.0 s.0 None refl (omega (arith, inside, next.values))
-
-pub member_taken : (t : TreeValue) (u n v m : UserValues) (c : ChoiceId) (x : SymId) (old new : KeptValue) → IsUserFor t u → IsUserFor t n
-    → chosen_in n c ≡ Some x → v ≡ with_chosen u c (Some x) → m ≡ with_chosen n c None → IsUserFor t v → IsUserFor t m
-    → AreKept t (with_chosen u c (Some x)) new.values → Edits t u (with_chosen u c (Some x)) old new → IsTaking t u n old v m new
-member_taken t u n v m c x old new user next given v_is m_is v_user m_next kept edits = record {
-  user = v_user;
-  next = m_next;
-  kept = subst (λ y. AreKept t y new.values) (sym v_is) kept;
-  taking = subst (λ (p : UserValues × UserValues). AreTaking u n p.0 p.1) (λ i. (sym v_is i, sym m_is i)) (member_taking t u n c x user next given);
-  edits = subst (λ y. Edits t u y old new) (sym v_is) edits;
-}
-
-pub member_gone_at : (t : TreeValue) (n m : UserValues) (c : ChoiceId) → c.0 < length t.choices → IsUserFor t n → m ≡ with_chosen n c None → chosen_in m c ≡ None
-member_gone_at t n m c inside next m_is = ap (λ y. chosen_in y c) m_is ∙ set_at n.chosen c.0 c.0 None refl (omega (arith, inside, next.chosen))
-
--- ---- a symbol
-pub free_taken : (t : TreeValue) (m : UserValues) (s : SymId) → choice_of t s ≡ None → user_value m s ≡ None → IsTaken t m s
-free_taken t m s alone none = record {
-  value = λ h. none;
-  chosen = λ c is. absurd (true≢false (sym (ap is_some is) ∙ ap is_some alone));
-}
-
-pub in_choice_taken : (t : TreeValue) (m : UserValues) (s : SymId) (c : ChoiceId) → choice_of t s ≡ Some c → chosen_in m c ≡ None → IsTaken t m s
-in_choice_taken t m s c is none = record {
-  value = λ h. absurd (true≢false (sym (ap is_some is) ∙ ap is_some h));
-  chosen = λ d other.
-      let same : Some d ≡ Some c = sym other ∙ is in
-      ap (λ (o : Option ChoiceId). option_map_or (chosen_in m) o None) same ∙ none;
-}
-
--- ---- symbols one after the other
--- of the first ones, and of the next one
-pub taken_next : (t : TreeValue) (symbols : List SymId) (i : ℕ) (d : SymId) (u n v m : UserValues) → i < length symbols → AreTaking u n v m
-    → ((s : SymId) → Contains (take i symbols) s → IsTaken t n s) → IsTaken t m (get_or symbols i d) → (s : SymId) → Contains (take (i + 1) symbols) s → IsTaken t m s
-taken_next t symbols i d u n v m within taking before own s listed =
-    ⊎_elim
-    (λ earlier. taken_stays t u n v m s taking (before s earlier))
-    (λ last. subst (IsTaken t m) last own)
-    (Contains-push_cases (take i symbols) (get_or symbols i d) s (subst (λ xs. Contains xs s) (take_more symbols i d within) listed))
-
--- ---- what assignments name
-abbrev symbols_of : List Assign → List SymId
-symbols_of bs = map (λ a. a.symbol) bs
-
-abbrev numbered : ℕ → SymId
-numbered n = record { 0 = n }
-
-in_first : (x : SymId) (xs : List SymId) → Contains (x ∷ xs) x
-in_first x xs = (0, omega arith, refl)
-
-in_later : (x : SymId) (xs : List SymId) (y : SymId) → Contains xs y → Contains (x ∷ xs) y
-in_later x xs y c = Contains-append_right (x ∷ []) xs y c
-
-both_none : {X : Type 0} (o p : Option X) → o ≡ None → p ≡ None → option_or o p ≡ None
-both_none o p e f = ap (λ x. option_or x p) e ∙ f
-
-value_named : (s : SymId) (bs : List Assign) → (last_of (value_for s) bs ≡ None) ⊎ Contains (symbols_of bs) s
-value_named s [] = inl refl
-value_named s (a ∷ later) =
-    ⊎_elim
-    (λ none. ⊎_elim
-    (λ (same : a.symbol.0 ≡ s.0). inr (subst (λ x. Contains (a.symbol ∷ symbols_of later) x) (ap numbered same) (in_first a.symbol (symbols_of later))))
-    (λ other. inl (both_none (last_of (value_for s) later) (value_for s a) none (ap (λ b. if b then Some a.value else None) (ne_eqb a.symbol.0 s.0 other))))
-    (cases_eq a.symbol.0 s.0))
-    (λ c. inr (in_later a.symbol (symbols_of later) s c))
-    (value_named s later)
-
-member_is : (t : TreeValue) (c : ChoiceId) (s : SymId) → is_member_of t c s ≡ true → choice_of t s ≡ Some c
-member_is t c s e = go (choice_of t s) e
+-- ---- assignments from the last one back
+last_more : {X : Type 0} (f : Assign → Option X) (bs : List Assign) (a : Assign) → last_of f (bs ++ a ∷ []) ≡ option_or (f a) (last_of f bs)
+last_more f [] a = or_none (f a)
   where
-    go : (o : Option ChoiceId) → option_map_or (λ d. d.0 == c.0) o false ≡ true → o ≡ Some c
-    go None e = absurd (true≢false (sym e))
-    go (Some d) e = let same : d ≡ c = ap (λ (n : ℕ). record { 0 = n }) (eqb-true d.0 c.0 e) in ap Some same
+    or_none : {X : Type 0} (o : Option X) → o ≡ option_or o None
+    or_none None = refl
+    or_none (Some x) = refl
+last_more f (b ∷ bs) a = ap (λ o. option_or o (f b)) (last_more f bs a) ∙ or_assoc (f a) (last_of f bs) (f b)
+  where
+    or_assoc : {X : Type 0} (o p q : Option X) → option_or (option_or o p) q ≡ option_or o (option_or p q)
+    or_assoc None p q = refl
+    or_assoc (Some x) p q = refl
 
-decided : (b : Bool) → (b ≡ true) ⊎ (b ≡ false)
-decided true = inl refl
-decided false = inr refl
+some_or : {X : Type 0} (o p : Option X) → (is_some o || is_some p) ≡ is_some (option_or o p)
+some_or None p = refl
+some_or (Some x) p = refl
 
-member_named : (t : TreeValue) (c : ChoiceId) (bs : List Assign)
-    → (last_of (member_for t c) bs ≡ None) ⊎ ((s : SymId) × Contains (symbols_of bs) s × (choice_of t s ≡ Some c))
-member_named t c [] = inl refl
-member_named t c (a ∷ later) =
-    ⊎_elim
-    (λ none. ⊎_elim
-    (λ is. inr (a.symbol, in_first a.symbol (symbols_of later), member_is t c a.symbol is))
-    (λ not_one. inl (both_none (last_of (member_for t c) later) (member_for t c a) none (ap (λ b. if b && is_yes a.value then Some a.symbol else None) not_one)))
-    (decided (is_member_of t c a.symbol)))
-    (λ found. inr (found.0, in_later a.symbol (symbols_of later) found.0 found.1, found.2))
-    (member_named t c later)
+any_last : {X : Type 0} (f : Assign → Option X) (p : Assign → Bool) → ((a : Assign) → p a ≡ is_some (f a)) → (bs : List Assign)
+    → list_any p bs ≡ is_some (last_of f (reverse bs))
+any_last f p same [] = refl
+any_last {X} f p same (a ∷ bs) =
+    ap (λ b. b || list_any p bs) (same a)
+    ∙ ap (λ b. is_some (f a) || b) (any_last f p same bs)
+    ∙ some_or (f a) (last_of f (reverse bs))
+    ∙ ap is_some (sym (last_more f (reverse bs) a))
+    ∙ ap (λ r. is_some (last_of f r)) (sym (reverse-append (a ∷ []) bs))
 
--- ---- all that was next was taken
-some_first : {X : Type 0} (o p : Option X) → is_some o ≡ true → option_or o p ≡ o
-some_first None p e = absurd (true≢false (sym e))
-some_first (Some x) p e = refl
+some_if : {X : Type 0} (b : Bool) (x : X) → b ≡ is_some (if b then Some x else None)
+some_if true x = refl
+some_if false x = refl
 
--- a place that took what was next has the last that was given, else what was there
-taken_or_was : {X : Type 0} (u n v m : Option X) → Takes u n v m → m ≡ None → v ≡ option_or n u
-taken_or_was u n v m f none =
-    ⊎_elim
-    (λ stays. stays.0 ∙ sym (ap (λ x. option_or x u) (sym stays.1 ∙ none)))
-    (λ took. took.1 ∙ sym (some_first n u took.0))
-    f
+assigned_last : (s : SymId) (bs : List Assign) → list_any (is_assign_to s) bs ≡ is_some (last_of (value_for s) (reverse bs))
+assigned_last s bs = any_last (value_for s) (is_assign_to s) (λ a. some_if (is_assign_to s a) a.value) bs
 
-module _ (t : TreeValue) (u : UserValues) (bs : List Assign) where
-  abbrev pub next : UserValues
-  next = user_after t (no_values t) Merge bs
+chosen_last : (t : TreeValue) (c : ChoiceId) (bs : List Assign) → list_any (is_choosing t c) bs ≡ is_some (last_of (member_for t c) (reverse bs))
+chosen_last t c bs = any_last (member_for t c) (is_choosing t c) (λ a. some_if (is_choosing t c a) a.symbol) bs
 
-  no_value_before : (s : SymId) → user_value (no_values t) s ≡ None
-  no_value_before s = none_in {X = UserVal} (length t.symbols) s.0
+-- ---- one assignment
+module _ (t : TreeValue) (u : UserValues) (a : Assign) (later : List Assign) where
+  abbrev with_member : ChoiceId → UserValues
+  with_member c = if is_yes a.value && not (list_any (is_choosing t c) later) then with_chosen u c (Some a.symbol) else u
 
-  no_member_before : (c : ChoiceId) → chosen_in (no_values t) c ≡ None
-  no_member_before c = none_in {X = SymId} (length t.choices) c.0
+  abbrev with_own : UserValues
+  with_own = if not (list_any (is_assign_to a.symbol) later) then with_value u a.symbol (Some a.value) else u
 
-  next_value : (s : SymId) → s.0 < length t.symbols → user_value next s ≡ value_after t (no_values t) Merge bs s
-  next_value s inside = get_or-map-range_with_len (λ k. value_after t (no_values t) Merge bs (record { 0 = k })) 0 (length t.symbols) s.0 s.0 None inside (omega arith)
+  abbrev HasSizes : UserValues → Type 0
+  HasSizes w = (length w.values ≡ length u.values) × (length w.chosen ≡ length u.chosen)
 
-  next_member : (c : ChoiceId) → c.0 < length t.choices → chosen_in next c ≡ chosen_after t (no_values t) Merge bs c
-  next_member c inside = get_or-map-range_with_len (λ k. chosen_after t (no_values t) Merge bs (record { 0 = k })) 0 (length t.choices) c.0 c.0 None inside (omega arith)
+  merged_sizes : HasSizes (merged_one t u a later)
+  merged_sizes = go (choice_of t a.symbol)
+    where
+      own : (b : Bool) → HasSizes (if b then with_value u a.symbol (Some a.value) else u)
+      own true = (length-set u.values a.symbol.0 (Some a.value), refl)
+      own false = (refl, refl)
 
-  over : {X : Type 0} (b : Bool) (last had before : Option X) → before ≡ None
-      → option_or (if b then before else option_or last before) had ≡ (if b then had else option_or last had)
-  over true last had before none = ap (λ x. option_or x had) none
-  over false None had before none = ap (λ x. option_or x had) none
-  over false (Some x) had before none = refl
+      member : (c : ChoiceId) (b : Bool) → HasSizes (if b then with_chosen u c (Some a.symbol) else u)
+      member c true = (refl, length-set u.chosen c.0 (Some a.symbol))
+      member c false = (refl, refl)
 
-  value_over : (s : SymId) → option_or (value_after t (no_values t) Merge bs s) (user_value u s) ≡ value_after t u Merge bs s
-  value_over s = over (is_some (choice_of t s)) (last_of (value_for s) bs) (user_value u s) (user_value (no_values t) s) (no_value_before s)
+      go : (o : Option ChoiceId) → HasSizes (option_map_or with_member o with_own)
+      go None = own (not (list_any (is_assign_to a.symbol) later))
+      go (Some c) = member c (is_yes a.value && not (list_any (is_choosing t c) later))
 
-  member_over : (c : ChoiceId) → option_or (chosen_after t (no_values t) Merge bs c) (chosen_in u c) ≡ chosen_after t u Merge bs c
-  member_over c = over false (last_of (member_for t c) bs) (chosen_in u c) (chosen_in (no_values t) c) (no_member_before c)
+  module _ (inside : a.symbol.0 < length t.symbols) (long : length u.values ≡ length t.symbols) (s : SymId) where
+    abbrev had_value : Option UserVal
+    had_value = user_value u s
 
-  -- a symbol that is not assigned, or that is a member, has no next value
-  unnamed : (s : SymId) (b : Bool) (last : Option UserVal) → (b ≡ true) ⊎ (last ≡ None)
-      → (if b then user_value (no_values t) s else option_or last (user_value (no_values t) s)) ≡ None
-  unnamed s true last why = no_value_before s
-  unnamed s false last why =
-      ⊎_elim (λ e. absurd (true≢false (sym e))) (λ none. both_none last (user_value (no_values t) s) none (no_value_before s)) why
+    abbrev last_value : Option UserVal
+    last_value = last_of (value_for s) (reverse later)
 
-  module _ (is left : UserValues) (user : IsUserFor t is) (rest : IsUserFor t left) (taking : AreTaking u next is left)
-      (taken : (s : SymId) → Contains (symbols_of bs) s → IsTaken t left s) where
-    value_gone : (s : SymId) → s.0 < length t.symbols → user_value left s ≡ None
-    value_gone s inside =
-        let gone : user_value next s ≡ None → user_value left s ≡ None =
-        none_left (user_value u s) (user_value next s) (user_value is s) (user_value left s) (taking.values s) in
-        let alone_or_not : (o : Option ChoiceId) → choice_of t s ≡ o → (is_some (choice_of t s) ≡ true) ⊎ (choice_of t s ≡ None) = λ o e. split o e in
-        ⊎_elim
-        (λ member. gone (next_value s inside ∙ unnamed s (is_some (choice_of t s)) (last_of (value_for s) bs) (inl member)))
-        (λ alone. ⊎_elim
-        (λ none. gone (next_value s inside ∙ unnamed s (is_some (choice_of t s)) (last_of (value_for s) bs) (inr none)))
-        (λ named. (taken s named).value alone)
-        (value_named s bs))
-        (alone_or_not (choice_of t s) refl)
+    abbrev is_member : Bool
+    is_member = is_some (choice_of t s)
+
+    not_given : (s.0 ≡ a.symbol.0 → ⊥) → value_for s a ≡ None
+    not_given other = ap (λ b. if b then Some a.value else None) (ne_eqb a.symbol.0 s.0 (λ e. other (sym e)))
+
+    is_given : s.0 ≡ a.symbol.0 → value_for s a ≡ Some a.value
+    is_given same = ap (λ b. if b then Some a.value else None) (eq-eqb a.symbol.0 s.0 (sym same))
+
+    choice_same : s.0 ≡ a.symbol.0 → choice_of t s ≡ choice_of t a.symbol
+    choice_same same = ap (λ (n : ℕ). choice_of t (record { 0 = n })) same
+
+    value_own : choice_of t a.symbol ≡ None → s.0 ≡ a.symbol.0 → user_value with_own s ≡ merged_at is_member last_value (value_for s a) had_value
+    value_own alone same =
+        ap (λ b. user_value (if not b then with_value u a.symbol (Some a.value) else u) s) asked ∙ go (is_some last_value)
       where
-        split : (o : Option ChoiceId) → choice_of t s ≡ o → (is_some (choice_of t s) ≡ true) ⊎ (choice_of t s ≡ None)
-        split None e = inr e
-        split (Some c) e = inl (ap is_some e)
+        asked : list_any (is_assign_to a.symbol) later ≡ is_some last_value
+        asked = ap (λ (n : ℕ). list_any (is_assign_to (record { 0 = n })) later) (sym same) ∙ assigned_last s later
 
-    member_gone : (c : ChoiceId) → c.0 < length t.choices → chosen_in left c ≡ None
-    member_gone c inside =
+        go : (b : Bool) → user_value (if not b then with_value u a.symbol (Some a.value) else u) s ≡ (if b then had_value else has_by is_member (value_for s a) had_value)
+        go true = refl
+        go false =
+            ap (λ n. slice_index_or (slice_set u.values a.symbol.0 (Some a.value)) n None) same
+            ∙ get_or-set_same u.values a.symbol.0 (Some a.value) None (omega (arith, inside, long))
+            ∙ sym (ap (λ m. has_by m (value_for s a) had_value) (ap is_some (choice_same same ∙ alone)) ∙ ap (λ g. option_or g had_value) (is_given same))
+
+    value_other : (b : Bool) → (s.0 ≡ a.symbol.0 → ⊥) → user_value (if b then with_value u a.symbol (Some a.value) else u) s ≡ had_value
+    value_other true other = get_or-set_other u.values a.symbol.0 s.0 (Some a.value) None other
+    value_other false other = refl
+
+    value_by_choice : (c : ChoiceId) (b : Bool) → user_value (if b then with_chosen u c (Some a.symbol) else u) s ≡ had_value
+    value_by_choice c true = refl
+    value_by_choice c false = refl
+
+    merged_value : user_value (merged_one t u a later) s ≡ merged_at is_member last_value (value_for s a) had_value
+    merged_value = go (choice_of t a.symbol) refl
+      where
+        go : (o : Option ChoiceId) → choice_of t a.symbol ≡ o
+            → user_value (option_map_or with_member o with_own) s ≡ merged_at is_member last_value (value_for s a) had_value
+        go None alone =
+            ⊎_elim
+            (λ same. value_own alone same)
+            (λ other.
+            value_other (not (list_any (is_assign_to a.symbol) later)) other
+            ∙ stays is_member (is_some last_value) (value_for s a) had_value (inr (not_given other)))
+            (cases_eq s.0 a.symbol.0)
+        go (Some c) member =
+            value_by_choice c (is_yes a.value && not (list_any (is_choosing t c) later))
+            ∙ stays is_member (is_some last_value) (value_for s a) had_value
+            (⊎_elim (λ same. inl (ap is_some (choice_same same ∙ member))) (λ other. inr (not_given other)) (cases_eq s.0 a.symbol.0))
+
+  module _ (c : ChoiceId) (inside : c.0 < length t.choices) (wide : length u.chosen ≡ length t.choices) where
+    abbrev had_member : Option SymId
+    had_member = chosen_in u c
+
+    abbrev last_member : Option SymId
+    last_member = last_of (member_for t c) (reverse later)
+
+    abbrev given_if : Bool → Option SymId
+    given_if b = if b && is_yes a.value then Some a.symbol else None
+
+    given_member : (o : Option ChoiceId) → choice_of t a.symbol ≡ o → member_for t c a ≡ given_if (option_map_or (λ d. d.0 == c.0) o false)
+    given_member o e = ap (λ (x : Option ChoiceId). given_if (option_map_or (λ d. d.0 == c.0) x false)) e
+
+    member_own : (d : ChoiceId) → choice_of t a.symbol ≡ Some d → c.0 ≡ d.0 → chosen_in (with_member d) c ≡ merged_at false last_member (member_for t c a) had_member
+    member_own d member same =
+        ap (λ b. chosen_in (if is_yes a.value && not b then with_chosen u d (Some a.symbol) else u) c) asked
+        ∙ go (is_yes a.value) (is_some last_member)
+        ∙ ap (λ g. merged_at false last_member g had_member) (sym (given_member (Some d) member ∙ ap given_if (eq-eqb d.0 c.0 (sym same))))
+      where
+        asked : list_any (is_choosing t d) later ≡ is_some last_member
+        asked = ap (λ (n : ℕ). list_any (is_choosing t (record { 0 = n })) later) (sym same) ∙ chosen_last t c later
+
+        go : (yes b : Bool) → chosen_in (if yes && not b then with_chosen u d (Some a.symbol) else u) c
+            ≡ (if b then had_member else option_or (if true && yes then Some a.symbol else None) had_member)
+        go true true = refl
+        go true false =
+            ap (λ n. slice_index_or (slice_set u.chosen d.0 (Some a.symbol)) n None) same
+            ∙ get_or-set_same u.chosen d.0 (Some a.symbol) None (omega (arith, same, inside, wide))
+        go false true = refl
+        go false false = refl
+
+    member_other : (d : ChoiceId) (b : Bool) → (c.0 ≡ d.0 → ⊥) → chosen_in (if b then with_chosen u d (Some a.symbol) else u) c ≡ had_member
+    member_other d true other = get_or-set_other u.chosen d.0 c.0 (Some a.symbol) None other
+    member_other d false other = refl
+
+    member_by_value : (b : Bool) → chosen_in (if b then with_value u a.symbol (Some a.value) else u) c ≡ had_member
+    member_by_value true = refl
+    member_by_value false = refl
+
+    merged_member : chosen_in (merged_one t u a later) c ≡ merged_at false last_member (member_for t c a) had_member
+    merged_member = go (choice_of t a.symbol) refl
+      where
+        go : (o : Option ChoiceId) → choice_of t a.symbol ≡ o
+            → chosen_in (option_map_or with_member o with_own) c ≡ merged_at false last_member (member_for t c a) had_member
+        go None alone =
+            member_by_value (not (list_any (is_assign_to a.symbol) later))
+            ∙ stays false (is_some last_member) (member_for t c a) had_member (inr (given_member None alone))
+        go (Some d) member =
+            ⊎_elim
+            (λ same. member_own d member same)
+            (λ other.
+            member_other d (is_yes a.value && not (list_any (is_choosing t d) later)) other
+            ∙ stays false (is_some last_member) (member_for t c a) had_member
+            (inr (given_member (Some d) member ∙ ap given_if (ne_eqb d.0 c.0 (λ e. other (sym e))))))
+            (cases_eq c.0 d.0)
+
+-- ---- assignments one after the other
+-- those that are left give what all did; what they give was not changed yet
+pub record IsMerging (old now : SessionState) (all rest : List Assign) : Type 0 where
+  pub session : now.session ≡ with_user old.session now.session.user
+  pub long : length now.session.user.values ≡ length old.session.tree.symbols
+  pub wide : length now.session.user.chosen ≡ length old.session.tree.choices
+  pub assigns : All (IsAssignFor old.session.tree) rest
+  pub values : (s : SymId) → value_after old.session.tree now.session.user Merge rest s ≡ value_after old.session.tree old.session.user Merge all s
+  pub chosen : (c : ChoiceId) → c.0 < length old.session.tree.choices
+      → chosen_after old.session.tree now.session.user Merge rest c ≡ chosen_after old.session.tree old.session.user Merge all c
+  pub value_once : (s : SymId) → (user_value now.session.user s ≡ user_value old.session.user s) ⊎ (last_of (value_for s) rest ≡ None)
+  pub chosen_once : (c : ChoiceId) → c.0 < length old.session.tree.choices
+      → (chosen_in now.session.user c ≡ chosen_in old.session.user c) ⊎ (last_of (member_for old.session.tree c) rest ≡ None)
+  pub edits : EditsKept old now
+  pub unfed : All IsUnfed all → HasNoFeeds old.session.user → All IsUnfed rest × HasNoFeeds now.session.user
+
+merging_all : (old : SessionState) (all : List Assign) → IsSound old → EditsKept old old → All (IsAssignFor old.session.tree) all → IsMerging old old all all
+merging_all old all sound stays assigns = record {
+  session = refl;
+  long = sound.user.values;
+  wide = sound.user.chosen;
+  assigns = assigns;
+  values = λ s. refl;
+  chosen = λ c inside. refl;
+  value_once = λ s. inl refl;
+  chosen_once = λ c inside. inl refl;
+  edits = stays;
+  unfed = λ unfed before. (unfed, before);
+}
+
+-- .. in a list that was turned round
+pub merging_first : (old : SessionState) (all turned : List Assign) → IsSound old → EditsKept old old → All (IsAssignFor old.session.tree) all → turned ≡ reverse all
+    → IsMerging old old all (reverse turned)
+merging_first old all turned sound stays assigns is =
+    subst (IsMerging old old all) (sym (ap reverse is ∙ reverse-reverse all)) (merging_all old all sound stays assigns)
+
+module _ (old now new : SessionState) (all : List Assign) (a : Assign) (later : List Assign) (sound : IsSound old) (h : IsMerging old now all (a ∷ reverse later))
+    (merged : new.session ≡ with_user now.session (merged_one now.session.tree now.session.user a later)) (edits : EditsKept now new) where
+  abbrev tree : TreeValue
+  tree = old.session.tree
+
+  abbrev was : UserValues
+  was = old.session.user
+
+  abbrev user : UserValues
+  user = now.session.user
+
+  abbrev next : UserValues
+  next = merged_one tree user a later
+
+  tree_is : now.session.tree ≡ tree
+  tree_is = ap (λ (s : SessionValue). s.tree) h.session
+
+  next_is : new.session ≡ with_user old.session next
+  next_is = merged ∙ ap (λ (s : SessionValue). with_user s (merged_one s.tree user a later)) h.session
+
+  user_is : new.session.user ≡ next
+  user_is = ap (λ (s : SessionValue). s.user) next_is
+
+  inside : a.symbol.0 < length tree.symbols
+  inside = (All-head (IsAssignFor tree) a (reverse later) h.assigns).0
+
+  value_is : (s : SymId) → user_value new.session.user s ≡ merged_at (is_some (choice_of tree s)) (last_of (value_for s) (reverse later)) (value_for s a) (user_value user s)
+  value_is s = ap (λ (x : UserValues). user_value x s) user_is ∙ merged_value tree user a later inside h.long s
+
+  chosen_is : (c : ChoiceId) → c.0 < length tree.choices
+      → chosen_in new.session.user c ≡ merged_at false (last_of (member_for tree c) (reverse later)) (member_for tree c a) (chosen_in user c)
+  chosen_is c within = ap (λ (x : UserValues). chosen_in x c) user_is ∙ merged_member tree user a later c within h.wide
+
+  none_past : (u : UserValues) (c : ChoiceId) → length u.chosen ≡ length tree.choices → length tree.choices ≤ c.0 → chosen_in u c ≡ None
+  none_past u c wide past = get_or_past u.chosen c.0 None (omega (arith, wide, past))
+
+  pub merging_next : IsMerging old new all (reverse later)
+  merging_next = record {
+    session = next_is ∙ ap (with_user old.session) (sym user_is);
+    long = ap (λ (x : UserValues). length x.values) user_is ∙ (merged_sizes tree user a later).0 ∙ h.long;
+    wide = ap (λ (x : UserValues). length x.chosen) user_is ∙ (merged_sizes tree user a later).1 ∙ h.wide;
+    assigns = All-tail (IsAssignFor tree) a (reverse later) h.assigns;
+    values = λ s.
+        ap (has_by (is_some (choice_of tree s)) (last_of (value_for s) (reverse later))) (value_is s)
+        ∙ same_later (is_some (choice_of tree s)) (last_of (value_for s) (reverse later)) (value_for s a) (user_value user s)
+        ∙ h.values s;
+    chosen = λ c within.
+        ap (option_or (last_of (member_for tree c) (reverse later))) (chosen_is c within)
+        ∙ same_later false (last_of (member_for tree c) (reverse later)) (member_for tree c a) (chosen_in user c)
+        ∙ h.chosen c within;
+    value_once = λ s.
         ⊎_elim
-        (λ none. none_left (chosen_in u c) (chosen_in next c) (chosen_in is c) (chosen_in left c) (taking.chosen c)
-        (next_member c inside ∙ both_none (last_of (member_for t c) bs) (chosen_in (no_values t) c) none (no_member_before c)))
-        (λ found. (taken found.0 found.1).chosen c found.2)
-        (member_named t c bs)
+        (λ e. inl (value_is s ∙ e))
+        (λ e. inr e)
+        (merged_once (is_some (choice_of tree s)) (last_of (value_for s) (reverse later)) (value_for s a) (user_value user s) (user_value was s) (h.value_once s));
+    chosen_once = λ c within.
+        ⊎_elim
+        (λ e. inl (chosen_is c within ∙ e))
+        (λ e. inr e)
+        (merged_once false (last_of (member_for tree c) (reverse later)) (member_for tree c a) (chosen_in user c) (chosen_in was c) (h.chosen_once c within));
+    edits =
+        edits_then tree was user new.session.user values_once members_once old.kept now.kept new.kept h.edits
+        (subst (λ (x : TreeValue). Edits x user new.session.user now.kept new.kept) tree_is edits);
+    unfed = λ unfed before.
+        let left = h.unfed unfed before in
+        (All-tail IsUnfed a (reverse later) left.0, unfed_next (All-head IsUnfed a (reverse later) left.0) left.1);
+  }
+    where
+      values_once : (s : SymId) → (user_value user s ≡ user_value was s) ⊎ (user_value new.session.user s ≡ user_value user s)
+      values_once s =
+          ⊎_elim
+          (λ e. inl e)
+          (λ e. inr (value_is s ∙ e))
+          (other_once (is_some (choice_of tree s)) (last_of (value_for s) (reverse later)) (value_for s a) (user_value user s) (user_value was s) (h.value_once s))
 
-    value_is : (s : SymId) → s.0 < length t.symbols → user_value is s ≡ value_after t u Merge bs s
-    value_is s inside =
-        taken_or_was (user_value u s) (user_value next s) (user_value is s) (user_value left s) (taking.values s) (value_gone s inside)
-        ∙ ap (λ x. option_or x (user_value u s)) (next_value s inside)
-        ∙ value_over s
+      members_once : (c : ChoiceId) → (chosen_in user c ≡ chosen_in was c) ⊎ (chosen_in new.session.user c ≡ chosen_in user c)
+      members_once c =
+          ⊎_elim
+          (λ within. ⊎_elim
+          (λ e. inl e)
+          (λ e. inr (chosen_is c within ∙ e))
+          (other_once false (last_of (member_for tree c) (reverse later)) (member_for tree c a) (chosen_in user c) (chosen_in was c) (h.chosen_once c within)))
+          (λ past. inl (none_past user c h.wide past ∙ sym (none_past was c sound.user.chosen past)))
+          (cases_lt c.0 (length tree.choices))
 
-    chosen_is : (c : ChoiceId) → c.0 < length t.choices → chosen_in is c ≡ chosen_after t u Merge bs c
-    chosen_is c inside =
-        taken_or_was (chosen_in u c) (chosen_in next c) (chosen_in is c) (chosen_in left c) (taking.chosen c) (member_gone c inside)
-        ∙ ap (λ x. option_or x (chosen_in u c)) (next_member c inside)
-        ∙ member_over c
+      unfed_next : IsUnfed a → HasNoFeeds user → HasNoFeeds new.session.user
+      unfed_next plain before s w e =
+          plain_merged (is_some (choice_of tree s)) (last_of (value_for s) (reverse later)) (value_for s a) (user_value user s)
+          (plain_given (is_assign_to s a) a.value plain) (plain_user user before s) (Text w) (sym (value_is s) ∙ e)
 
-    pub merged : is ≡ user_after t u Merge bs
-    merged =
-        let values : is.values ≡ (user_after t u Merge bs).values = fill_by_all (λ k. value_after t u Merge bs (record { 0 = k })) is.values (length t.symbols) None user.values (λ k l. value_is (record { 0 = k }) l) in
-        let chosen : is.chosen ≡ (user_after t u Merge bs).chosen = fill_by_all (λ k. chosen_after t u Merge bs (record { 0 = k })) is.chosen (length t.choices) None user.chosen (λ k l. chosen_is (record { 0 = k }) l) in
-        λ i. record { values = values i; chosen = chosen i }
+-- .. from the end of the list that was turned round
+pub merging_more : (old now new : SessionState) (all left fewer : List Assign) (a : Assign) → IsSound old → IsMerging old now all (reverse left) → left ≡ fewer ++ a ∷ []
+    → new.session ≡ with_user now.session (merged_one now.session.tree now.session.user a fewer) → EditsKept now new → IsMerging old new all (reverse fewer)
+merging_more old now new all left fewer a sound h is merged edits =
+    merging_next old now new all a fewer sound (subst (IsMerging old now all) (ap reverse is ∙ reverse-append fewer (a ∷ [])) h) merged edits
 
--- ---- a merge
-pub assigned_inside : (t : TreeValue) (bs : List Assign) (symbols : List SymId) → symbols ≡ map (λ a. a.symbol) bs → All (IsAssignFor t) bs
-    → (s : SymId) → Contains symbols s → s.0 < length t.symbols
-assigned_inside t bs symbols is all s listed =
-    let from = Contains-from_map (λ (a : Assign). a.symbol) bs s (subst (λ xs. Contains xs s) is listed) in
-    subst (λ (x : SymId). x.0 < length t.symbols) from.2 (All-contains (IsAssignFor t) bs from.0 all from.1).0
+pub first_assign : (old now : SessionState) (all left fewer : List Assign) (a : Assign) → IsMerging old now all (reverse left) → left ≡ fewer ++ a ∷ [] → IsAssignFor now.session.tree a
+first_assign old now all left fewer a h is =
+    let rest = subst (All (IsAssignFor old.session.tree)) (ap reverse is ∙ reverse-append fewer (a ∷ [])) h.assigns in
+    subst (λ (x : TreeValue). IsAssignFor x a) (sym (ap (λ (s : SessionValue). s.tree) h.session)) (All-head (IsAssignFor old.session.tree) a (reverse fewer) rest)
 
-pub merge_user : (t : TreeValue) (u none given v m : UserValues) (old new : KeptValue) (bs : List Assign) (symbols : List SymId) → none ≡ no_values t
-    → given ≡ user_after t none Merge bs → symbols ≡ map (λ a. a.symbol) bs → IsTaking t u given old v m new → ((s : SymId) → Contains symbols s → IsTaken t m s)
-    → v ≡ user_after t u Merge bs
-merge_user t u none given v m old new bs symbols none_is given_is symbols_is taking taken =
-    let from : given ≡ next t u bs = given_is ∙ ap (λ x. user_after t x Merge bs) none_is in
-    merged t u bs v m taking.user taking.next (subst (λ x. AreTaking u x v m) from taking.taking) (λ s listed. taken s (subst (λ xs. Contains xs s) (sym symbols_is) listed))
+-- ---- when no assignment is left
+pub merging_done : (old now : SessionState) (all left : List Assign) → IsMerging old now all (reverse left) → left ≡ []
+    → now.session ≡ with_user old.session (user_after old.session.tree old.session.user Merge all)
+merging_done old now all left turned none =
+    let h : IsMerging old now all [] = subst (λ xs. IsMerging old now all (reverse xs)) none turned in
+    let t = old.session.tree in
+    let is = now.session.user in
+    let after = user_after t old.session.user Merge all in
+    let value : (s : SymId) → user_value is s ≡ value_after t old.session.user Merge all s = λ s. sym (nothing_given (is_some (choice_of t s)) (user_value is s)) ∙ h.values s in
+    let values : is.values ≡ after.values =
+    fill_by_all (λ k. value_after t old.session.user Merge all (record { 0 = k })) is.values (length t.symbols) None h.long (λ k l. value (record { 0 = k })) in
+    let chosen : is.chosen ≡ after.chosen =
+    fill_by_all (λ k. chosen_after t old.session.user Merge all (record { 0 = k })) is.chosen (length t.choices) None h.wide (λ k l. h.chosen (record { 0 = k }) l) in
+    let same : is ≡ after = λ i. record { values = values i; chosen = chosen i } in
+    h.session ∙ ap (with_user old.session) same

@@ -1,6 +1,5 @@
 -- User values are the same as themselves, and what has no user value has none.
-use Rattle.std.proofs.Common.{◌≡◌, ◌<◌, ℕ, Bool, true, false, true≢false, not, ◌&&◌, List, [], ◌∷◌, zero, suc, length, map, get_or, replicate, Option, Some, None, is_some, refl, sym, ap, ◌∙◌, ⊎_elim, inl, arith}
-use Rattle.std.specs.List.{Contains}
+use Rattle.std.proofs.Common.{◌≡◌, ℕ, Bool, true, false, not, ◌&&◌, get_or, replicate, Option, Some, None, is_some, refl, ap, ⊎_elim, arith}
 use Rattle.std.proofs.lemmas.Bool.{cases_lt, eq-eqb}
 use Rattle.std.proofs.lemmas.List.{get_or-replicate, get_or_past, length-replicate}
 use Rattle.std.proofs.lemmas.Slice.Eq.{bytes_eq-Decides}
@@ -14,8 +13,7 @@ use Rattle.kc_tree.specs.declared.user_value.UserVal.{UserVal}
 use Rattle.kc_tree.specs.declared.user_value.UserVal.TheVariants.{Tri as TriVal, Text}
 use Rattle.kc_value.specs.Assignable.{same_tri}
 use Rattle.kc_value.specs.ChangedValue.{same_mark, same_member, same_user_value}
-use Rattle.kc_value.specs.Dirty.{Edits, is_changed, same_given}
-use Rattle.kc_value.specs.Kept.{KeptValue}
+use Rattle.kc_value.specs.Dirty.{is_changed, same_given}
 use Rattle.kc_value.specs.UserValues.{UserValues, user_value, chosen_in}
 use Rattle.kc_value.specs.Without.{is_optional_choice}
 
@@ -50,27 +48,8 @@ unchanged t u (Val s) = none_changed (not (is_some (choice_of t s))) (same_given
 unchanged t u (Mode c) = none_changed (is_optional_choice t c) (same_mark (is_some (chosen_in u c)) (is_some (chosen_in u c))) (mark_refl (is_some (chosen_in u c)))
 unchanged t u (Sel c) = ap not (member_refl (chosen_in u c))
 
-pub edits_nothing : (t : TreeValue) (u : UserValues) (k : KeptValue) → Edits t u u k k
-edits_nothing t u k = record {
-  dropped = λ n inside h. absurd (true≢false (sym h.2 ∙ unchanged t u h.0));
-  each = λ n inside. inl refl;
-  evals = refl;
-}
-
 pub none_in : {X : Type 0} (n i : ℕ) → get_or {A = Option X} (replicate n None) i None ≡ None
 none_in {X} n i =
     ⊎_elim (λ h. get_or-replicate {A = Option X} n i None None h)
     (λ h. get_or_past {X = Option X} (replicate n None) i None (omega (arith, length-replicate {A = Option X} n None, h)))
     (cases_lt i n)
-
--- an element of a list that a function made is what it makes of one
-module _ {A B : Type 0} where
-  pub Contains-from_map : (f : A → B) (xs : List A) (y : B) → Contains (map f xs) y → (x : A) × Contains xs x × (f x ≡ y)
-  Contains-from_map f xs y h = from_place xs h.0 h.1 h.2
-    where
-      from_place : (xs : List A) (k : ℕ) → k < length (map f xs) → get_or (map f xs) k y ≡ y → (x : A) × Contains xs x × (f x ≡ y)
-      from_place [] k l e = absurd (omega arith)
-      from_place (x ∷ xs) zero l e = (x, (0, omega arith, refl), e)
-      from_place (x ∷ xs) (suc k) l e =
-          let r = from_place xs k (omega arith) e in
-          (r.0, (suc r.1.0, omega (arith, r.1.1), r.1.2), r.2)

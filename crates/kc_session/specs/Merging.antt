@@ -1,29 +1,22 @@
--- Steps: user values take the place of others, a place at a time: this project's own.
-use Rattle.std.specs.Prelude.{◌≡◌, ◌⊎◌, true, Option, Some, None, is_some}
+-- Steps: the user values while assignments are merged, one at a time: this project's own.
+use Rattle.std.specs.Prelude.{◌==◌, Bool, not, ◌&&◌, List, Some, if◌then◌else◌}
+use Rattle.std.specs.List.{list_any}
+use Rattle.std.specs.Option.{option_map_or}
 use Rattle.kc_statement.specs.declared.id.SymId.{SymId}
 use Rattle.kc_outline.specs.declared.id.ChoiceId.{ChoiceId}
 use Rattle.kc_outline.specs.TreeValue.{TreeValue, choice_of}
-use Rattle.kc_value.specs.Dirty.{Edits}
-use Rattle.kc_value.specs.Kept.{AreKept, KeptValue}
-use Rattle.kc_value.specs.UserValues.{UserValues, IsUserFor, user_value, chosen_in}
+use Rattle.kc_value.specs.UserValues.{UserValues, with_value, with_chosen}
+use Rattle.kc_files.specs.declared.assign.Assign.{Assign}
+use Rattle.kc_files.specs.Loading.{is_yes, is_member_of}
 
--- one place and what it is given are as they were, or it has what it was given and is given nothing any more
-abbrev pub Takes : {X : Type 0} → Option X → Option X → Option X → Option X → Type 0
-Takes was given is left = ((is ≡ was) × (left ≡ given)) ⊎ ((is_some given ≡ true) × (is ≡ given) × (left ≡ None))
+abbrev pub is_assign_to : SymId → Assign → Bool
+is_assign_to s a = a.symbol.0 == s.0
 
-pub record AreTaking (was given is left : UserValues) : Type 0 where
-  pub values : (s : SymId) → Takes (user_value was s) (user_value given s) (user_value is s) (user_value left s)
-  pub chosen : (c : ChoiceId) → Takes (chosen_in was c) (chosen_in given c) (chosen_in is c) (chosen_in left c)
+abbrev pub is_choosing : TreeValue → ChoiceId → Assign → Bool
+is_choosing t c a = is_member_of t c a.symbol && is_yes a.value
 
--- a symbol that is no member of a choice is given nothing any more, or the choice of one
-pub record IsTaken (t : TreeValue) (left : UserValues) (s : SymId) : Type 0 where
-  pub value : choice_of t s ≡ None → user_value left s ≡ None
-  pub chosen : (c : ChoiceId) → choice_of t s ≡ Some c → chosen_in left c ≡ None
-
--- besides, exactly what changed was dropped
-pub record IsTaking (t : TreeValue) (was given : UserValues) (old : KeptValue) (is left : UserValues) (new : KeptValue) : Type 0 where
-  pub user : IsUserFor t is
-  pub next : IsUserFor t left
-  pub kept : AreKept t is new.values
-  pub taking : AreTaking was given is left
-  pub edits : Edits t was is old new
+-- with an assignment, unless one of the later ones gives its symbol a value, or chooses a member of its choice
+abbrev pub merged_one : TreeValue → UserValues → Assign → List Assign → UserValues
+merged_one t u a later =
+    option_map_or (λ c. if is_yes a.value && not (list_any (is_choosing t c) later) then with_chosen u c (Some a.symbol) else u) (choice_of t a.symbol)
+    (if not (list_any (is_assign_to a.symbol) later) then with_value u a.symbol (Some a.value) else u)

@@ -1,23 +1,22 @@
 //! Edits of the user values. Before each, exactly what it can change is dropped of what is kept.
-ghost use Rattle.std.specs.Prelude.{◌≡◌, All, Contains, Some, None, true, IfOk, OnOk, OnErr, map};
+ghost use Rattle.std.specs.Prelude.{◌≡◌, All, Some, None, true, OnOk, OnErr};
+ghost use Rattle.std.specs.List.{list_any};
 ghost use Rattle.kc_files.specs.DefaultLoading.{HasNoFeeds};
 ghost use Rattle.kc_files.specs.LineReading.{IsAssignFor, IsUnfed};
-ghost use Rattle.kc_files.specs.Loading.{user_after};
+ghost use Rattle.kc_files.specs.Loading.{is_yes, user_after};
 ghost use Rattle.kc_session.specs.Keeping.{EditsKept};
-ghost use Rattle.kc_session.specs.Merging.{IsTaken, IsTaking};
+ghost use Rattle.kc_session.specs.Merging.{is_assign_to, is_choosing, merged_one};
 ghost use Rattle.kc_session.specs.Session.{with_user};
-ghost use Rattle.kc_statement.specs.declared.id.SymId.{SymId};
 ghost use Rattle.kc_tree.specs.Fits.{fits};
 ghost use Rattle.kc_tree.specs.Nodes.{IsNodeOf};
 ghost use Rattle.kc_tree.specs.declared.node.Node.TheVariants.{Vis};
-ghost use Rattle.kc_value.specs.Kept.{AreKept};
-ghost use Rattle.kc_value.specs.UserValues.{IsUserFor, chosen_in, user_value, with_value, with_chosen};
+ghost use Rattle.kc_value.specs.UserValues.{IsUserFor, with_value, with_chosen};
 
 use crate::session::Session;
 use kc_files::{Assign, Load, apply};
-use kc_tree::{ChoiceId, SymId, Tree, UserVal};
-use kc_value::{KeptValues, User};
-use std::alloc::{AllocError, Global};
+use kc_tree::{ChoiceId, SymId, Tree, Tri, UserVal};
+use kc_value::User;
+use std::alloc::AllocError;
 
 /// The most assignments that a merge makes one after the other. Each is an edit with a walk of its own over what is
 /// computed from it, and these come to the same nodes again; more are compared on the whole, with one walk for all.
@@ -80,7 +79,10 @@ impl Session {
         match load {
             Load::Replace => self.replace(assigns),
             Load::Merge if assigns.len() > MOST_SINGLE_EDITS => self.merge_many(assigns),
-            Load::Merge => self.merge_few(assigns),
+            Load::Merge => {
+                self.merge_few(assigns);
+                Ok(())
+            }
         }
     }
 
@@ -120,30 +122,44 @@ impl Session {
         Ok(())
     }
 
-    /// Adds assignments to the user values: what is assigned is edited, one symbol after the other, and nothing else is
-    /// compared.
-    ///
-    /// The error comes where memory is refused for the values that are next; nothing changes then.
-    fn merge_few(&mut self, assigns: Vec<Assign>) -> Result<(), AllocError>
+    /// Adds assignments to the user values: each is an edit of its own, but for those whose place a later one gives. So each
+    /// place becomes another at most once, and exactly what changes on the whole is dropped. This takes no memory.
+    #[tactic(auto, using(crate::proofs::MergeLaws::merging_first, crate::proofs::MergeLaws::merging_done))]
+    fn merge_few(&mut self, mut assigns: Vec<Assign>)
         requires { All (IsAssignFor self.old.session.tree) assigns.items }
-        ensures ok { OnOk result (self.new.session
-            ≡ with_user self.old.session (user_after self.old.session.tree self.old.session.user Load.Merge assigns.items)) }
-        ensures err { OnErr result (self.new ≡ self.old) }
+        ensures session { self.new.session
+            ≡ with_user self.old.session (user_after self.old.session.tree self.old.session.user Load.Merge assigns.items) }
         ensures edits { EditsKept self.old self.new }
         ensures unfed { All IsUnfed assigns.items → HasNoFeeds self.old.session.user → HasNoFeeds self.new.session.user }
     {
         self.facts();
-        let symbols = assigned(self.alloc, assigns.as_slice())?;
-        let mut next = User::empty(self.alloc, &self.tree)?;
-        apply(&self.tree, &mut next, assigns, Load::Merge);
-        take_next(
-            &self.tree,
-            &mut self.kept,
-            &mut self.user,
-            &mut next,
-            symbols.as_slice(),
-        );
-        Ok(())
+        assigns.reverse();
+        while let Some(assign) = assigns.pop() {
+            self.merge_one(assign, assigns.as_slice());
+        }
+    }
+
+    /// Makes one assignment, unless one of the later ones gives its symbol a value, or chooses a member of its choice.
+    #[tactic(auto, using(crate::proofs::MergeLaws::assign_fits))]
+    fn merge_one(&mut self, assign: Assign, later: &[Assign])
+        requires { IsAssignFor self.old.session.tree assign }
+        ensures session { self.new.session
+            ≡ with_user self.old.session (merged_one self.old.session.tree self.old.session.user assign later.now) }
+        ensures edits { EditsKept self.old self.new }
+    {
+        self.facts();
+        match self.tree.choice_of(assign.symbol) {
+            Some(choice) => {
+                if is_yes(&assign.value) && !is_chosen_in(&self.tree, choice, later) {
+                    self.choose(choice, Some(assign.symbol));
+                }
+            }
+            None => {
+                if !is_assigned(assign.symbol, later) {
+                    self.give(assign.symbol, assign.value);
+                }
+            }
+        }
     }
 
     /// Makes others the user values.
@@ -157,86 +173,35 @@ impl Session {
     }
 }
 
-/// The symbols of assignments. The error comes where memory is refused.
-fn assigned(alloc: Global, assigns: &[Assign]) -> Result<Vec<SymId>, AllocError>
-    ensures { IfOk result (λ symbols. symbols.items ≡ map (λ a. a.symbol) assigns.now) }
+/// Whether a value is y.
+fn is_yes(value: &UserVal) -> bool
+    ensures { result ≡ is_yes value.now }
 {
-    let mut symbols = Vec::with_capacity(alloc, assigns.len())?;
-    for assign in assigns {
-        symbols.push(assign.symbol)?;
-    }
-    Ok(symbols)
+    matches!(value, UserVal::Tri(Tri::Yes))
 }
 
-/// Makes the next value of a symbol that is no member of a choice its user value, if there is one.
-fn take_value(tree: &Tree, kept: &mut KeptValues, user: &mut User, next: &mut User, symbol: SymId)
-    requires inside { IsNodeOf tree.now (Vis symbol) }
-    requires user { IsUserFor tree.now user.old }
-    requires next { IsUserFor tree.now next.old }
-    requires kept { AreKept tree.now user.old kept.old.values }
-    ensures taking { IsTaking tree.now user.old next.old kept.old user.new next.new kept.new }
-    ensures taken { user_value next.new symbol ≡ None }
+/// Whether one of some assignments gives a symbol a value.
+fn is_assigned(symbol: SymId, assigns: &[Assign]) -> bool
+    ensures { result ≡ list_any (is_assign_to symbol) assigns.now }
 {
-    if let Some(value) = next.take(symbol) {
-        kept.drop_for_value(tree, user, symbol, Some(&value));
-        user.set(symbol, value);
-    }
+    assigns.iter().any(|assign| assign.symbol == symbol)
 }
 
-/// Makes the next chosen member of a choice the chosen one, if there is one.
-fn take_member(
-    tree: &Tree,
-    kept: &mut KeptValues,
-    user: &mut User,
-    next: &mut User,
-    choice: ChoiceId,
-)
-    requires user { IsUserFor tree.now user.old }
-    requires next { IsUserFor tree.now next.old }
-    requires kept { AreKept tree.now user.old kept.old.values }
-    ensures taking { IsTaking tree.now user.old next.old kept.old user.new next.new kept.new }
-    ensures taken { chosen_in next.new choice ≡ None }
+/// Whether an assignment chooses a member of a choice.
+fn is_choosing(tree: &Tree, choice: ChoiceId, assign: &Assign) -> bool
+    ensures { result ≡ is_choosing tree.now choice assign.now }
 {
-    if let Some(member) = next.chosen(choice) {
-        kept.drop_for_chosen(tree, user, choice, Some(member));
-        user.choose(choice, Some(member));
-        next.choose(choice, None);
+    match tree.choice_of(assign.symbol) {
+        Some(other) => other == choice && is_yes(&assign.value),
+        None => false,
     }
 }
 
-/// Makes the next value of a symbol its user value, or the next chosen member of its choice the chosen one, if there is
-/// one.
-fn take_one(tree: &Tree, kept: &mut KeptValues, user: &mut User, next: &mut User, symbol: SymId)
-    requires inside { IsNodeOf tree.now (Vis symbol) }
-    requires user { IsUserFor tree.now user.old }
-    requires next { IsUserFor tree.now next.old }
-    requires kept { AreKept tree.now user.old kept.old.values }
-    ensures taking { IsTaking tree.now user.old next.old kept.old user.new next.new kept.new }
-    ensures taken { IsTaken tree.now next.new symbol }
+/// Whether one of some assignments chooses a member of a choice.
+fn is_chosen_in(tree: &Tree, choice: ChoiceId, assigns: &[Assign]) -> bool
+    ensures { result ≡ list_any (is_choosing tree.now choice) assigns.now }
 {
-    match tree.choice_of(symbol) {
-        Some(choice) => take_member(tree, kept, user, next, choice),
-        None => take_value(tree, kept, user, next, symbol),
-    }
-}
-
-/// Makes what is next of some symbols and of their choices the user's, one after the other. Each place becomes another at
-/// most once, so that exactly what changes on the whole is dropped. This takes no memory.
-fn take_next(
-    tree: &Tree,
-    kept: &mut KeptValues,
-    user: &mut User,
-    next: &mut User,
-    symbols: &[SymId],
-)
-    requires inside { (s : SymId) → Contains symbols.now s → IsNodeOf tree.now (Vis s) }
-    requires user { IsUserFor tree.now user.old }
-    requires next { IsUserFor tree.now next.old }
-    requires kept { AreKept tree.now user.old kept.old.values }
-    ensures taking { IsTaking tree.now user.old next.old kept.old user.new next.new kept.new }
-    ensures taken { (s : SymId) → Contains symbols.now s → IsTaken tree.now next.new s }
-{
-    for symbol in symbols {
-        take_one(tree, kept, user, next, *symbol);
-    }
+    assigns
+        .iter()
+        .any(|assign| is_choosing(tree, choice, assign))
 }
