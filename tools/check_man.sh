@@ -8,7 +8,7 @@
 #
 # - for what groff warns of;
 # - for each target and each option of crates/kc_program/src that the page or a completion lacks;
-# - where the page, or the newest heading of CHANGELOG.md, has another version than crates/kc_program/src/version.rt.
+# - where the page, or the newest version in CHANGELOG.md, is another one than crates/kc_program/src/version.rt.
 set -eu
 root=$(dirname "$0")/..
 sources=$root/crates/kc_program/src
@@ -44,7 +44,7 @@ done
 
 version=$(sed -n 's/^pub(crate) const VERSION: &str = "\(.*\)";$/\1/p' "$sources/version.rt")
 [ -n "$version" ] || fail "no version in $sources/version.rt"
-newest=$(sed -n 's/^## \([^ ]*\).*/\1/p' "$root/CHANGELOG.md" | head -n 1)
+newest=$(sed -n 's/^## \([0-9][^ ]*\).*/\1/p' "$root/CHANGELOG.md" | head -n 1)
 [ "$newest" = "$version" ] || fail "CHANGELOG.md has $newest first, the program $version"
 grep -q "^\.TH KCONF 1 \"\" \"kconf $version\"\$" "$page" || fail "$page does not name kconf $version"
 exit $status
