@@ -12,7 +12,10 @@ fn show_counts(alloc: Global, tree: &Tree) -> Result<String, AllocError> {
     let blocks = tree.blocks().len();
     let comments = tree.comments().len();
     let entries = tree.entries().len();
-    let nodes = tree.order().count();
+    let mut nodes: usize = 0;
+    for _ in tree.order() {
+        nodes = nodes.saturating_add(1);
+    }
     format!(in alloc; "{symbols} {definitions} {blocks} {comments} {entries} {nodes}")
 }
 
