@@ -9,8 +9,7 @@ use crate::table::{rows, three_fields, two_fields};
 use kc_session::Session;
 use kc_tree::{ChoiceId, Node, SymId, Tree, Tri};
 use kc_value::{
-    Fresh, KeptValues, Known, Meter, Resolver, User, Value, assignable, eval, tri,
-    without_user,
+    Fresh, KeptValues, Known, Meter, Resolver, User, Value, assignable, eval, tri, without_user,
 };
 use std::alloc::Global;
 use std::test::Fail;
