@@ -68,7 +68,7 @@ fn read_lines<R: Read>(
     Ok(CommandRead::Whole)
 }
 
-/// Puts the last line of the stream after those of a body, of which this number was still to come.
+/// Puts the last line of the stream after those of a body. `left` says how many lines of it were still to come.
 fn push_last(line: &LineBuffer, left: u64, body: &mut BodyBuffer)
     requires { 0 < left }
     ensures all { left ≡ 1 → (lines : List (List ℕ)) (bytes : List ℕ) → HoldsLines body.old lines → line.now ≡ held_of bytes
@@ -82,7 +82,7 @@ fn push_last(line: &LineBuffer, left: u64, body: &mut BodyBuffer)
     }
 }
 
-/// Reads the body of a command of which the line was read, as a whole also where it is too long to be kept: as many lines
+/// Reads the body of a command whose line was read, as a whole also where it is too long to be kept: as many lines
 /// as the line asks for, each through `next`, or all that are left where these are too few.
 ///
 /// After an answer other than `CommandRead::Whole` a read gave no byte, and the caller is not to read on.

@@ -65,7 +65,7 @@ struct Buffers {
     input: Input,
 }
 
-/// Serves a stream with its buffers, from an input of which nothing is unread.
+/// Serves a stream with its buffers. Nothing of the input is unread.
 fn serve<R: Read, W: Write>(
     reader: &mut R,
     writer: &mut W,

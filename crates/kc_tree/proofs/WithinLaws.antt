@@ -25,7 +25,7 @@ use Rattle.kc_tree.specs.ConditionTable.{of_property}
 use Rattle.kc_tree.specs.Cells.{default_alone_nodes, range_alone_nodes}
 use Rattle.kc_tree.proofs.RowLaws.{one_within, none_past}
 
--- lists of which something holds
+-- lists for which something holds
 module _ {A : Type 0} (P : A → Type 0) where
   abbrev pub Are : List A → Type 0
   Are ns = All (λ n. P n) ns

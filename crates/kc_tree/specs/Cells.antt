@@ -1,4 +1,4 @@
--- The cells of a tree: its nodes, and the conditions that many of them read, each of which is evaluated once. What a
+-- The cells of a tree: its nodes, and the conditions that many of them read, so that each is evaluated once. What a
 -- condition is worth and which nodes it reads follow from the table of conditions (ConditionTable). This project's own.
 use Rattle.std.specs.Prelude.{ℕ, ◌+◌, ◌-◌, ◌*◌, ◌<◌, if◌then◌else◌, nat_lt, List, [], ◌∷◌, ◌++◌, Option, Some, None, length, map, flat_map, slice_get}
 use Rattle.std.specs.Option.{option_map_or}

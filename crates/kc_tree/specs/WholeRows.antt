@@ -7,7 +7,7 @@ use Rattle.kc_graph.specs.Graph.{Uses}
 abbrev pub is_node : ℕ → ℕ → Bool
 is_node n k = nat_lt k n
 
--- a number, and those to which it leads through conditions, of which the first number says how many may follow one another
+-- a number, and those to which it leads through conditions; the first number says how many may follow one another
 abbrev pub trail : ℕ → ℕ → List (List ℕ) → ℕ → List ℕ
 trail zero n g k = []
 trail (suc fuel) n g k = k ∷ (if is_node n k then [] else flat_map (trail fuel n g) (slice_index_or g k []))
