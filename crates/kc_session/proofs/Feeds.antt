@@ -22,14 +22,14 @@ use Rattle.kc_value.specs.UserValues.{UserValues, chosen_in, with_value, with_ch
 use Rattle.kc_files.specs.ConfigLines.{is_feed}
 use Rattle.kc_tree.specs.Fits.{type_of}
 use Rattle.kc_files.specs.DefaultLoading.{HasNoFeeds, KeepsChanges}
-use Rattle.kc_session.specs.declared.all_values.AllValue.{AllValue}
-use Rattle.kc_session.specs.declared.all_values.AllValue.TheVariants as all
+use Rattle.kc_value.specs.declared.all_values.AllValue.{AllValue}
+use Rattle.kc_value.specs.declared.all_values.AllValue.TheVariants as all
 use Rattle.kc_session.specs.declared.command.Command.{Command}
 use Rattle.kc_session.specs.declared.command.Command.TheVariants.{Set, Unset, Reset, Load, Merge, AllNo, AllYes, Show, List as ListAll, Choices, Config, Header, Defconfig, New}
 use Rattle.kc_session.specs.declared.command.Refusal.TheVariants.{UndefinedSymbol, BadValue, BadMemberValue, NoMemory}
 use Rattle.kc_session.specs.declared.command.Reply.{Reply}
 use Rattle.kc_session.specs.declared.command.Reply.TheVariants.{Done, Refused}
-use Rattle.kc_session.specs.AllValues.{all_given, is_free_tri, tri_given, value_given}
+use Rattle.kc_value.specs.AllValues.{all_given, is_free_tri, tri_given, value_given}
 use Rattle.kc_session.specs.DefaultReply.{HasNoFeed, IsLoad, KeepsTheChanges}
 use Rattle.kc_session.specs.Effect.{Outcome, IsApplied, IsOutcome, answer, edit, give_value, perform, refuse, set_member, set_symbol, set_value, starved_or, unchosen, unset_symbol, with_symbol}
 use Rattle.kc_session.specs.Session.{SessionValue}

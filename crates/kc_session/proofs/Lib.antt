@@ -1,10 +1,8 @@
-pub mod AllValueLaws
 pub mod Appending
 pub mod AskedLaws
 pub mod BodyHolding
 pub mod BodyLines
 pub mod Cutting
-pub mod EditLaws
 pub mod EvaluationLaws
 mod Examples
 mod ReplyExamples
@@ -28,5 +26,4 @@ pub mod Taking
 pub mod Texts
 pub mod UnfedRequests
 pub mod Unread
-pub mod UnchangedLaws
 pub mod FirstLines

@@ -25,7 +25,6 @@ use Rattle.kc_files.specs.Loading.{last_of, value_for, is_yes, member_for, value
 use Rattle.kc_session.specs.Keeping.{EditsKept}
 use Rattle.kc_session.specs.Merging.{is_assign_to, is_choosing, merged_one}
 use Rattle.kc_session.specs.Session.{IsSound, SessionState, SessionValue, with_user}
-use Rattle.kc_session.proofs.EditLaws.{edits_then}
 
 -- ---- what an assignment gives, its symbol takes
 pub assign_fits : (t : TreeValue) (a : Assign) → IsAssignFor t a → choice_of t a.symbol ≡ None → fits t a.symbol a.value ≡ true
@@ -380,7 +379,7 @@ module _ (old now new : SessionState) (all : List Assign) (a : Assign) (later : 
         (λ e. inr e)
         (merged_once false (last_of (member_for tree c) (reverse later)) (member_for tree c a) (chosen_in user c) (chosen_in was c) (h.chosen_once c within));
     edits =
-        edits_then tree was user new.session.user values_once members_once old.kept now.kept new.kept h.edits
+        sound.laws.edits_once was user new.session.user (record { values = values_once; chosen = members_once }) old.kept now.kept new.kept h.edits
         (subst (λ (x : TreeValue). Edits x user new.session.user now.kept new.kept) tree_is edits);
     unfed = λ unfed before.
         let left = h.unfed unfed before in

@@ -18,14 +18,14 @@ use Rattle.kc_files.specs.NewText.{new_text_of}
 use Rattle.kc_files.specs.Loading.{user_after}
 use Rattle.kc_files.specs.declared.loading.Load.{Load}
 use Rattle.kc_files.specs.declared.loading.Load.TheVariants.{Replace, Merge as MergeLoad}
-use Rattle.kc_session.specs.declared.all_values.AllValue.TheVariants as all
+use Rattle.kc_value.specs.declared.all_values.AllValue.TheVariants as all
 use Rattle.kc_session.specs.declared.command.Command.{Command}
 use Rattle.kc_session.specs.declared.command.Command.TheVariants.{Set, Unset, Reset, Load as LoadBody, Merge, AllNo, AllYes, Show, List as ListAll, Choices, Config, Header, Defconfig, New}
 use Rattle.kc_session.specs.declared.command.Refusal.{Refusal}
 use Rattle.kc_session.specs.declared.command.Refusal.TheVariants.{UnknownCommand, UndefinedSymbol, BadValue, BadMemberValue, BadLineCount, TooLong, NoMemory}
 use Rattle.kc_session.specs.declared.command.Reply.{Reply}
 use Rattle.kc_session.specs.declared.command.Reply.TheVariants.{Done, Refused}
-use Rattle.kc_session.specs.AllValues.{all_given}
+use Rattle.kc_value.specs.AllValues.{all_given}
 use Rattle.kc_files.specs.OneReading.{assigns_in}
 use Rattle.kc_session.specs.Bodies.{fits_body, warnings_text_of}
 use Rattle.kc_session.specs.Session.{SessionValue, with_user}

@@ -1,5 +1,3 @@
-pub mod AllValues
-pub mod AllValueSteps
 pub mod Bodies
 pub mod Commands
 pub mod DefaultReply

@@ -1,5 +1,5 @@
 //! Edits of the user values. Before each, exactly what it can change is dropped of what is kept.
-ghost use Rattle.std.specs.Prelude.{◌≡◌, All, Some, None, true, OnOk, OnErr};
+ghost use Rattle.std.specs.Prelude.{◌≡◌, All, OnOk, OnErr};
 ghost use Rattle.std.specs.List.{list_any};
 ghost use Rattle.kc_files.specs.DefaultLoading.{HasNoFeeds};
 ghost use Rattle.kc_files.specs.LineReading.{IsAssignFor, IsUnfed};
@@ -7,15 +7,13 @@ ghost use Rattle.kc_files.specs.Loading.{is_yes, user_after};
 ghost use Rattle.kc_session.specs.Keeping.{EditsKept};
 ghost use Rattle.kc_session.specs.Merging.{is_assign_to, is_choosing, merged_one};
 ghost use Rattle.kc_session.specs.Session.{with_user};
-ghost use Rattle.kc_tree.specs.Fits.{fits};
-ghost use Rattle.kc_tree.specs.Nodes.{IsNodeOf};
-ghost use Rattle.kc_tree.specs.declared.node.Node.TheVariants.{Vis};
-ghost use Rattle.kc_value.specs.UserValues.{IsUserFor, with_value, with_chosen};
+ghost use Rattle.kc_value.specs.Changes.{changed, IsChangeFor};
+ghost use Rattle.kc_value.specs.UserValues.{with_chosen};
 
 use crate::session::Session;
 use kc_files::{Assign, Load, apply};
 use kc_tree::{ChoiceId, SymId, Tree, Tri, UserVal};
-use kc_value::User;
+use kc_value::{Change, NewUser, User};
 use std::alloc::AllocError;
 
 /// The most assignments that a merge makes one after the other. Each is an edit with a walk of its own over what is
@@ -23,27 +21,13 @@ use std::alloc::AllocError;
 const MOST_SINGLE_EDITS: usize = 64;
 
 impl Session {
-    /// Gives a symbol a value that it takes.
-    pub(crate) fn give(&mut self, symbol: SymId, value: UserVal)
-        requires inside { IsNodeOf self.old.session.tree (Vis symbol) }
-        requires fits { fits self.old.session.tree symbol value ≡ true }
-        ensures session { self.new.session ≡ with_user self.old.session (with_value self.old.session.user symbol (Some value)) }
+    /// Makes an edit of the user values, and drops exactly what it can change. This takes no memory.
+    pub(crate) fn edit(&mut self, change: Change)
+        requires { IsChangeFor self.old.session.tree change }
+        ensures session { self.new.session ≡ with_user self.old.session (changed self.old.session.tree self.old.session.user change) }
         ensures edits { EditsKept self.old self.new }
     {
-        self.kept
-            .drop_for_value(&self.tree, &self.user, symbol, Some(&value));
-        self.user.set(symbol, value);
-    }
-
-    /// Removes the value of a symbol.
-    pub(crate) fn remove(&mut self, symbol: SymId)
-        requires inside { IsNodeOf self.old.session.tree (Vis symbol) }
-        ensures session { self.new.session ≡ with_user self.old.session (with_value self.old.session.user symbol None) }
-        ensures edits { EditsKept self.old self.new }
-    {
-        self.kept
-            .drop_for_value(&self.tree, &self.user, symbol, None);
-        self.user.unset(symbol);
+        self.kept.edit(&self.tree, &mut self.user, change);
     }
 
     /// Chooses a member of a choice, or none; nothing changes for a choice that the tree doesn't have.
@@ -54,9 +38,7 @@ impl Session {
     {
         self.facts();
         if (choice.0 as usize) < self.tree.choices().len() {
-            self.kept
-                .drop_for_chosen(&self.tree, &self.user, choice, member);
-            self.user.choose(choice, member);
+            self.edit(Change::Chosen(choice, member));
         }
     }
 
@@ -100,7 +82,7 @@ impl Session {
         self.facts();
         let mut next = User::empty(self.alloc, &self.tree)?;
         apply(&self.tree, &mut next, assigns, Load::Replace);
-        self.take_user(next);
+        self.edit(Change::All(NewUser::Other(next)));
         Ok(())
     }
 
@@ -118,7 +100,7 @@ impl Session {
         self.facts();
         let mut next = self.user.copy(self.alloc)?;
         apply(&self.tree, &mut next, assigns, Load::Merge);
-        self.take_user(next);
+        self.edit(Change::All(NewUser::Other(next)));
         Ok(())
     }
 
@@ -156,20 +138,10 @@ impl Session {
             }
             None => {
                 if !is_assigned(assign.symbol, later) {
-                    self.give(assign.symbol, assign.value);
+                    self.edit(Change::Value(assign.symbol, Some(assign.value)));
                 }
             }
         }
-    }
-
-    /// Makes others the user values.
-    fn take_user(&mut self, next: User)
-        requires { IsUserFor self.old.session.tree next }
-        ensures session { self.new.session ≡ with_user self.old.session next }
-        ensures edits { EditsKept self.old self.new }
-    {
-        self.kept.drop_for_user(&self.tree, &self.user, &next);
-        self.user = next;
     }
 }
 

@@ -4,7 +4,6 @@
 //! refused as too long, with the memory that was reserved at the start; a body takes memory as it is read.
 #![tactic(auto)]
 
-mod all_values;
 mod body;
 mod body_buffer;
 mod choices;

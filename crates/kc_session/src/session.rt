@@ -5,7 +5,6 @@ ghost use Rattle.kc_value.specs.Solution.{solution, IsOnlySolution};
 ghost use Rattle.kc_value.specs.UserValues.{UserValues, chosen_in};
 ghost use Rattle.kc_value.specs.ChoiceRule.{is_symbol};
 
-use crate::all_values::AllValue;
 use crate::choices::choices_text;
 use crate::command::{Command, Refusal, Reply};
 use crate::load::{read_body, warnings_text};
@@ -16,7 +15,7 @@ use kc_files::{
 };
 use kc_text::Text;
 use kc_tree::{ChoiceId, Node, SymId, Tree};
-use kc_value::{KeptValues, User};
+use kc_value::{AllValue, Change, KeptValues, NewUser, User};
 use std::alloc::{AllocError, Global};
 use std::marker::Model;
 
@@ -54,7 +53,7 @@ impl Session {
     ghost use Rattle.kc_files.specs.DefaultLoading.{HasNoFeeds};
     ghost use Rattle.kc_files.specs.LineReading.{IsAssignFor, IsUnfed};
     ghost use Rattle.kc_files.specs.Loading.{user_after};
-    ghost use Rattle.kc_session.specs.AllValues.{all_given};
+    ghost use Rattle.kc_value.specs.AllValues.{all_given};
     ghost use Rattle.kc_files.specs.OneReading.{assigns_in, IsReadAs};
     ghost use Rattle.kc_session.specs.Bodies.{fits_body, warnings_text_of, IsReadRefusal};
     ghost use Rattle.kc_session.specs.DefaultReply.{HasNoFeed, IsEnough, IsLoad, KeepsTheChanges};
@@ -177,7 +176,7 @@ impl Session {
     {
         match value_of(self.alloc, self.tree.symbol_type(symbol), value) {
             Ok(Some(value)) => {
-                self.give(symbol, value);
+                self.edit(Change::Value(symbol, Some(value)));
                 done(self.alloc)
             }
             Ok(None) => self.refuse(Refusal::BadValue),
@@ -206,7 +205,7 @@ impl Session {
         match self.tree.choice_of(symbol) {
             Some(choice) => self.unset_member(symbol, choice),
             None => {
-                self.remove(symbol);
+                self.edit(Change::Value(symbol, None));
                 done(self.alloc)
             }
         }
@@ -232,8 +231,7 @@ impl Session {
         ensures session { self.new.session ≡ with_user self.old.session (reset_outcome self.old.session).user }
         ensures edits { EditsKept self.old self.new }
     {
-        self.kept.drop_for_none(&self.tree, &self.user);
-        self.user.reset();
+        self.edit(Change::All(NewUser::Nothing));
         done(self.alloc)
     }
 
@@ -286,16 +284,13 @@ impl Session {
     }
 
     /// Gives each bool and each tristate a value that is no member of a choice, and removes all other values and all
-    /// chosen members, which takes no memory: each place becomes another at most once, so that exactly what changes on
-    /// the whole is dropped.
-    #[tactic(auto, using(crate::proofs::AllValueLaws::all_are_given))]
+    /// chosen members, which takes no memory.
     fn give_all(&mut self, all: AllValue) -> Reply
         ensures reply { result ≡ Reply.Done [] }
         ensures session { self.new.session ≡ with_user self.old.session (all_given self.old.session.tree all) }
         ensures edits { EditsKept self.old self.new }
     {
-        self.give_values(all);
-        self.choose_none();
+        self.edit(Change::All(NewUser::EachTri(all)));
         done(self.alloc)
     }
 

@@ -53,15 +53,15 @@ module _ (t : TreeValue) (u : UserValues) (s : SymId) (v : Option UserVal) where
   only_value (Sel c) h = absurd (never true (same_member (chosen_in u c) (chosen_in u c)) (member_refl (chosen_in u c)) h)
 
   -- so the value of that symbol is what is dropped
-  pub value_drops : (old new : List (Option Value)) (list : List ℕ) (b : Bool) (number : ℕ) → IsNodeOf t (Val s) → IsUserFor t u
+  pub value_drops : (old new : List (Option Value)) (before list : List ℕ) (b : Bool) (number : ℕ) → IsNodeOf t (Val s) → IsUserFor t u
       → b ≡ (not (is_some (choice_of t s)) && not (same_given (user_value u s) v)) → number ≡ number_of t (Val s)
-      → DropsAll (IsOneIf b number) old new [] list → DropsAll (IsChangedNumber t u (with_value u s v)) old new [] list
-  value_drops old new list b number inside user is at drops =
+      → DropsAll (IsOneIf b number) old new before list → DropsAll (IsChangedNumber t u (with_value u s v)) old new before list
+  value_drops old new before list b number inside user is at drops =
       let w = with_value u s v in
       let room : s.0 < length u.values = omega (arith, inside, user.values) in
       let given : v ≡ user_value w s = sym (get_or-set_same u.values s.0 v None room) in
       let own : b ≡ is_changed t u w (Val s) = is ∙ ap (λ x. not (is_some (choice_of t s)) && not (same_given (user_value u s) x)) given in
-      drops_same (IsOneIf b number) (IsChangedNumber t u w) old new [] list
+      drops_same (IsOneIf b number) (IsChangedNumber t u w) old new before list
       (λ k h. (Val s, inside, (sym own ∙ h.0, h.1 ∙ at)))
       (λ k h. let same : Val s ≡ h.0 = only_value h.0 h.2.0 in (own ∙ ap (is_changed t u w) same ∙ h.2.0, h.2.1 ∙ ap (number_of t) (sym same) ∙ sym at))
       drops
@@ -90,19 +90,19 @@ module _ (t : TreeValue) (u : UserValues) (c : ChoiceId) (m : Option SymId) wher
       (cases_eq d.0 c.0)
 
   -- so its mode and its selection are what is dropped
-  pub chosen_drops : (old mid new : List (Option Value)) (first second : List ℕ) (mode_changes selection_changes : Bool) (mode selection : ℕ) → IsNodeOf t (Sel c) → IsUserFor t u
+  pub chosen_drops : (old mid new : List (Option Value)) (before first second : List ℕ) (mode_changes selection_changes : Bool) (mode selection : ℕ) → IsNodeOf t (Sel c) → IsUserFor t u
       → mode_changes ≡ (is_optional_choice t c && not (same_mark (is_some (chosen_in u c)) (is_some m)))
       → selection_changes ≡ not (same_member (chosen_in u c) m)
       → mode ≡ number_of t (Mode c) → selection ≡ number_of t (Sel c)
-      → DropsAll (IsOneIf mode_changes mode) old mid [] first → DropsAll (IsOneIf selection_changes selection) mid new first second
-      → DropsAll (IsChangedNumber t u (with_chosen u c m)) old new [] second
-  chosen_drops old mid new first second mode_changes selection_changes mode selection inside user of_mode of_selection at_mode at_selection one other =
+      → DropsAll (IsOneIf mode_changes mode) old mid before first → DropsAll (IsOneIf selection_changes selection) mid new first second
+      → DropsAll (IsChangedNumber t u (with_chosen u c m)) old new before second
+  chosen_drops old mid new before first second mode_changes selection_changes mode selection inside user of_mode of_selection at_mode at_selection one other =
       let w = with_chosen u c m in
       let room : c.0 < length u.chosen = omega (arith, inside, user.chosen) in
       let given : m ≡ chosen_in w c = sym (get_or-set_same u.chosen c.0 m None room) in
       let mode_is : mode_changes ≡ is_changed t u w (Mode c) = of_mode ∙ ap (λ x. is_optional_choice t c && not (same_mark (is_some (chosen_in u c)) (is_some x))) given in
       let selection_is : selection_changes ≡ is_changed t u w (Sel c) = of_selection ∙ ap (λ x. not (same_member (chosen_in u c) x)) given in
-      drops_then (IsOneIf mode_changes mode) (IsOneIf selection_changes selection) (IsChangedNumber t u w) old mid new [] first second
+      drops_then (IsOneIf mode_changes mode) (IsOneIf selection_changes selection) (IsChangedNumber t u w) old mid new before first second
       (λ k h. (Mode c, inside, (sym mode_is ∙ h.0, h.1 ∙ at_mode)))
       (λ k h. (Sel c, inside, (sym selection_is ∙ h.0, h.1 ∙ at_selection)))
       (λ k h.

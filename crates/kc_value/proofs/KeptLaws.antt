@@ -2,7 +2,7 @@
 use Rattle.std.proofs.Common.{◌≡◌, ℕ, ◌+◌, ◌<◌, ◌≤◌, Bool, true, false, true≢false, not, ◌&&◌, List, length, map, take, get_or, Option, None, is_some, refl, sym, ap, ◌∙◌, subst, inl, inr, arith}
 use Rattle.std.specs.List.{Contains}
 use Rattle.std.proofs.lemmas.List.{get_or-take, length-map, length-replicate, length-take, length-take-le}
-use Rattle.kc_outline.specs.TreeValue.{TreeValue, choice_of}
+use Rattle.kc_outline.specs.TreeValue.{TreeValue}
 use Rattle.kc_tree.specs.declared.node.Node.{Node}
 use Rattle.kc_tree.specs.declared.node.Node.TheVariants.{Vis, Val, Mode, Sel}
 use Rattle.kc_tree.specs.CellLaws.{CellLaws}
@@ -10,15 +10,13 @@ use Rattle.kc_tree.specs.Cells.{cell_count, cell_number}
 use Rattle.kc_tree.specs.Nodes.{IsNodeOf, node_at, node_count, number_of}
 use Rattle.kc_tree.proofs.NodeNumbers.{are_numbered, at_below, number_of-node_at, Contains-number}
 use Rattle.kc_value.specs.declared.value.Value.{Value}
-use Rattle.kc_value.specs.ChangedValue.{same_mark}
-use Rattle.kc_value.specs.Dirty.{Edits, IsDirty, is_changed, same_given}
+use Rattle.kc_value.specs.Dirty.{Edits, IsDirty}
 use Rattle.kc_value.specs.Kept.{AreKept, IsClosed, KeptValue, kept_count, nothing_kept}
 use Rattle.kc_value.specs.KeptLaws.{KeptLaws}
-use Rattle.kc_value.specs.UserValues.{UserValues, user_value, chosen_in}
-use Rattle.kc_value.specs.Without.{is_optional_choice}
+use Rattle.kc_value.specs.UserValues.{UserValues}
+use Rattle.kc_value.proofs.EditLaws.{edits_nothing, edits_once}
 use Rattle.kc_value.proofs.KeptCounts.{DiffersWithin, value_count-differs, value_count-within}
 use Rattle.kc_value.proofs.KeptReading.{mode_used, visibility_used}
-use Rattle.kc_value.proofs.SameLaws.{given_refl, mark_refl, member_refl}
 use Rattle.kc_value.proofs.SolvedLaws.{kept_right, kept_solved, node_right, used_kept}
 use Rattle.kc_value.proofs.UserLemmas.{none_in}
 
@@ -33,24 +31,6 @@ nothing_right t u = record {
     closed = λ c e inside held listed. absurd (true≢false (sym held ∙ ap is_some (no_value t (cell_number t c))));
   };
   right = λ c v inside at. absurd (true≢false (sym (ap is_some (sym (no_value t (cell_number t c)) ∙ at))));
-}
-
--- ---- user values are the same as themselves
-none_changed : (a b : Bool) → b ≡ true → (a && not b) ≡ false
-none_changed true b e = ap not e
-none_changed false b e = refl
-
-unchanged : (t : TreeValue) (u : UserValues) (n : Node) → is_changed t u u n ≡ false
-unchanged t u (Vis s) = refl
-unchanged t u (Val s) = none_changed (not (is_some (choice_of t s))) (same_given (user_value u s) (user_value u s)) (given_refl (user_value u s))
-unchanged t u (Mode c) = none_changed (is_optional_choice t c) (same_mark (is_some (chosen_in u c)) (is_some (chosen_in u c))) (mark_refl (is_some (chosen_in u c)))
-unchanged t u (Sel c) = ap not (member_refl (chosen_in u c))
-
-edits_nothing : (t : TreeValue) (u : UserValues) (k : KeptValue) → Edits t u u k k
-edits_nothing t u k = record {
-  dropped = λ n inside h. absurd (true≢false (sym h.2 ∙ unchanged t u h.0));
-  each = λ n inside. inl refl;
-  evals = refl;
 }
 
 -- ---- how many values are kept
@@ -98,6 +78,7 @@ laws_hold t laws = record {
   conditions_right = λ u kept are. kept_right t laws u kept are;
   used_kept = λ kept closed n m inside is uses. (used_kept t laws kept closed n m inside is uses).1;
   edits_nothing = edits_nothing t;
+  edits_once = edits_once t;
   count_within = count_within t;
   count_dropped = λ u w old new dirty before after has edits. count_dropped t u w old new dirty before after has edits;
 }

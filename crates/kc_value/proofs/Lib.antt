@@ -1,4 +1,5 @@
 pub mod Agreement
+pub mod AllValueLaws
 pub mod AssignableLemmas
 pub mod BlockLemmas
 pub mod BoundsLemmas
@@ -7,6 +8,7 @@ pub mod ConditionLemmas
 pub mod DefaultLemmas
 pub mod DirtyLaws
 pub mod DropSteps
+pub mod EditLaws
 pub mod EditLemmas
 pub mod EnoughLaws
 pub mod Examples

@@ -1,5 +1,7 @@
 -- Which values an edit of the user values can change: this project's own.
 use Rattle.std.specs.Prelude.{◌≡◌, ◌⊎◌, Bool, true, false, not, ◌&&◌, Option, Some, None, is_some}
+use Rattle.kc_statement.specs.declared.id.SymId.{SymId}
+use Rattle.kc_outline.specs.declared.id.ChoiceId.{ChoiceId}
 use Rattle.kc_outline.specs.TreeValue.{TreeValue, choice_of}
 use Rattle.kc_tree.specs.declared.node.Node.{Node}
 use Rattle.kc_tree.specs.declared.node.Node.TheVariants.{Vis, Val, Mode, Sel}
@@ -38,3 +40,8 @@ pub record Edits (t : TreeValue) (u w : UserValues) (old new : KeptValue) : Type
   pub each : (n : Node) → IsNodeOf t n
       → (value_at t new.values n ≡ value_at t old.values n) ⊎ ((value_at t new.values n ≡ None) × IsDirty t u w n)
   pub evals : new.evals ≡ old.evals
+
+-- User values that become others and then others again: each place has at most once another value than before.
+pub record ChangesEachOnce (u v w : UserValues) : Type 0 where
+  pub values : (s : SymId) → (user_value v s ≡ user_value u s) ⊎ (user_value w s ≡ user_value v s)
+  pub chosen : (c : ChoiceId) → (chosen_in v c ≡ chosen_in u c) ⊎ (chosen_in w c ≡ chosen_in v c)

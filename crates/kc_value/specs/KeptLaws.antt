@@ -9,7 +9,7 @@ use Rattle.kc_tree.specs.Nodes.{AreNumbered, IsNodeOf, node_count}
 use Rattle.kc_tree.specs.Uses.{Uses}
 use Rattle.kc_value.specs.declared.value.Value.{Value}
 use Rattle.kc_value.specs.Assignment.{assignment_of}
-use Rattle.kc_value.specs.Dirty.{Edits, IsDirty}
+use Rattle.kc_value.specs.Dirty.{ChangesEachOnce, Edits, IsDirty}
 use Rattle.kc_value.specs.Kept.{AreKept, IsClosed, IsKept, KeptValue, kept_count}
 use Rattle.kc_value.specs.Known.{AreRight}
 use Rattle.kc_value.specs.Solution.{solution}
@@ -35,6 +35,8 @@ pub record KeptLaws (t : TreeValue) : Type 0 where
   pub used_kept : (kept : List (Option Value)) → IsClosed t kept → (n m : Node) → IsNodeOf t n → IsKept t kept n → Uses t n m → IsKept t kept m
   -- an edit that leaves the user values as they are leaves what is kept
   pub edits_nothing : (u : UserValues) (k : KeptValue) → Edits t u u k k
+  -- and two edits that change each place at most once are one
+  pub edits_once : (u v w : UserValues) → ChangesEachOnce u v w → (a b c : KeptValue) → Edits t u v a b → Edits t v w b c → Edits t u w a c
   -- no more values are kept than there are nodes
   pub count_within : (kept : List (Option Value)) → IsClosed t kept → kept_count t kept ≤ node_count t
   -- an edit drops no more values than there are nodes in a list that has each dirty one

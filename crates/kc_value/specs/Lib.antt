@@ -1,7 +1,9 @@
+pub mod AllValues
 pub mod Assignable
 pub mod Assignment
 pub mod BoundsRange
 pub mod ChangedValue
+pub mod Changes
 pub mod ChoiceRule
 pub mod Conditions
 pub mod Counting

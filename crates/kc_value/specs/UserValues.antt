@@ -1,5 +1,5 @@
 -- What a user gave and chose: this project's own.
-use Rattle.std.specs.Prelude.{◌≡◌, true, List, Option, Some, None, slice_index_or, slice_set, replicate, length, unwrap_or}
+use Rattle.std.specs.Prelude.{◌≡◌, true, List, Option, Some, None, slice_index_or, slice_set, replicate, length}
 use Rattle.kc_statement.specs.declared.id.SymId.{SymId}
 use Rattle.kc_outline.specs.declared.id.ChoiceId.{ChoiceId}
 use Rattle.kc_tree.specs.declared.user_value.UserVal.{UserVal}
@@ -28,10 +28,6 @@ with_chosen u c m = record { values = u.values; chosen = slice_set u.chosen c.0 
 -- no values and no chosen members
 abbrev pub no_values : TreeValue → UserValues
 no_values t = record { values = replicate (length t.symbols) None; chosen = replicate (length t.choices) None }
-
--- those of a user, or none
-abbrev pub user_or_none : TreeValue → Option UserValues → UserValues
-user_or_none t o = unwrap_or o (no_values t)
 
 -- the values are those of a user of this tree: one place for each symbol and for each choice, and each symbol takes the
 -- value that it was given

@@ -7,13 +7,16 @@ ghost use Rattle.kc_tree.specs.declared.node.Node.TheVariants.{Val, Sel};
 ghost use Rattle.kc_tree.specs.Cells.{cell_count};
 ghost use Rattle.kc_tree.specs.Nodes.{IsNodeOf};
 ghost use Rattle.kc_value.specs.ChangedValue.{same_mark, same_member};
-ghost use Rattle.kc_value.specs.Dirty.{same_given, Edits};
-ghost use Rattle.kc_value.specs.DropWalk.{DropsAll, IsChangedChoice, IsChangedValue};
+ghost use Rattle.kc_value.specs.Changes.{changed, new_user, IsChangeFor};
+ghost use Rattle.kc_value.specs.Dirty.{is_changed, same_given, Edits};
+ghost use Rattle.kc_value.specs.DropWalk.{DropsAll, IsChangedChoice, IsChangedNumber, IsChangedValue};
 ghost use Rattle.kc_value.specs.Kept.{AreKept, value_count};
 ghost use Rattle.kc_value.specs.Solution.{solution, IsOnlySolution};
-ghost use Rattle.kc_value.specs.UserValues.{UserValues, IsUserFor, chosen_in, no_values, user_or_none, user_value, with_value, with_chosen};
+ghost use Rattle.kc_value.specs.UserValues.{UserValues, IsUserFor, chosen_in, with_value, with_chosen};
 ghost use Rattle.kc_value.specs.Without.{is_optional_choice};
 
+use crate::all_values::value_given;
+use crate::change::{Change, NewUser};
 use crate::changed::is_same_user_value;
 use crate::dropping::{drop_if, walk};
 use crate::kept_values::KeptValues;
@@ -64,38 +67,52 @@ fn is_selection_changed(from: Option<SymId>, to: Option<SymId>) -> bool
     from != to
 }
 
-/// The value that the next user gives to a symbol, none where there is no next user.
-fn next_value(next: Option<&User>, symbol: SymId) -> Option<&UserVal>
-    ensures { (t : TreeValue) → option_copied result ≡ user_value (user_or_none t (option_copied next.entry)) symbol }
+/// Whether the value of a symbol changes where all user values become others.
+#[tactic(auto, using(crate::proofs::AllValueLaws::given_there, crate::proofs::UserLemmas::none_in))]
+fn is_value_renewed(tree: &Tree, user: &User, next: &NewUser, symbol: SymId) -> bool
+    requires inside { IsNodeOf tree.now (Val symbol) }
+    ensures { result ≡ is_changed tree.now user.now (new_user tree.now next.now) (Val symbol) }
 {
-    next?.get(symbol)
+    let from = user.get(symbol);
+    match next {
+        NewUser::Nothing => is_value_changed(tree, symbol, from, None),
+        NewUser::EachTri(all) => {
+            let to = value_given(tree, *all, symbol);
+            is_value_changed(tree, symbol, from, to.as_ref())
+        }
+        NewUser::Other(next) => is_value_changed(tree, symbol, from, next.get(symbol)),
+    }
 }
 
-/// The member that the next user chooses, none where there is no next user.
-fn next_chosen(next: Option<&User>, choice: ChoiceId) -> Option<SymId>
-    ensures { (t : TreeValue) → result ≡ chosen_in (user_or_none t (option_copied next.entry)) choice }
+/// The member of a choice that is chosen where all user values become others.
+#[tactic(auto, using(crate::proofs::AllValueLaws::none_there, crate::proofs::UserLemmas::none_in))]
+fn next_chosen(next: &NewUser, choice: ChoiceId) -> Option<SymId>
+    ensures { (t : TreeValue) → result ≡ chosen_in (new_user t next.now) choice }
 {
-    next?.chosen(choice)
+    match next {
+        NewUser::Nothing | NewUser::EachTri(_) => None,
+        NewUser::Other(next) => next.chosen(choice),
+    }
 }
 
-/// Drops the values of all symbols that change where the user values become others, but not of what is computed from them,
+/// Drops the values of all symbols that change where all user values become others, but not of what is computed from them,
 /// and lists those that had one.
 fn drop_values(
     tree: &Tree,
     values: &mut NodeValues,
     list: &mut Vec<u32>,
     user: &User,
-    next: Option<&User>,
+    next: &NewUser,
 )
     requires whole { length values.old ≡ cell_count tree.now }
     requires room { length list.old.items + value_count values.old ≤ vec_capacity list.old }
-    ensures drops { DropsAll (IsChangedValue tree.now user.now (user_or_none tree.now (option_copied next.entry)) (length tree.now.symbols))
+    ensures drops { DropsAll (IsChangedValue tree.now user.now (new_user tree.now next.now) (length tree.now.symbols))
         values.old values.new list.old.items list.new.items }
     ensures capacity { vec_capacity list.old ≤ vec_capacity list.new }
 {
     for number in 0..tree.symbols().len() {
         let symbol = SymId(number as u32);
-        let changes = is_value_changed(tree, symbol, user.get(symbol), next_value(next, symbol));
+        let changes = is_value_renewed(tree, user, next, symbol);
         drop_if(values, list, changes, tree.number(Node::Val(symbol)));
     }
 }
@@ -106,11 +123,11 @@ fn drop_choices(
     values: &mut NodeValues,
     list: &mut Vec<u32>,
     user: &User,
-    next: Option<&User>,
+    next: &NewUser,
 )
     requires whole { length values.old ≡ cell_count tree.now }
     requires room { length list.old.items + value_count values.old ≤ vec_capacity list.old }
-    ensures drops { DropsAll (IsChangedChoice tree.now user.now (user_or_none tree.now (option_copied next.entry)) (length tree.now.choices))
+    ensures drops { DropsAll (IsChangedChoice tree.now user.now (new_user tree.now next.now) (length tree.now.choices))
         values.old values.new list.old.items list.new.items }
     ensures capacity { vec_capacity list.old ≤ vec_capacity list.new }
 {
@@ -129,94 +146,92 @@ fn drop_choices(
     }
 }
 
+/// The same of the mode and the selection of one choice whose chosen member becomes another, or none.
+fn drop_chosen(
+    tree: &Tree,
+    values: &mut NodeValues,
+    list: &mut Vec<u32>,
+    user: &User,
+    choice: ChoiceId,
+    member: Option<SymId>,
+)
+    requires inside { IsNodeOf tree.now (Sel choice) }
+    requires user { IsUserFor tree.now user.now }
+    requires whole { length values.old ≡ cell_count tree.now }
+    requires room { length list.old.items + value_count values.old ≤ vec_capacity list.old }
+    ensures drops { DropsAll (IsChangedNumber tree.now user.now (with_chosen user.now choice member)) values.old values.new list.old.items list.new.items }
+    ensures capacity { vec_capacity list.old ≤ vec_capacity list.new }
+{
+    let chosen = user.chosen(choice);
+    let mode_changes = is_mode_changed(tree, choice, chosen, member);
+    drop_if(values, list, mode_changes, tree.number(Node::Mode(choice)));
+    let selection_changes = is_selection_changed(chosen, member);
+    drop_if(
+        values,
+        list,
+        selection_changes,
+        tree.number(Node::Sel(choice)),
+    );
+}
+
+/// The same of all nodes that an edit changes.
+fn drop_changed(
+    tree: &Tree,
+    values: &mut NodeValues,
+    list: &mut Vec<u32>,
+    user: &User,
+    change: &Change,
+)
+    requires user { IsUserFor tree.now user.now }
+    requires change { IsChangeFor tree.now change.now }
+    requires whole { length values.old ≡ cell_count tree.now }
+    requires room { length list.old.items + value_count values.old ≤ vec_capacity list.old }
+    ensures drops { DropsAll (IsChangedNumber tree.now user.now (changed tree.now user.now change.now)) values.old values.new list.old.items list.new.items }
+    ensures capacity { vec_capacity list.old ≤ vec_capacity list.new }
+{
+    match change {
+        Change::Value(symbol, value) => {
+            let changes = is_value_changed(tree, *symbol, user.get(*symbol), value.as_ref());
+            drop_if(values, list, changes, tree.number(Node::Val(*symbol)));
+        }
+        Change::Chosen(choice, member) => {
+            drop_chosen(tree, values, list, user, *choice, *member);
+        }
+        Change::All(next) => {
+            drop_values(tree, values, list, user, next);
+            drop_choices(tree, values, list, user, next);
+        }
+    }
+}
+
 impl KeptValues {
-    /// Drops what changes where a symbol is given a user value, or none, in place of the one that it has. This takes no
-    /// memory. The tree has one solution, and no other, for the user values before and for those afterwards.
-    pub fn drop_for_value(
-        &mut self,
-        tree: &Tree,
-        user: &User,
-        symbol: SymId,
-        value: Option<&UserVal>,
-    )
-        requires inside { IsNodeOf tree.now (Val symbol) }
+    /// Drops what an edit of the user values changes, and all that is computed from it.
+    fn drop_for(&mut self, tree: &Tree, user: &User, change: &Change)
         requires user { IsUserFor tree.now user.now }
+        requires change { IsChangeFor tree.now change.now }
         requires kept { AreKept tree.now user.now self.old.values }
-        ensures kept { AreKept tree.now (with_value user.now symbol (option_copied value.entry)) self.new.values }
-        ensures edits { Edits tree.now user.now (with_value user.now symbol (option_copied value.entry)) self.old self.new }
-        ensures solved { (u : UserValues) → IsOnlySolution tree.now u (solution tree.now u) }
-    {
-        let changes = is_value_changed(tree, symbol, user.get(symbol), value);
-        let number = tree.number(Node::Val(symbol));
-        self.dropped.clear();
-        drop_if(&mut self.values, &mut self.dropped, changes, number);
-        walk(tree, &mut self.values, &mut self.dropped);
-    }
-
-    /// Drops what changes where a member of a choice is chosen, or none, in place of the one that is chosen. This takes
-    /// no memory. The tree has one solution, and no other, for the user values before and for those afterwards.
-    pub fn drop_for_chosen(
-        &mut self,
-        tree: &Tree,
-        user: &User,
-        choice: ChoiceId,
-        member: Option<SymId>,
-    )
-        requires inside { IsNodeOf tree.now (Sel choice) }
-        requires user { IsUserFor tree.now user.now }
-        requires kept { AreKept tree.now user.now self.old.values }
-        ensures kept { AreKept tree.now (with_chosen user.now choice member) self.new.values }
-        ensures edits { Edits tree.now user.now (with_chosen user.now choice member) self.old self.new }
-        ensures solved { (u : UserValues) → IsOnlySolution tree.now u (solution tree.now u) }
-    {
-        let chosen = user.chosen(choice);
-        let mode_changes = is_mode_changed(tree, choice, chosen, member);
-        let mode = tree.number(Node::Mode(choice));
-        let selection_changes = is_selection_changed(chosen, member);
-        let selection = tree.number(Node::Sel(choice));
-        self.dropped.clear();
-        drop_if(&mut self.values, &mut self.dropped, mode_changes, mode);
-        drop_if(
-            &mut self.values,
-            &mut self.dropped,
-            selection_changes,
-            selection,
-        );
-        walk(tree, &mut self.values, &mut self.dropped);
-    }
-
-    /// Drops what changes where the user values become those of the next user, or none.
-    fn drop_for_next(&mut self, tree: &Tree, user: &User, next: Option<&User>)
-        requires kept { AreKept tree.now user.now self.old.values }
-        ensures kept { AreKept tree.now (user_or_none tree.now (option_copied next.entry)) self.new.values }
-        ensures edits { Edits tree.now user.now (user_or_none tree.now (option_copied next.entry)) self.old self.new }
+        ensures kept { AreKept tree.now (changed tree.now user.now change.now) self.new.values }
+        ensures edits { Edits tree.now user.now (changed tree.now user.now change.now) self.old self.new }
         ensures solved { (u : UserValues) → IsOnlySolution tree.now u (solution tree.now u) }
     {
         self.dropped.clear();
-        drop_values(tree, &mut self.values, &mut self.dropped, user, next);
-        drop_choices(tree, &mut self.values, &mut self.dropped, user, next);
+        drop_changed(tree, &mut self.values, &mut self.dropped, user, change);
         walk(tree, &mut self.values, &mut self.dropped);
     }
 
-    /// Drops what changes where all user values are replaced. This takes no memory. The tree has one solution, and no
-    /// other, for the user values before and for those afterwards.
-    pub fn drop_for_user(&mut self, tree: &Tree, user: &User, next: &User)
-        requires kept { AreKept tree.now user.now self.old.values }
-        ensures kept { AreKept tree.now next.now self.new.values }
-        ensures edits { Edits tree.now user.now next.now self.old self.new }
+    /// Makes an edit of the user values, and drops exactly what it can change. This takes no memory. The tree has one
+    /// solution, and no other, for the user values before and for those afterwards.
+    pub fn edit(&mut self, tree: &Tree, user: &mut User, change: Change)
+        requires user { IsUserFor tree.now user.old }
+        requires change { IsChangeFor tree.now change }
+        requires kept { AreKept tree.now user.old self.old.values }
+        ensures values { user.new ≡ changed tree.now user.old change }
+        ensures user { IsUserFor tree.now user.new }
+        ensures kept { AreKept tree.now user.new self.new.values }
+        ensures edits { Edits tree.now user.old user.new self.old self.new }
         ensures solved { (u : UserValues) → IsOnlySolution tree.now u (solution tree.now u) }
     {
-        self.drop_for_next(tree, user, Some(next));
-    }
-
-    /// Drops what changes where all user values are taken away. This takes no memory. The tree has one solution, and no
-    /// other, for the user values before and for none.
-    pub fn drop_for_none(&mut self, tree: &Tree, user: &User)
-        requires kept { AreKept tree.now user.now self.old.values }
-        ensures kept { AreKept tree.now (no_values tree.now) self.new.values }
-        ensures edits { Edits tree.now user.now (no_values tree.now) self.old self.new }
-        ensures solved { (u : UserValues) → IsOnlySolution tree.now u (solution tree.now u) }
-    {
-        self.drop_for_next(tree, user, None);
+        self.drop_for(tree, user, &change);
+        user.make(tree, change);
     }
 }

@@ -1,8 +1,10 @@
 //! The values of a tree: the rule of each node, the one solution, and what answers with it.
 #![tactic(auto)]
 
+mod all_values;
 mod assignable_values;
 mod bounds;
+mod change;
 mod changed;
 mod choice_value;
 mod comparison;
@@ -32,8 +34,10 @@ mod user;
 mod value;
 mod without;
 
+pub use all_values::AllValue;
 pub use assignable_values::{assignable, assignable_among};
 pub use bounds::spelled;
+pub use change::{Change, NewUser};
 pub use changed::changed_value;
 pub use conditions::{comment_condition, menu_condition};
 pub use evaluation::eval;

@@ -1,8 +1,8 @@
 use Rattle.std.proofs.Common.{◌&&◌, not, is_some, ap, ◌∙◌, arith}
-use Rattle.std.specs.Option.{option_copied}
 use Rattle.kc_outline.specs.declared.id.ChoiceId.{ChoiceId}
+use Rattle.kc_value.specs.Changes.{new_user}
 use Rattle.kc_value.specs.ChangedValue.{same_mark, same_member}
-use Rattle.kc_value.specs.UserValues.{chosen_in, user_or_none}
+use Rattle.kc_value.specs.UserValues.{chosen_in}
 use Rattle.kc_value.specs.Without.{is_optional_choice}
 use Rattle.kc_value.proofs.EditLemmas.{choice_next}
 use Rattle.kc_value.proofs.edits.drop_choices.Goals as goal
@@ -11,7 +11,7 @@ pub loop-number-preserved : goal.loop-number-preserved
 loop-number-preserved c =
     let t = c.args.tree.now in
     let u = c.args.user.now in
-    let w = user_or_none t (option_copied c.args.next) in
+    let w = new_user t c.args.next.now in
     let now = c.loop-number in
     let k : ChoiceId = record { 0 = now.number } in
     let to = c.next_chosen-to.result in

@@ -1,5 +1,5 @@
--- Edits one after the other that change each place of the user values at most once drop what one edit drops.
-use Rattle.std.proofs.Common.{◌≡◌, ◌⊎◌, inl, inr, Bool, false, true≢false, not, ◌&&◌, Option, is_some, refl, sym, ap, ◌∙◌, ⊎_elim}
+-- Edits that change nothing, and edits one after the other that change each place of the user values at most once.
+use Rattle.std.proofs.Common.{◌≡◌, ◌⊎◌, inl, inr, Bool, true, false, true≢false, not, ◌&&◌, Option, is_some, refl, sym, ap, ◌∙◌, ⊎_elim}
 use Rattle.kc_statement.specs.declared.id.SymId.{SymId}
 use Rattle.kc_outline.specs.declared.id.ChoiceId.{ChoiceId}
 use Rattle.kc_outline.specs.TreeValue.{TreeValue, choice_of}
@@ -7,11 +7,29 @@ use Rattle.kc_tree.specs.declared.node.Node.{Node}
 use Rattle.kc_tree.specs.declared.node.Node.TheVariants.{Vis, Val, Mode, Sel}
 use Rattle.kc_tree.specs.declared.user_value.UserVal.{UserVal}
 use Rattle.kc_value.specs.ChangedValue.{same_mark, same_member}
-use Rattle.kc_value.specs.Dirty.{same_given, is_changed, IsDirty, Edits}
+use Rattle.kc_value.specs.Dirty.{same_given, is_changed, ChangesEachOnce, IsDirty, Edits}
 use Rattle.kc_value.specs.Kept.{KeptValue}
 use Rattle.kc_value.specs.UserValues.{UserValues, user_value, chosen_in}
 use Rattle.kc_value.specs.Without.{is_optional_choice}
-use Rattle.kc_session.proofs.UnchangedLaws.{unchanged}
+use Rattle.kc_value.proofs.SameLaws.{given_refl, mark_refl, member_refl}
+
+-- ---- user values are the same as themselves
+none_changed : (a b : Bool) → b ≡ true → (a && not b) ≡ false
+none_changed true b e = ap not e
+none_changed false b e = refl
+
+unchanged : (t : TreeValue) (u : UserValues) (n : Node) → is_changed t u u n ≡ false
+unchanged t u (Vis s) = refl
+unchanged t u (Val s) = none_changed (not (is_some (choice_of t s))) (same_given (user_value u s) (user_value u s)) (given_refl (user_value u s))
+unchanged t u (Mode c) = none_changed (is_optional_choice t c) (same_mark (is_some (chosen_in u c)) (is_some (chosen_in u c))) (mark_refl (is_some (chosen_in u c)))
+unchanged t u (Sel c) = ap not (member_refl (chosen_in u c))
+
+pub edits_nothing : (t : TreeValue) (u : UserValues) (k : KeptValue) → Edits t u u k k
+edits_nothing t u k = record {
+  dropped = λ n inside h. absurd (true≢false (sym h.2 ∙ unchanged t u h.0));
+  each = λ n inside. inl refl;
+  evals = refl;
+}
 
 module _ (t : TreeValue) (u v w : UserValues) where
   abbrev ChangesOnce : Node → Type 0
@@ -69,12 +87,11 @@ module _ (t : TreeValue) (u v w : UserValues) where
     }
 
   -- each place becomes another at most once: it has what it had before, or what it has afterwards
-  pub edits_then : ((s : SymId) → (user_value v s ≡ user_value u s) ⊎ (user_value w s ≡ user_value v s)) → ((c : ChoiceId) → (chosen_in v c ≡ chosen_in u c) ⊎ (chosen_in w c ≡ chosen_in v c))
-      → (a b c : KeptValue) → Edits t u v a b → Edits t v w b c → Edits t u w a c
-  edits_then values chosen = edits_both once
+  pub edits_once : ChangesEachOnce u v w → (a b c : KeptValue) → Edits t u v a b → Edits t v w b c → Edits t u w a c
+  edits_once h = edits_both once
     where
       once : (k : Node) → ChangesOnce k
       once (Vis s) = inl (refl, refl)
-      once (Val s) = value_once s (values s)
-      once (Mode c) = mode_once c (chosen c)
-      once (Sel c) = selection_once c (chosen c)
+      once (Val s) = value_once s (h.values s)
+      once (Mode c) = mode_once c (h.chosen c)
+      once (Sel c) = selection_once c (h.chosen c)

@@ -1,5 +1,5 @@
--- This project's own commands `allno` and `allyes`: `allnoconfig` and `allyesconfig` of the kernel's
--- scripts/kconfig/conf.c and of Kconfiglib, as user values.
+-- The commands `allno` and `allyes` as user values: `allnoconfig` and `allyesconfig` of the kernel's
+-- scripts/kconfig/conf.c and of Kconfiglib.
 use Rattle.std.specs.Prelude.{Bool, false, ◌&&◌, not, Option, Some, None, is_some, length, map, replicate, slice_get, if◌then◌else◌}
 use Rattle.std.specs.List.{range_with_len}
 use Rattle.std.specs.Option.{option_map_or}
@@ -12,8 +12,8 @@ use Rattle.kc_statement.specs.SymbolTypes.{is_tri_type}
 use Rattle.kc_outline.specs.TreeValue.{TreeValue, choice_of}
 use Rattle.kc_value.specs.UserValues.{UserValues}
 use Rattle.kc_tree.specs.Fits.{type_of}
-use Rattle.kc_session.specs.declared.all_values.AllValue.{AllValue}
-use Rattle.kc_session.specs.declared.all_values.AllValue.TheVariants.{No, Yes}
+use Rattle.kc_value.specs.declared.all_values.AllValue.{AllValue}
+use Rattle.kc_value.specs.declared.all_values.AllValue.TheVariants.{No, Yes}
 
 -- a line `option allnoconfig_y` names the symbol
 abbrev pub is_yes_in_allnoconfig : TreeValue → SymId → Bool
