@@ -39,7 +39,6 @@ pub mod SameLaws
 pub mod SlotLemmas
 pub mod SolutionLaws
 pub mod SolvedLaws
-pub mod SummaryLemmas
 pub mod UserLemmas
 pub mod VisibilityLaws
 pub mod WithoutLemmas

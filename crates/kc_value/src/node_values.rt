@@ -1,27 +1,28 @@
 //! The values of nodes, by number.
 
-ghost use Rattle.std.specs.Prelude.{◌≡◌, ◌<◌, ℕ, [], IfOk, IfSome, None, OnErr, OnOk, Some, false, is_some, length, map, nat_eq, replicate, slice_index_or, slice_set, true, unwrap_or};
+ghost use Rattle.std.specs.Prelude.{◌≡◌, ◌<◌, ℕ, [], IfOk, IfSome, None, OnErr, OnOk, Some, false, is_some, length, map, nat_eq, replicate, slice_index_or, slice_set, unwrap_or};
 ghost use Rattle.std.specs.Option.{option_copied};
 ghost use Rattle.indexmap.specs.IndexMap.{get};
 ghost use Rattle.kc_value.specs.declared.summary.Summary.TheVariants.{Absent};
 ghost use Rattle.kc_statement.specs.declared.tri.Tri.TheVariants.{No};
 ghost use Rattle.kc_value.specs.declared.value.Value.TheVariants.{Tri as Level};
 ghost use Rattle.kc_value.specs.Assignment.{as_tri};
+ghost use Rattle.kc_value.specs.NodeValues.{seen};
 ghost use Rattle.kc_value.specs.Summaries.{summary_of};
 
 use crate::summary::{SaidValues, Summary};
 use crate::value::Value;
 use indexmap::IndexMap;
-use kc_tree::Tri;
+use kc_tree::{Tri, UserVal};
 use std::alloc::{AllocError, Global};
 use std::marker::Model;
 
 /// The values of nodes by number, with nothing for a node that has none. Contracts see the list of them.
 ///
-/// A byte says of each node whether it has a value, and which one, but for texts and selections, which few nodes have:
-/// those are stored beside. Conditions and walks ask for no more than the byte, and far more often than any asks for a
-/// text. What was stored of a node that has another value by now, or none, is left there until the next is stored, and
-/// is not seen.
+/// A summary of two bytes says of each node whether it has a value, and which one, but for texts and selections, which
+/// few nodes have: those are stored beside. Conditions and walks ask for no more than the summary, and far more often
+/// than any asks for a text. What was stored of a node that has another value by now, or none, is left there until the
+/// next is stored, and is not seen.
 #[derive(Drop)]
 pub struct NodeValues {
     summaries: Vec<Summary>,
@@ -59,25 +60,32 @@ fn summary_at(summaries: &[Summary], number: usize) -> Summary
     }
 }
 
-/// Stores a value under a number, if it is one that is stored. The error comes where memory is refused.
-fn store_if(
+/// Stores a value under a number, unless a summary says it whole, and returns what is said of it. The error comes where
+/// memory is refused.
+fn summary_stored(
     stored: &mut IndexMap<usize, Value>,
     number: usize,
     value: Value,
-    is_stored: bool,
-) -> Result<(), AllocError>
-    ensures stored { OnOk result (is_stored ≡ true → get nat_eq stored.new number ≡ Some value) }
+) -> Result<Summary, AllocError>
+    ensures said { IfOk result (λ s. s ≡ summary_of (Some value)) }
+    ensures here { IfOk result (λ s. seen s (get nat_eq stored.new number) ≡ Some value) }
     ensures others { (k : ℕ) → nat_eq number k ≡ false → get nat_eq stored.new k ≡ get nat_eq stored.old k }
     ensures stays { OnErr result ((k : ℕ) → get nat_eq stored.new k ≡ get nat_eq stored.old k) }
 {
-    if is_stored {
-        stored.insert(number, value)?;
+    match value {
+        Value::Tri(tri) => Ok(Summary::Level(tri)),
+        Value::Shown(UserVal::Tri(tri), false) => Ok(Summary::Unwritten(tri)),
+        Value::Shown(UserVal::Tri(tri), true) => Ok(Summary::Written(tri)),
+        value => {
+            stored.insert(number, value)?;
+            Ok(Summary::Stored)
+        }
     }
-    Ok(())
 }
 
 impl NodeValues {
     /// No places.
+    #[tactic(auto, unfolding(crate::specs::NodeValues::held))]
     pub(crate) fn none(alloc: Global) -> NodeValues
         ensures { result ≡ [] }
     {
@@ -89,6 +97,7 @@ impl NodeValues {
     }
 
     /// As many nodes without a value. The error comes where memory is refused.
+    #[tactic(auto, using(crate::proofs::NodeValueLemmas::nothing_held, crate::proofs::NodeValueLemmas::nothing_said))]
     pub fn empty(alloc: Global, count: usize) -> Result<NodeValues, AllocError>
         ensures { IfOk result (λ s. s ≡ replicate count None) }
     {
@@ -117,41 +126,49 @@ impl NodeValues {
     pub fn tri(&self, number: usize) -> Tri
         ensures { result ≡ as_tri (unwrap_or (slice_index_or self.now number None) (Level No)) }
     {
-        summary_at(self.summaries.as_slice(), number).tri()
+        match summary_at(self.summaries.as_slice(), number) {
+            Summary::Level(tri) | Summary::Unwritten(tri) | Summary::Written(tri) => tri,
+            Summary::Absent | Summary::Stored => Tri::No,
+        }
     }
 
     /// The value of the condition of a number, if it has one.
     pub(crate) fn level(&self, number: usize) -> Option<Tri>
         ensures { IfSome result (λ v. slice_index_or self.now number None ≡ Some (Level v)) }
     {
-        summary_at(self.summaries.as_slice(), number).level()
+        match summary_at(self.summaries.as_slice(), number) {
+            Summary::Level(tri) => Some(tri),
+            _ => None,
+        }
     }
 
     /// The value of the node of a number, if it has one.
+    #[tactic(auto, using(crate::proofs::NodeValueLemmas::seen_at))]
     pub fn get(&self, number: usize) -> Option<&Value>
         ensures { option_copied result ≡ slice_index_or self.now number None }
     {
-        let summary = summary_at(self.summaries.as_slice(), number);
-        if summary.is_stored() {
-            self.stored.get(&number)
-        } else {
-            self.said.get(summary)
+        match summary_at(self.summaries.as_slice(), number) {
+            Summary::Absent => None,
+            Summary::Level(tri) => Some(&self.said.of(tri).level),
+            Summary::Unwritten(tri) => Some(&self.said.of(tri).unwritten),
+            Summary::Written(tri) => Some(&self.said.of(tri).written),
+            Summary::Stored => self.stored.get(&number),
         }
     }
 
     /// Gives the node of a number a value. The error comes where memory is refused, and nothing changes then.
+    #[tactic(auto, using(crate::proofs::NodeValueLemmas::held_set, crate::proofs::NodeValueLemmas::said_set))]
     pub(crate) fn put(&mut self, number: usize, value: Value) -> Result<(), AllocError>
         requires { number < length self.old }
         ensures value { OnOk result (self.new ≡ slice_set self.old number (Some value)) }
         ensures stays { OnErr result (self.new ≡ self.old) }
     {
-        let summary = Summary::of(&value);
-        store_if(&mut self.stored, number, value, summary.is_stored())?;
-        self.summaries[number] = summary;
+        self.summaries[number] = summary_stored(&mut self.stored, number, value)?;
         Ok(())
     }
 
     /// Drops the value of the node of a number.
+    #[tactic(auto, using(crate::proofs::NodeValueLemmas::held_set, crate::proofs::NodeValueLemmas::said_set))]
     pub(crate) fn remove(&mut self, number: usize)
         requires { number < length self.old }
         ensures { self.new ≡ slice_set self.old number None }
