@@ -19,6 +19,7 @@ pub mod FillSteps
 pub mod FirstLemmas
 pub mod FittingLaws
 pub mod FreshLaws
+pub mod GivenLemmas
 pub mod KeptCounts
 pub mod KeptLaws
 pub mod KeptReading

@@ -15,6 +15,7 @@ pub mod Factors
 pub mod FillLaws
 pub mod FillWalk
 pub mod Fresh
+pub mod GivenValues
 pub mod Kept
 pub mod KeptLaws
 pub mod Known

@@ -6,7 +6,7 @@ ghost use Rattle.kc_tree.specs.Fits.{fits};
 ghost use Rattle.kc_value.specs.UserValues.{UserValues, IsUserFor, no_values, with_value, with_chosen, user_value, chosen_in};
 ghost use Rattle.kc_value.specs.Solution.{solution, IsOnlySolution};
 
-use crate::slots::{clear_slots, empty_slots};
+use crate::given_values::GivenValues;
 use kc_tree::{ChoiceId, SymId, Tree, UserVal};
 use std::alloc::{AllocError, Global};
 use std::marker::Model;
@@ -18,7 +18,7 @@ use std::marker::Model;
 /// says.
 #[derive(Debug, Drop)]
 pub struct User {
-    values: Vec<Option<UserVal>>,
+    values: GivenValues,
     chosen: Vec<Option<SymId>>,
 }
 
@@ -27,7 +27,7 @@ impl Model for User {
 
     ghost Value = { UserValues };
 
-    ghost view = { λ u. record { values = u.values.items; chosen = u.chosen.items } };
+    ghost view = { λ u. record { values = u.values; chosen = u.chosen.items } };
 }
 
 impl User {
@@ -35,15 +35,14 @@ impl User {
     /// later, the tree has one solution, and no other.
     ///
     /// The error comes where memory is refused for that room.
-    #[tactic(auto, using(crate::proofs::UserLemmas::empty_fits))]
     pub fn empty(alloc: Global, tree: &Tree) -> Result<User, AllocError>
         ensures values { IfOk result (λ u. u ≡ no_values tree.now) }
         ensures user { IfOk result (IsUserFor tree.now) }
         ensures solved { (u : UserValues) → IsOnlySolution tree.now u (solution tree.now u) }
     {
         Ok(User {
-            values: empty_slots(alloc, tree.symbols().len())?,
-            chosen: empty_slots(alloc, tree.choices().len())?,
+            values: GivenValues::empty(alloc, tree.symbols().len())?,
+            chosen: vec![in alloc; None; tree.choices().len()]?,
         })
     }
 
@@ -55,7 +54,7 @@ impl User {
         ensures values { self.new ≡ with_value self.old symbol (Some value) }
         ensures user { (t : TreeValue) → IsUserFor t self.old → fits t symbol value ≡ true → IsUserFor t self.new }
     {
-        self.values[symbol.0 as usize] = Some(value);
+        self.values.set(symbol.0 as usize, Some(value));
     }
 
     /// Takes the value of a symbol of the tree away, if it has one; those of all others stay.
@@ -65,18 +64,7 @@ impl User {
         ensures values { self.new ≡ with_value self.old symbol None }
         ensures user { (t : TreeValue) → IsUserFor t self.old → IsUserFor t self.new }
     {
-        self.values[symbol.0 as usize] = None;
-    }
-
-    /// Takes the value of a symbol of the tree away, and gives it, if it has one; those of all others stay.
-    #[tactic(auto, using(crate::proofs::UserLemmas::none_kept))]
-    pub fn take(&mut self, symbol: SymId) -> Option<UserVal>
-        requires { symbol.0 < length self.old.values }
-        ensures value { result ≡ user_value self.old symbol }
-        ensures values { self.new ≡ with_value self.old symbol None }
-        ensures user { (t : TreeValue) → IsUserFor t self.old → IsUserFor t self.new }
-    {
-        self.values[symbol.0 as usize].take()
+        self.values.set(symbol.0 as usize, None);
     }
 
     /// Takes all values and chosen members away.
@@ -87,8 +75,8 @@ impl User {
         ensures none { (t : TreeValue) → IsUserFor t self.old → self.new ≡ no_values t }
         ensures user { (t : TreeValue) → IsUserFor t self.old → IsUserFor t self.new }
     {
-        clear_slots(&mut self.values);
-        clear_slots(&mut self.chosen);
+        self.values.clear();
+        self.chosen.fill(None);
     }
 
     /// Chooses a member of a choice of the tree, or none, in place of the one that was chosen; all else stays.
@@ -115,10 +103,7 @@ impl User {
     pub fn get(&self, symbol: SymId) -> Option<&UserVal>
         ensures { option_copied result ≡ user_value self.now symbol }
     {
-        match self.values.get(symbol.0 as usize) {
-            Some(Some(value)) => Some(value),
-            Some(None) | None => None,
-        }
+        self.values.get(symbol.0 as usize)
     }
 
     /// A copy. The error comes where memory is refused.
@@ -126,36 +111,8 @@ impl User {
         ensures { IfOk result (λ u. u ≡ self.now) }
     {
         Ok(User {
-            values: copy_values(alloc, self.values.as_slice())?,
+            values: self.values.copy(alloc)?,
             chosen: Vec::from_slice(alloc, self.chosen.as_slice())?,
         })
     }
-}
-
-/// A copy of a user value, which shares its text. The error comes where the owners of that can't be counted.
-fn copy_value(value: &UserVal) -> Result<UserVal, AllocError>
-    ensures { IfOk result (λ v. v ≡ value.now) }
-{
-    match value {
-        UserVal::Tri(tri) => Ok(UserVal::Tri(*tri)),
-        UserVal::Text(text) => Ok(UserVal::Text(text.share()?)),
-    }
-}
-
-/// A copy of the user values of all symbols. The error comes where memory is refused.
-fn copy_values(
-    alloc: Global,
-    values: &[Option<UserVal>],
-) -> Result<Vec<Option<UserVal>>, AllocError>
-    ensures { IfOk result (λ v. v.items ≡ values.now) }
-{
-    let mut copies = Vec::with_capacity(alloc, values.len())?;
-    for value in values {
-        let copy = match value {
-            Some(value) => Some(copy_value(value)?),
-            None => None,
-        };
-        copies.push(copy)?;
-    }
-    Ok(copies)
 }
