@@ -1,4 +1,4 @@
--- The values that a user gave to symbols, as they are kept: this project's own.
+-- Steps: the values that a user gave to symbols, as they are kept: this project's own.
 use Rattle.std.specs.Prelude.{◌≡◌, ◌<◌, ◌^◌, ℕ, List, Option, Some, None, is_some, length, option_map, slice_get, slice_index_or}
 use Rattle.std.specs.List.{count_by}
 use Rattle.kc_tree.specs.declared.user_value.UserVal.{UserVal}
