@@ -17,7 +17,7 @@ fn line_len(text: &[u8]) -> usize
     }
 }
 
-/// The first line of a text, without its line feed, and the text behind that.
+/// The first line of a text, without its line feed, and the text after that.
 pub(crate) fn first_line(text: &[u8]) -> (&[u8], &[u8])
     requires some { 0 < length text.now }
     ensures lines { lines_in text.now ≡ result.0.now ∷ lines_in result.1.now }

@@ -61,7 +61,7 @@ impl Model for Pass {
 }
 
 impl Pass {
-    /// A pass before the first line, over a tree of so many symbols.
+    /// A pass before the first line, over a tree of this many symbols.
     fn new(alloc: Global, symbols: usize) -> Result<Pass, AllocError>
         ensures { IfOk result (λ pass. pass ≡ empty_pass symbols) }
     {

@@ -198,7 +198,7 @@ pub fn defconfig_text_over(
 ///
 /// Where no text of the user has a line feed, the text is read back without a warning. Loaded in the place of all user
 /// values, it gives each visibility, value and selection as it is, and each mode but that of an optional choice, which
-/// is n where the choice selects none; and with any one of its lines left out, some value or selection is another. That
+/// is n where the choice selects none; and without any one of its lines, some value or selection is another. That
 /// the tree has one solution, and no other, for any user values holds whatever the call returns.
 pub fn defconfig_text<R: Resolver>(
     alloc: Global,

@@ -212,7 +212,7 @@ pub fn header_text_over(
 
 /// The text of the C header: a macro for each symbol that is written and not n, in the order of the first definitions
 /// (`conf_write_autoconf` of the kernel's scripts/kconfig/confdata.c, and `write_autoconf` of Kconfiglib). y is
-/// `#define CONFIG_X 1` and m `#define CONFIG_X_MODULE 1`; a string stands in quotes, a hex number has `0x` before it
+/// `#define CONFIG_X 1` and m `#define CONFIG_X_MODULE 1`; a string is in quotes, a hex number has `0x` before it
 /// where it is spelt without, and an int or a hex without a value has no line. The resolver keeps its tree and its
 /// user values. Only memory can be refused.
 pub fn header_text<R: Resolver>(

@@ -42,7 +42,7 @@ fn is_word(text: &str) -> bool
     !text.is_empty() && has_name_bytes(text)
 }
 
-/// What stands behind the beginning of a text.
+/// What comes after the beginning of a text.
 fn behind<'a>(start: &str, text: &'a str) -> Option<&'a str>
     ensures { option_map (λ s. s.now) result ≡ after start.now text.now }
 {
@@ -57,7 +57,7 @@ fn parted(sign: char, text: &str) -> Option<(&str, &str)>
     text.split_once(sign)
 }
 
-/// The name before the first such character, and what stands behind that.
+/// The name before the first such character, and what comes after that.
 fn named(sign: char, text: &str) -> Option<(&str, &str)>
     requires ascii { sign < 128 }
     ensures { option_map (λ p. parts_of p.0.now p.1.now) result ≡ named sign text.now }

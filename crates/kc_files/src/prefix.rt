@@ -11,7 +11,7 @@ use std::marker::Model;
 /// The most bytes that a prefix has.
 const MAX_BYTES: usize = 64;
 
-/// What stands before the name of each symbol in the files, mostly `CONFIG_`. It has at most 64 bytes, each
+/// What comes before the name of each symbol in the files, mostly `CONFIG_`. It has at most 64 bytes, each
 /// an ASCII letter, a digit or `_`. Contracts see its bytes.
 #[derive(Debug, Drop)]
 pub struct Prefix {

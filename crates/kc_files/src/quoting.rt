@@ -16,7 +16,7 @@ fn is_special(c: char) -> bool
     c == '"' || c == '\\'
 }
 
-/// Appends a character, behind a backslash where it is `"` or a backslash itself.
+/// Appends a character, after a backslash where it is `"` or a backslash itself.
 #[tactic(auto, using(crate::proofs::EscapeLaws::escaped_plain, crate::proofs::EscapeLaws::escaped_special))]
 fn push_escaped_char(out: &mut String, c: char) -> Result<(), AllocError>
     ensures { OnOk result (string_bytes out.new ≡ string_bytes out.old ++ escaped (encode_utf8 c)) }

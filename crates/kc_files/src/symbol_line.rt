@@ -8,7 +8,7 @@ use crate::quoting::push_text_in;
 use kc_tree::{SymbolType, Tri, UserVal};
 use std::alloc::AllocError;
 
-/// What stands before the prefix: an n symbol's line is a comment.
+/// What comes before the prefix: an n symbol's line is a comment.
 fn line_start(value: Tri) -> &'static str
     ensures { result.now ≡ line_start value }
 {
@@ -18,7 +18,7 @@ fn line_start(value: Tri) -> &'static str
     }
 }
 
-/// What stands after the name, with the end of the line.
+/// What comes after the name, with the end of the line.
 fn line_end(value: Tri) -> &'static str
     ensures { result.now ≡ line_end value }
 {
@@ -44,7 +44,7 @@ pub(crate) fn push_tri_line(
     out.push_str(line_end(value))
 }
 
-/// Appends the line of a symbol of another type: a string stands in quotes.
+/// Appends the line of a symbol of another type: a string is in quotes.
 pub(crate) fn push_text_line(
     out: &mut String,
     prefix: &str,

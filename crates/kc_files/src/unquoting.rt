@@ -16,14 +16,14 @@ fn is_end(escape: bool, c: char) -> bool
     c == '"' && !escape
 }
 
-/// Whether a character stands for the next one: it is a backslash without another before it.
+/// Whether a character escapes the next one: it is a backslash without another before it.
 fn is_escape(escape: bool, c: char) -> bool
     ensures { result ≡ is_escape escape c }
 {
     c == '\\' && !escape
 }
 
-/// Appends a character, where it is no backslash that stands for the next one. The result says whether it is.
+/// Appends a character, where it is no backslash that escapes the next one. The result says whether it is.
 fn push_unescaped(out: &mut String, escape: bool, c: char) -> Result<bool, AllocError>
     requires inside { is_end escape c ≡ false }
     ensures { IfOk result (λ next. (rest : List ℕ)
@@ -36,7 +36,7 @@ fn push_unescaped(out: &mut String, escape: bool, c: char) -> Result<bool, Alloc
     Ok(false)
 }
 
-/// The text behind an opening quote, up to the closing one; what follows that is ignored. None where no quote closes it.
+/// The text after an opening quote, up to the closing one; what follows that is ignored. None where no quote closes it.
 ///
 /// The error comes where memory is refused.
 fn text_behind(alloc: Global, quoted: &str) -> Result<Option<SharedText>, AllocError>
@@ -53,7 +53,7 @@ fn text_behind(alloc: Global, quoted: &str) -> Result<Option<SharedText>, AllocE
     Ok(None)
 }
 
-/// The text that stands in quotes at the beginning of a value, none where the value begins otherwise or the quote is
+/// The text that is in quotes at the beginning of a value, none where the value begins otherwise or the quote is
 /// not closed.
 ///
 /// The error comes where memory is refused.

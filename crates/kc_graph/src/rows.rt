@@ -31,7 +31,7 @@ impl Model for Rows {
 }
 
 impl Rows {
-    /// There are no rows at first, and there is room for so many, of a number each.
+    /// There are no rows at first, and there is room for this many, of a number each.
     ///
     /// It fails where memory runs out.
     pub fn with_capacity(alloc: Global, rows: usize) -> Result<Rows, AllocError>

@@ -53,7 +53,7 @@ pub(crate) fn line_len(text: &[u8]) -> usize
     }
 }
 
-/// The first line of a text with its line feed, which the last may lack, and the text behind it.
+/// The first line of a text with its line feed, which the last may lack, and the text after it.
 fn first_line(text: &[u8]) -> (&[u8], &[u8])
     requires some { 0 < length text.now }
     ensures lines { lines_of text.now ≡ result.0.now ∷ lines_of result.1.now }

@@ -53,7 +53,7 @@ impl BodyBuffer {
         self.refusal = None;
     }
 
-    /// Puts one more line behind the others. A line that is too long makes the body too long, and so does one past the
+    /// Puts one more line after the others. A line that is too long makes the body too long, and so does one past the
     /// most bytes of a body, whether the others were kept or not.
     #[tactic(auto, using(crate::proofs::BodyHolding::pushed_line, crate::proofs::BodyHolding::pushed_long))]
     pub(crate) fn push_line(&mut self, line: &LineBuffer)
@@ -66,7 +66,7 @@ impl BodyBuffer {
         }
     }
 
-    /// Puts one more line behind the others, which itself is not too long.
+    /// Puts one more line after the others, which itself is not too long.
     #[tactic(auto, using(crate::proofs::BodyHolding::held_past))]
     fn push(&mut self, line: &[u8])
         ensures { (lines : List (List ℕ)) → HoldsLines self.old lines → fits_line line.now ≡ true
@@ -79,7 +79,7 @@ impl BodyBuffer {
         self.keep(line);
     }
 
-    /// Puts one more line behind the others, for which there is room.
+    /// Puts one more line after the others, for which there is room.
     #[tactic(auto, using(crate::proofs::BodyHolding::held_counted, crate::proofs::BodyHolding::held_kept, crate::proofs::BodyHolding::held_starved))]
     fn keep(&mut self, line: &[u8])
         requires room { self.old.size + length line.now ≤ body_limit }

@@ -21,7 +21,7 @@ const MOST_DIGITS: usize = 7;
 pub(crate) enum Request<'a> {
     /// A command that is this line.
     Whole(Command<'a>),
-    /// A load whose body is so many of the next lines.
+    /// A load whose body is this many of the next lines.
     WithBody(Load, u64),
 }
 

@@ -124,7 +124,7 @@ pub(crate) fn is_choice(line: &Line<'_>) -> bool
     matches!(read_keyword(line), Some(Keyword::Choice))
 }
 
-/// The line of a choice by number: that of the first of so many `choice` lines.
+/// The line of a choice by number: that of the first of this many `choice` lines.
 fn choice_line<'a, 'b>(lines: &'a [Line<'b>], choice: usize) -> Option<&'a Line<'b>>
     ensures { option_copied result ≡ slice_get (filter is_choice lines.now) choice }
 {

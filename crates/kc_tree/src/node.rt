@@ -19,7 +19,7 @@ pub enum Node {
 }
 
 impl Node {
-    /// The number of the node in a tree of so many symbols: twice that of its symbol for the visibility, and one more
+    /// The number of the node in a tree of this many symbols: twice that of its symbol for the visibility, and one more
     /// for the value. Those of the choices follow, in the same way.
     pub(crate) fn number_in(self, symbols: usize) -> usize
         requires { symbols ≤ MOST_SYMBOLS }
@@ -71,7 +71,7 @@ impl Node {
         }
     }
 
-    /// The node of a number in a tree of so many symbols.
+    /// The node of a number in a tree of this many symbols.
     pub(crate) fn in_tree(symbols: usize, number: usize) -> Node
         requires few { symbols ≤ MOST_SYMBOLS }
         requires number { number < 2 ^ 32 }

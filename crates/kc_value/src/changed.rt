@@ -58,7 +58,7 @@ fn value_at(known: &Known<'_>, node: Node) -> Result<Value, AllocError>
 /// by number. Texts are compared as they are spelt.
 ///
 /// User values that hold just these, of all symbols and choices, give each visibility, value and selection as it is,
-/// and each mode but that of an optional choice, which is n where it selects none. None of them can be left out: user
+/// and each mode but that of an optional choice, which is n where it selects none. None of them can be omitted: user
 /// values that give the same values and selections have one for each symbol and each choice that has one here. That the
 /// tree has one solution, and no other, for any user values holds whatever the call returns.
 ///

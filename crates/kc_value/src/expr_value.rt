@@ -30,7 +30,7 @@ pub(crate) fn modules_tri(known: &Known<'_>) -> Tri
     }
 }
 
-/// The value of a term that stands alone.
+/// The value of a term that is alone.
 fn term_tri(known: &Known<'_>, term: &Term) -> Tri
     ensures { result ≡ term_tri known.now.tree (given known.now) term.now }
 {

@@ -21,7 +21,7 @@ use itertools::Itertools;
 use kc_tree::{DefaultValue, Definition, Reverse, SymId, Symbol, SymbolType, Tri, UserVal};
 use std::alloc::{AllocError, Global};
 
-/// A bool knows no m: it stands for y.
+/// A bool knows no m: it is y there.
 fn bool_value(value: Tri) -> Tri
     ensures { result ≡ in_bool value }
 {
