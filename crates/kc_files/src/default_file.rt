@@ -184,6 +184,7 @@ pub fn defconfig_text_over(
     ensures keeps { HasNoFeeds solved.now.user
         → IfOk result (λ text. KeepsChanges solved.now.tree solved.now.user prefix.now (string_bytes text)) }
 {
+    // That what the user values change is just enough is a clause of this call.
     let _ = solved.user();
     let mut text = String::new(alloc);
     push_entries(alloc, &mut text, solved, prefix.as_str())?;

@@ -2,28 +2,16 @@
 
 ghost use Rattle.std.specs.Prelude.{◌≡◌, ◌<◌, ◌↔◌, All, IfOk, OnOk, true, length, reverse};
 ghost use Rattle.kc_value.specs.Assignment.{assignment_of};
-ghost use Rattle.kc_value.specs.ChangedValue.{same_user_value};
 ghost use Rattle.kc_files.specs.Effects.{has_effect, new_search, searched_assign, searched_said, without_effect, HasEffect, IsSaidInside};
 ghost use Rattle.kc_files.specs.NumberedLines.{IsLineFor};
 
 use crate::assign::Assign;
 use crate::counting::no_marks;
 use crate::numbered_lines::{ConfigLine, LineSays};
-use kc_tree::{Node, Tree, UserVal};
-use kc_value::{NodeValues, Value};
+use kc_tree::{Node, Tree};
+use kc_value::{NodeValues, Value, is_same_user_value};
 use std::alloc::{AllocError, Global};
 use std::marker::Model;
-
-/// Whether two values are the same; texts are so as they are spelt.
-fn is_same(left: &UserVal, right: &UserVal) -> bool
-    ensures { result ≡ same_user_value left.now right.now }
-{
-    match (left, right) {
-        (UserVal::Tri(left), UserVal::Tri(right)) => *left == *right,
-        (UserVal::Text(left), UserVal::Text(right)) => left.as_str() == right.as_str(),
-        (UserVal::Tri(_), UserVal::Text(_)) | (UserVal::Text(_), UserVal::Tri(_)) => false,
-    }
-}
 
 /// Whether an assignment of a `.config` has its effect over the values of a tree's nodes: its symbol has just that value,
 /// a text byte for byte. So y has its effect for a member of a choice where that is selected, and n where it is not. What
@@ -34,7 +22,7 @@ pub fn has_effect(tree: &Tree, values: &NodeValues, assign: &Assign) -> bool
     ensures exact { (result ≡ true) ↔ HasEffect (assignment_of tree.now values.now) assign.now }
 {
     match values.get(tree.number(Node::Val(assign.symbol))) {
-        Some(Value::Shown(value, _)) => is_same(value, &assign.value),
+        Some(Value::Shown(value, _)) => is_same_user_value(value, &assign.value),
         Some(Value::Tri(_) | Value::Member(_)) | None => false,
     }
 }

@@ -16,7 +16,7 @@ use kc_tree::{Node, Tri, UserVal};
 use std::alloc::{AllocError, Global};
 
 /// Whether two user values are the same; texts are so as they are spelt.
-pub(crate) fn is_same_user_value(left: &UserVal, right: &UserVal) -> bool
+pub fn is_same_user_value(left: &UserVal, right: &UserVal) -> bool
     ensures { result ≡ same_user_value left.now right.now }
 {
     match (left, right) {

@@ -205,20 +205,6 @@ fn drop_changed(
 }
 
 impl KeptValues {
-    /// Drops what an edit of the user values changes, and all that is computed from it.
-    fn drop_for(&mut self, tree: &Tree, user: &User, change: &Change)
-        requires user { IsUserFor tree.now user.now }
-        requires change { IsChangeFor tree.now change.now }
-        requires kept { AreKept tree.now user.now self.old.values }
-        ensures kept { AreKept tree.now (changed tree.now user.now change.now) self.new.values }
-        ensures edits { Edits tree.now user.now (changed tree.now user.now change.now) self.old self.new }
-        ensures solved { (u : UserValues) → IsOnlySolution tree.now u (solution tree.now u) }
-    {
-        self.dropped.clear();
-        drop_changed(tree, &mut self.values, &mut self.dropped, user, change);
-        walk(tree, &mut self.values, &mut self.dropped);
-    }
-
     /// Makes an edit of the user values, and drops exactly what it can change. This takes no memory. The tree has one
     /// solution, and no other, for the user values before and for those afterwards.
     pub fn edit(&mut self, tree: &Tree, user: &mut User, change: Change)
@@ -231,7 +217,9 @@ impl KeptValues {
         ensures edits { Edits tree.now user.old user.new self.old self.new }
         ensures solved { (u : UserValues) → IsOnlySolution tree.now u (solution tree.now u) }
     {
-        self.drop_for(tree, user, &change);
+        self.dropped.clear();
+        drop_changed(tree, &mut self.values, &mut self.dropped, user, &change);
+        walk(tree, &mut self.values, &mut self.dropped);
         user.make(tree, change);
     }
 }

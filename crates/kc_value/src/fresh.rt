@@ -34,18 +34,6 @@ pub fn solve(alloc: Global, tree: &Tree, user: &User, node: Node) -> Result<Valu
     }
 }
 
-/// Room for a value of each node, without any. That the tree has one solution, and no other, holds whatever the call returns.
-/// The error comes where memory is refused.
-fn room(alloc: Global, tree: &Tree) -> Result<KeptValues, AllocError>
-    ensures nothing { IfOk result (λ k. k ≡ nothing_kept tree.now) }
-    ensures right { (u : UserValues) → AreKept tree.now u (nothing_kept tree.now).values }
-    ensures solved { (u : UserValues) → IsOnlySolution tree.now u (solution tree.now u) }
-{
-    // That the tree is accepted is a clause of this call.
-    let _ = tree.node_count();
-    KeptValues::new(alloc, tree)
-}
-
 /// A resolver over a tree and user values that keeps nothing from one question to the next: each evaluates all that it
 /// needs. What it lends are the values of the last question. Contracts see the tree, the user values, and the values that
 /// are lent.
@@ -129,14 +117,14 @@ impl<'a> Resolver for Fresh<'a> {
     }
 
     fn fill_node(&mut self, node: Node) -> Result<(), AllocError> {
-        let mut last = room(self.alloc, self.tree)?;
+        let mut last = KeptValues::new(self.alloc, self.tree)?;
         let filled = last.fill(self.alloc, self.tree, self.user, node);
         self.last = Some(last);
         filled
     }
 
     fn fill_all(&mut self) -> Result<(), AllocError> {
-        let mut last = room(self.alloc, self.tree)?;
+        let mut last = KeptValues::new(self.alloc, self.tree)?;
         let filled = last.fill_all(self.alloc, self.tree, self.user);
         self.last = Some(last);
         filled

@@ -50,6 +50,7 @@ impl<'a> Known<'a> {
         ensures values { result.values ≡ values.entry.now }
         ensures accepted { IsAccepted tree.entry.now }
     {
+        // That the tree is accepted is a clause of this call.
         let _ = tree.node_count();
         Known {
             tree,
@@ -65,6 +66,7 @@ impl<'a> Known<'a> {
         ensures values { result.values ≡ values.entry.now }
         ensures accepted { IsAccepted tree.entry.now }
     {
+        // That the tree is accepted is a clause of this call.
         let _ = tree.node_count();
         Known {
             tree,

@@ -84,6 +84,7 @@ impl<'a> Solved<'a> {
         ensures fitting { IsUserFor self.now.tree self.now.user }
         ensures changes { ChangesAreJustEnough self.now.tree self.now.user }
     {
+        // That the tree is accepted is a clause of this call.
         let _ = self.known.tree().symbols();
         self.user
     }
