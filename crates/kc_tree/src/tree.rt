@@ -75,7 +75,7 @@ impl Tree {
 
     /// Reads the tree of logical lines (kconfig-language.rst, "Menu entries").
     ///
-    /// No name is there twice in a tree. Its symbols have numbers in the order of their first definitions, which are the
+    /// Each name is in a tree once. Its symbols have numbers in the order of their first definitions, which are the
     /// entries `Entry::Symbol`. The members of a choice, none of which is a tristate, and the symbols that its defaults
     /// name are in that choice, and it lists all symbols that are in it. Each `Entry::EndMenu` comes once, after the
     /// one `Entry::Menu` of its block.
