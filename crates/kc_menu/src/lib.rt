@@ -14,6 +14,6 @@ mod symbol_object;
 mod tri_letters;
 
 pub use help::Help;
-pub use menu_lines::{MenuLines, menu_text};
+pub use menu_lines::menu_text;
 pub use row::Row;
 pub use rows::menu_rows;

@@ -1,8 +1,5 @@
 //! The lines of the menu tree.
 
-ghost use Rattle.std.specs.Prelude.{◌≡◌, ◌+◌, IfOk, if◌then◌else◌, is_some, length, nat_lt};
-ghost use Rattle.kc_menu.specs.MenuTree.{AreRowsOf};
-
 use crate::block_object::{choice_object, comment_object, menu_object};
 use crate::help::Help;
 use crate::menu_inputs::MenuInputs;
@@ -13,65 +10,6 @@ use kc_report::{Places, View};
 use kc_tree::{Entry, SymId};
 use serde::Serialize;
 use std::alloc::{AllocError, Global};
-use std::marker::Model;
-
-/// The lines of the menu tree, which are made one at a time: for each row a JSON object, in the order of the rows.
-/// Contracts see the rows and how many of them have had their lines.
-#[derive(Drop)]
-pub struct MenuLines<'m> {
-    inputs: MenuInputs<'m>,
-    rows: Vec<Row>,
-    next: usize,
-}
-
-impl<'m> Model for MenuLines<'m> {
-    ghost use Rattle.kc_menu.specs.Lines.{LinesValue};
-
-    ghost Value = { LinesValue };
-
-    ghost view = { λ m. record { rows = m.rows.items; next = m.next } };
-}
-
-impl<'m> MenuLines<'m> {
-    /// Before the first line, of a tree with its values.
-    ///
-    /// # Errors
-    ///
-    /// `AllocError` where memory is refused.
-    pub fn new(
-        alloc: Global,
-        view: &'m View<'m>,
-        places: &'m Places<'m, 'm>,
-        help: Help,
-    ) -> Result<MenuLines<'m>, AllocError>
-        ensures rows { IfOk result (λ lines. AreRowsOf view.now.tree lines.rows) }
-        ensures next { IfOk result (λ lines. lines.next ≡ 0) }
-    {
-        Ok(MenuLines {
-            inputs: MenuInputs::new(view, places, help),
-            rows: menu_rows(alloc, view.tree())?,
-            next: 0,
-        })
-    }
-
-    /// The line of the next row, with its line feed; nothing after the last one.
-    ///
-    /// # Errors
-    ///
-    /// `AllocError` where memory is refused.
-    pub fn next_line(&mut self, alloc: Global) -> Result<Option<String>, AllocError>
-        ensures rows { self.new.rows ≡ self.old.rows }
-        ensures line { IfOk result (λ line. is_some line ≡ nat_lt self.old.next (length self.old.rows)) }
-        ensures next { IfOk result (λ line. self.new.next ≡ (if is_some line then self.old.next + 1 else self.old.next)) }
-    {
-        let Some(row) = self.rows.get(self.next) else {
-            return Ok(None);
-        };
-        let line = line_of(alloc, &self.inputs, *row)?;
-        self.next += 1;
-        Ok(Some(line))
-    }
-}
 
 /// The lines of the menu tree as one text: for each row a JSON object, in the order of the rows.
 ///
