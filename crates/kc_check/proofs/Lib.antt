@@ -1,3 +1,4 @@
+pub mod BlockLaws
 pub mod CountLaws
 pub mod ForcedLaws
 pub mod FragmentLaws

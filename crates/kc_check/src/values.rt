@@ -7,7 +7,7 @@ use kc_explain::shown_line;
 use kc_report::{Places, default_line, push_expr, push_term};
 use kc_statement::{DefaultValue, Range, SymbolType, Term, lone_term};
 use kc_text::Line;
-use kc_tree::{Definition, Tree};
+use kc_tree::{Definition, SymId, Tree};
 use std::alloc::{AllocError, Global};
 
 /// Adds what is wrong with the default of a number of a definition, which a line has.
@@ -32,7 +32,7 @@ pub(crate) fn check_default(
     let name = tree.name(definition.symbol());
     let path = line.path();
     let number = line.number();
-    if let Some(words) = constant_words(alloc, tree, definition, default)? {
+    if let Some(words) = constant_words(alloc, tree, place.definition, definition, default)? {
         found.push(Finding::in_line(alloc, path, number, name, words)?)?;
     }
     if let Some(free) = free_default_before(definition.defaults(), place.number) {
@@ -49,10 +49,12 @@ pub(crate) struct DefaultAt {
     pub number: usize,
 }
 
-/// What is said of a default that is a constant which its symbol does not take as it is written.
+/// What is said of a default, in the definition of a number, that is a constant which its symbol does not take as it is
+/// written.
 fn constant_words(
     alloc: Global,
     tree: &Tree,
+    number: usize,
     definition: &Definition,
     default: &DefaultValue,
 ) -> Result<Option<String>, AllocError> {
@@ -63,7 +65,8 @@ fn constant_words(
     match kind {
         SymbolType::Bool | SymbolType::Tristate => tri_words(alloc, tree, kind, term),
         SymbolType::Int | SymbolType::Hex => {
-            number_words(alloc, tree, kind, term, definition.ranges())
+            let range = range_of(tree, definition.symbol(), number);
+            number_words(alloc, tree, kind, term, range)
         }
         SymbolType::String => Ok(None),
     }
@@ -104,15 +107,21 @@ fn is_digits(word: &str) -> bool {
     word.bytes().all(|byte| byte.is_ascii_digit())
 }
 
+/// The range that bounds the values that the definition of a number gives a symbol whenever it gives one.
+fn range_of(tree: &Tree, symbol: SymId, number: usize) -> Option<&Range> {
+    let symbol = tree.symbols().get(symbol.0 as usize)?;
+    certain_range(tree, symbol.definitions(), number)
+}
+
 /// What is said of the default of an int or a hex that is outside the range that always bounds it.
 fn number_words(
     alloc: Global,
     tree: &Tree,
     kind: SymbolType,
     term: &Term,
-    ranges: &[Range],
+    range: Option<&Range>,
 ) -> Result<Option<String>, AllocError> {
-    let Some(range) = certain_range(ranges) else {
+    let Some(range) = range else {
         return Ok(None);
     };
     if !is_outside(kind, range, term) || has_exchanged_sides(kind, range) {
