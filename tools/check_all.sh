@@ -13,12 +13,15 @@ export PYTHONDONTWRITEBYTECODE=1 PYTHONUTF8=1
 
 checks=(
     check_rules.py
+    check_edits.py
     check_whole.py
     check_limits.py
     check_explanations.py
     check_reach.py
     document_cases.py
     edit_tables.py
+    test_bad_edits.py
+    test_check_edits.py
     test_expand_kconfig.py
     test_fuzz.py
     test_gate_times.py
