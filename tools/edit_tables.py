@@ -4,12 +4,15 @@
     tools/edit_tables.py [--write]
 
 The gate runs it, by tools/check_all.sh. An edit of crates/CRATE/must-fail has a line `-- function: WHAT`: the row of
-the table of its crate in which it is listed. A line is written for each mistake, and the status is 1 where there is
-one:
+the table of its crate in which it is listed. A crate without edits in the gate has no table. The first table of the
+page names the wrong bodies that never leave the gate, each with its edits as `CRATE/NAME`, or with the files of cases
+that find it where no contract can. A line is written for each mistake, and the status is 1 where there is one:
 
 - an edit without that line, or with several;
 - a name in backticks of that line that the crate defines neither as a function nor as a type;
-- a table that is not that of the edits. With --write it is written.
+- a table of a crate that is not that of its edits. With --write it is written;
+- a wrong body that never leaves the gate, and names no edit and no cases, or an edit that is not in must-fail/, or
+  cases that are not there; and a first table that has no such row.
 """
 
 import argparse
@@ -17,12 +20,13 @@ import re
 import sys
 from collections import defaultdict
 from pathlib import Path
-from typing import Dict, Iterator, List
+from typing import Callable, Dict, Iterator, List
 
-from check_rules import CRATES, DOCS, ROOT, crates_of, shown, text_of
+from check_rules import CRATES, DATA, DOCS, ROOT, cells_of, crates_of, shown, text_of
 
 PAGE = DOCS / "EDITS.md"
 HEADING = "## The edits of the gate\n"
+STAYING = "## The wrong bodies that stay in the gate\n"
 
 MARK = "-- function: "
 
@@ -71,6 +75,33 @@ def with_tables(page: str, tables: List[str]) -> str:
     return before + heading + introduction + "\n".join(tables)
 
 
+# ------------------------------------------------------------------------------------------------ what stays
+
+
+def staying(page: str) -> Iterator[List[str]]:
+    """The rows of the table of wrong bodies that stay in the gate: what each does, and what tries it."""
+    section = page.partition(STAYING)[2].partition("\n## ")[0]
+    rows = [cells_of(line) for line in section.split("\n") if line.startswith("|")]
+    yield from rows[2:]
+
+
+def is_there(item: str) -> bool:
+    """Whether an edit, CRATE/NAME, is in the gate, or a file of cases in kc_cases."""
+    crate, slash, name = item.partition("/")
+    return (CRATES / crate / "must-fail" / f"{name}.edit" if slash else DATA / f"{item}.cases").is_file()
+
+
+def staying_mistakes(page: str, is_there: Callable[[str], bool]) -> Iterator[str]:
+    rows = list(staying(page))
+    if not rows:
+        yield "no wrong body is named that stays in the gate"
+    for row in rows:
+        items = re.findall(r"`([^`]+)`", row[-1])
+        if len(row) != 2 or not items:
+            yield f"{row[0]!r}: no edit is named, and no cases"
+        yield from (f"{row[0]!r}: {item} is not in the gate" for item in items if not is_there(item))
+
+
 def main() -> int:
     parser = argparse.ArgumentParser(description="Compares the tables of docs/EDITS.md with the edits of the gate.")
     parser.add_argument("--write", action="store_true", help="write the tables")
@@ -78,6 +109,7 @@ def main() -> int:
     crates = crates_of(text_of(ROOT / "crates.txt"))
     mistakes = [mistake for crate in crates for mistake in mark_mistakes(crate)]
     page = text_of(PAGE)
+    mistakes += [f"{shown(PAGE)}: {mistake}" for mistake in staying_mistakes(page, is_there)]
     wanted = with_tables(page, [table_of(crate, rows_of(crate)) for crate in crates if edits_of(crate)])
     if options.write:
         PAGE.write_text(wanted, encoding="utf-8")

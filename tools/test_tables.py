@@ -1,10 +1,11 @@
 #!/usr/bin/env python3
-"""Tests of tools/edit_tables.py and tools/check_whole.py: what a table has, and what is missing."""
+"""Tests of tools/edit_tables.py and tools/check_whole.py: what a table has, what is missing, and what stays in the
+gate."""
 
 import unittest
 
 from check_whole import mistakes_of, without_row
-from edit_tables import table_of, with_tables
+from edit_tables import staying, staying_mistakes, table_of, with_tables
 
 PAGE = """\
 # Edits
@@ -32,6 +33,22 @@ TABLE = """\
 | `b`: more | `x` |
 """
 
+STAYING = """\
+## The wrong bodies that stay in the gate
+
+These stay.
+
+| What the body does | Edits |
+|---|---|
+| it drops `x` | `kc_a/one`, `kc_b/two` |
+| it is out of memory | by the cases `loads` |
+| nobody sees it | review |
+
+## The form
+
+| no row | `kc_a/none` |
+"""
+
 WITHOUT = """\
 | kc_a | `Rule` | in a row |
 
@@ -54,6 +71,16 @@ class Tables(unittest.TestCase):
         before = PAGE.partition("### kc_old")[0]
         self.assertEqual(page, f"{before}{TABLE}\n{TABLE}")
         self.assertEqual(with_tables(page, [TABLE, TABLE]), page)
+
+    def test_what_stays_in_the_gate_is_there(self) -> None:
+        bodies = [row[0] for row in staying(STAYING)]
+        self.assertEqual(bodies, ["it drops `x`", "it is out of memory", "nobody sees it"])
+        there = {"kc_a/one", "loads"}
+        wanted = ["'it drops `x`': kc_b/two is not in the gate", "'nobody sees it': no edit is named, and no cases"]
+        self.assertEqual(list(staying_mistakes(STAYING, there.__contains__)), wanted)
+
+    def test_a_page_that_names_nothing_that_stays_is_a_mistake(self) -> None:
+        self.assertEqual(len(list(staying_mistakes(PAGE, lambda item: True))), 1)
 
     def test_what_has_no_row_is_read(self) -> None:
         self.assertEqual(without_row(WITHOUT), {("kc_a", "Names"), ("kc_a", "Rows"), ("FILES.md", "In short")})
