@@ -16,12 +16,14 @@ checks=(
     check_edits.py
     check_whole.py
     check_limits.py
+    check_names.py
     check_explanations.py
     check_reach.py
     document_cases.py
     edit_tables.py
     test_bad_edits.py
     test_check_edits.py
+    test_check_names.py
     test_expand_kconfig.py
     test_fuzz.py
     test_gate_times.py

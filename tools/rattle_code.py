@@ -29,7 +29,9 @@ def end_of_braces(text: str, start: int) -> int:
 
 
 def end_of_ghost(text: str, start: int) -> int:
-    """Where a ghost item ends: at its semicolon, which is outside braces."""
+    """Where a ghost item ends: a field with its braces, another one at its semicolon, which is outside braces."""
+    if field := re.compile(r"\s*\w+\s*:\s*\{").match(text, start):
+        return end_of_braces(text, field.end())
     depth = 0
     for sign in re.finditer(r"[{};]", text[start:]):
         depth += {"{": 1, "}": -1, ";": 0}[sign[0]]

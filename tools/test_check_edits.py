@@ -22,6 +22,7 @@ const MOST: usize = 64;
 
 pub struct Draft<'a> {
     text: &'a str,
+    ghost short: { length text.now ≤ only_ghosts },
 }
 
 impl<'a> Draft<'a> {
@@ -142,9 +143,10 @@ class Code(unittest.TestCase):
     def test_bare_code_keeps_places(self) -> None:
         code = bare(CODE)
         self.assertEqual([len(line) for line in code.split("\n")], [len(line) for line in CODE.split("\n")])
-        for word in ("ghostly", "told", "clause_only", "said"):
+        for word in ("ghostly", "told", "clause_only", "said", "only_ghosts"):
             self.assertNotIn(word, code)
-        self.assertIn("&'a str", code)
+        for word in ("&'a str", "is_long", "MOST", "High"):
+            self.assertIn(word, code)
 
     def test_names_are_imported_by_their_last_part(self) -> None:
         self.assertEqual(imported("use a::b::{C, D as E, f::{self, G}};\nuse h::*;\n"), {"C", "E", "f", "G"})
