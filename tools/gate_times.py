@@ -2,16 +2,19 @@
 """Runs `rt ci`, and writes what each crate took, as the table of docs/PERFORMANCE.md has it.
 
     tools/gate_times.py [--to FILE] [--anew] [NAME..]
+    tools/gate_times.py [--to FILE] --of NUMBER
 
-The other words are those of `rt ci`, whose output is passed through and whose status is the status. What an earlier run
-has kept takes no time, so the gate is measured whole with --anew. The table has a row for each crate that took time,
-and one for all; it goes to standard output after that of `rt ci`, or to FILE.
+The other words are those of `rt ci`, whose output is passed through and whose status is the status. With --of it starts
+nothing, and looks at the process of that number until it ends: an `rt ci` or a `.ci/run` that is running. What `rt ci`
+writes has no times, so no table can be made of a log. What an earlier run has kept takes no time, so the gate is
+measured whole with --anew. The table has a row for each crate that took time, and one for all; it goes to standard
+output after that of `rt ci`, or to FILE, where it is also written each minute, so that a run that is stopped has one.
 
 Each second the processes below `rt ci` are looked at. By the words and the folder of one that is given a crate it is a
 proof, a proof with tests, the proof that the edits begin with, or an edit that is tried; one in a folder of `rt ci` for
 runs is a program or a test. What such a process has started counts as its own. A cell is the greatest user and system
 time that was seen, in minutes; what a process takes after it was last seen is in no cell. A line after the table has
-what the system counted.
+what the system counted, or with --of the sum of what was seen, and the number of processors.
 """
 
 import argparse
@@ -24,12 +27,13 @@ import time
 from collections import defaultdict
 from dataclasses import dataclass, field
 from pathlib import Path
-from typing import Dict, Iterable, Iterator, List, Optional, Tuple
+from typing import Callable, Dict, Iterable, Iterator, List, Optional, Tuple
 
 from check_rules import ROOT, crates_of, edit_count, function_count, text_of
 
 TICKS = os.sysconf("SC_CLK_TCK")
 SECONDS_BETWEEN_LOOKS = 1.0
+SECONDS_BETWEEN_TABLES = 60.0
 
 # The kinds of work, with the heads of their columns.
 KINDS = {"proof": "Proof", "tests": "With tests", "first": "Before edits", "edits": "Edits", "run": "Runs"}
@@ -132,6 +136,9 @@ class Seen:
         work = Work(crate, kind)
         return sum(self.seconds[key] for key, each in self.works.items() if each == work) / 60
 
+    def all_minutes(self) -> float:
+        return sum(self.seconds.values()) / 60
+
 
 def seconds_of(process: Process, below: Dict[int, List[Process]]) -> float:
     """The processor time of a process and of all below it."""
@@ -149,8 +156,8 @@ def row_of(cells: Iterable[str]) -> str:
     return "|" + "".join(f" {cell} |" if cell else " |" for cell in cells)
 
 
-def table(seen: Seen, crates: List[str], minutes: float, elapsed: float) -> Iterator[str]:
-    """The lines of the table: the crates that were seen, and all of them. A last line has what the system counted."""
+def table(seen: Seen, crates: List[str], elapsed: float, counted: str) -> Iterator[str]:
+    """The lines of the table: the crates that were seen, and all of them. A last line has what was counted."""
     yield row_of(["Crate", "Functions", *KINDS.values(), "From begin to end", "Edits that the gate tries"])
     yield "|" + "---|" * (len(KINDS) + 4)
     for crate in crates:
@@ -162,34 +169,67 @@ def table(seen: Seen, crates: List[str], minutes: float, elapsed: float) -> Iter
     sums = [shown(sum(seen.minutes(crate, kind) for crate in crates)) for kind in KINDS]
     yield row_of(["all", "", *sums, shown(elapsed), ""])
     yield ""
-    yield f"The system counted {minutes:.1f} minutes of user and system time."
+    yield f"{counted}, on {len(os.sched_getaffinity(0))} processors."
 
 
-def measure(words: List[str]) -> Tuple[int, Seen]:
-    """Runs `rt ci` with these words, and gives its status and what was seen."""
-    seen = Seen()
+@dataclass
+class Report:
+    """Where the table goes: a file, or standard output at the end."""
+
+    to: Optional[Path]
+    begin: float = field(default_factory=time.monotonic)
+
+    def write(self, seen: Seen, counted: str, is_end: bool) -> None:
+        crates = crates_of(text_of(ROOT / "crates.txt"))
+        lines = table(seen, crates, (time.monotonic() - self.begin) / 60, counted)
+        text = "".join(f"{line}\n" for line in lines)
+        if self.to:
+            self.to.write_text(text, encoding="utf-8")
+        elif is_end:
+            print(text, end="")
+
+
+def counted_by_sight(seen: Seen) -> str:
+    return f"Seen were {seen.all_minutes():.1f} minutes of user and system time"
+
+
+def watch(top: int, is_running: Callable[[], bool], report: Report) -> Seen:
+    """Looks at what is below a process until it ends, and writes the table each minute."""
+    seen, written = Seen(), time.monotonic()
+    while is_running():
+        seen.look(top, all_processes(), time.monotonic())
+        if time.monotonic() - written >= SECONDS_BETWEEN_TABLES:
+            report.write(seen, counted_by_sight(seen), is_end=False)
+            written = time.monotonic()
+        time.sleep(SECONDS_BETWEEN_LOOKS)
+    return seen
+
+
+def run_gate(words: List[str], report: Report) -> int:
+    """Runs `rt ci` with these words, and gives its status."""
     with subprocess.Popen(["rt", "ci", *words], cwd=ROOT) as gate:
-        while gate.poll() is None:
-            seen.look(gate.pid, all_processes(), time.monotonic())
-            time.sleep(SECONDS_BETWEEN_LOOKS)
-    return gate.returncode, seen
+        seen = watch(gate.pid, lambda: gate.poll() is None, report)
+    used = resource.getrusage(resource.RUSAGE_CHILDREN)
+    minutes = (used.ru_utime + used.ru_stime) / 60
+    report.write(seen, f"The system counted {minutes:.1f} minutes of user and system time", is_end=True)
+    return gate.returncode
+
+
+def is_running(number: int) -> bool:
+    return any(process.number == number for process in all_processes())
 
 
 def main() -> int:
     parser = argparse.ArgumentParser(description="Runs `rt ci`, and writes what each crate took.")
     parser.add_argument("--to", type=Path, metavar="FILE", help="write the table to FILE")
+    parser.add_argument("--of", type=int, metavar="NUMBER", help="look at a process that is running, and start nothing")
     options, words = parser.parse_known_args()
-    begin = time.monotonic()
-    status, seen = measure(words)
-    used = resource.getrusage(resource.RUSAGE_CHILDREN)
-    minutes, elapsed = (used.ru_utime + used.ru_stime) / 60, (time.monotonic() - begin) / 60
-    lines = table(seen, crates_of(text_of(ROOT / "crates.txt")), minutes, elapsed)
-    text = "".join(f"{line}\n" for line in lines)
-    if options.to:
-        options.to.write_text(text, encoding="utf-8")
-    else:
-        print(text, end="")
-    return status
+    report = Report(options.to)
+    if options.of is None:
+        return run_gate(words, report)
+    seen = watch(options.of, lambda: is_running(options.of), report)
+    report.write(seen, counted_by_sight(seen), is_end=True)
+    return 0
 
 
 if __name__ == "__main__":

@@ -2,12 +2,16 @@
 """Tests of tools/gate_times.py and tools/dearest_functions.py: what a process is, what a table has, and what a module is
 about. They start no process."""
 
+import tempfile
 import unittest
+from pathlib import Path
 from typing import List, Optional, Tuple
+from unittest import mock
 
+import gate_times
 from check_rules import crates_of
 from dearest_functions import function_of, times_of
-from gate_times import TICKS, Process, Seen, Work, process_of, table, work_of
+from gate_times import TICKS, Process, Report, Seen, Work, process_of, table, watch, work_of
 
 CHECK = ["bin/rattle", "check", "--crate-name", "kc_text", "src/lib.rt"]
 CRATE, EDIT, EDITS, RUN = "copy/crates/kc_text", "room/rt-edit-7-a_b", "room/rt-edits-7-c", "room/rt-run-7-a"
@@ -63,11 +67,20 @@ class GateTimes(unittest.TestCase):
 
     def test_a_table_has_the_crates_that_were_seen(self) -> None:
         seen = seen_of((0.0, [Process(2, 1, 0, 90.0)]), (30.0, [Process(9, 1, 0, 60.0)]))
-        head, line, row, total, _, counted = table(seen, ["kc_graph", "kc_text"], 2.75, 1.5)
+        head, line, row, total, _, counted = table(seen, ["kc_graph", "kc_text"], 1.5, "The system counted 2.8 minutes")
         self.assertEqual(head.count("|"), line.count("|"))
         self.assertRegex(row, r"^\| kc_text \| \d+ \| 1\.5 \| \| \| 1\.0 \| \| 0\.5 \| \d+ \|$")
         self.assertEqual(total, "| all | | 1.5 | | | 1.0 | | 1.5 | |")
-        self.assertEqual(counted, "The system counted 2.8 minutes of user and system time.")
+        self.assertRegex(counted, r"^The system counted 2\.8 minutes, on \d+ processors\.$")
+
+    def test_a_run_that_is_watched_has_a_table_before_it_ends(self) -> None:
+        with tempfile.TemporaryDirectory() as folder:
+            to = Path(folder, "table")
+            answers = iter([True, False])
+            with mock.patch.multiple(gate_times, SECONDS_BETWEEN_LOOKS=0.0, SECONDS_BETWEEN_TABLES=0.0):
+                seen = watch(-1, lambda: next(answers), Report(to))
+            self.assertEqual(seen, Seen())
+            self.assertIn("Seen were 0.0 minutes of user and system time, on ", to.read_text(encoding="utf-8"))
 
     def test_crates_are_in_their_order(self) -> None:
         self.assertEqual(crates_of("# one: none\nb: a\na staticlib: c\n\nc:\n"), ["b", "a", "c"])
