@@ -28,6 +28,7 @@ from check_rules import CRATES, ROOT, all_edits, crate_of, shown, text_of
 from rattle_code import FREE_FUNCTION, bare, imported, items, variants
 
 WORD = re.compile(r"(?<![\w'])[A-Za-z_]\w*")
+LONGEST = 200  # no name is longer
 
 KEYWORDS = set(
     "as async await break const continue crate dyn else enum extern false fn for if impl in let loop match mod move mut"
@@ -196,9 +197,11 @@ class Name:
 
 def names_in(code: str, start: int, end: int) -> Iterator[Name]:
     """The names of bare code that have a character from `start` to `end`."""
-    for word in WORD.finditer(code):
-        if word.end() > start and word.start() < end and word[0] not in KEYWORDS | PRIMITIVES:
-            yield Name(word[0], code[max(0, word.start() - 200) : word.start()], code[word.end() : word.end() + 200])
+    for word in WORD.finditer(code, max(0, start - LONGEST)):
+        if word.start() >= end:
+            return
+        if word.end() > start and word[0] not in KEYWORDS | PRIMITIVES:
+            yield Name(word[0], code[max(0, word.start() - LONGEST) : word.start()], code[word.end() : word.end() + LONGEST])
 
 
 @dataclass

@@ -26,7 +26,7 @@ from pathlib import Path
 from typing import Dict, FrozenSet, Iterator, List, Set, Tuple
 
 from check_rules import CRATES, DOCS, ROOT, cells_of, shown, text_of
-from rattle_code import bare, end_of_braces, variants
+from rattle_code import VARIANT, bare, end_of_braces
 
 WORD = re.compile(r"[A-Za-z_]\w*")
 NAME = re.compile(r"(?:\w+(?:::|\.))*[A-Za-z_]\w*(?:\(\))?")
@@ -94,13 +94,12 @@ def functions_of_crate(crate: str) -> FrozenSet[str]:
 def members(code: str) -> Dict[str, Set[str]]:
     """What each type of bare code has: functions, by itself or by a trait, and the variants of an enum."""
     found: Dict[str, Set[str]] = {name: set() for name in re.findall(r"\b(?:struct|enum|trait|type)\s+(\w+)", code)}
-    for name in re.findall(r"\benum\s+(\w+)", code):
-        found[name] |= variants(code, name)
     impls: List[Tuple[str, str]] = []
-    for head in re.finditer(r"\b(trait|impl)\b([^{};]*)\{", code):
-        named = functions(code[head.end() : end_of_braces(code, head.end())])
+    for head in re.finditer(r"\b(enum|trait|impl)\b([^{};]*)\{", code):
+        body = code[head.end() : end_of_braces(code, head.end())]
+        named = set(VARIANT.findall(body)) if head[1] == "enum" else functions(body)
         trait, _, of = head[2].rpartition(" for ")
-        if head[1] == "trait":
+        if head[1] != "impl":
             found[WORD.findall(head[2])[0]] |= named
         for kind in set(WORD.findall(of)) & set(found):
             found[kind] |= named if head[1] == "impl" else set()

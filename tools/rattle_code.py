@@ -16,27 +16,32 @@ BEGIN = re.compile(
 ITEM = re.compile(r"\b(?:fn|struct|enum|trait|type|mod|const|static|macro_rules!)\s+(?:mut\s+)?(\w+)")
 FREE_FUNCTION = re.compile(r"^(?:pub(?:\([^)]*\))?\s+)?(?:const\s+|unsafe\s+)*fn\s+(\w+)", re.MULTILINE)
 USE = re.compile(r"\buse\s+([^;]+);")
+VARIANT = re.compile(r"\b[A-Z]\w*")
+
+BRACES = re.compile(r"[{}]")
+SIGNS = re.compile(r"[{};]")
+GHOST_FIELD = re.compile(r"\s*\w+\s*:\s*\{")
 
 
 def end_of_braces(text: str, start: int) -> int:
     """Where the braces end of which the first is before `start`."""
     depth = 1
-    for brace in re.finditer(r"[{}]", text[start:]):
+    for brace in BRACES.finditer(text, start):
         depth += 1 if brace[0] == "{" else -1
         if depth == 0:
-            return start + brace.end()
+            return brace.end()
     return len(text)
 
 
 def end_of_ghost(text: str, start: int) -> int:
     """Where a ghost item ends: a field with its braces, another one at its semicolon, which is outside braces."""
-    if field := re.compile(r"\s*\w+\s*:\s*\{").match(text, start):
+    if field := GHOST_FIELD.match(text, start):
         return end_of_braces(text, field.end())
     depth = 0
-    for sign in re.finditer(r"[{};]", text[start:]):
+    for sign in SIGNS.finditer(text, start):
         depth += {"{": 1, "}": -1, ";": 0}[sign[0]]
         if sign[0] == ";" and depth <= 0:
-            return start + sign.end()
+            return sign.end()
     return len(text)
 
 
@@ -73,4 +78,4 @@ def items(code: str) -> Set[str]:
 def variants(code: str, name: str) -> Set[str]:
     """The variants of an enum of this name in bare code."""
     found = re.search(rf"\benum\s+{name}\b[^{{]*\{{", code)
-    return set(re.findall(r"\b[A-Z]\w*", code[found.end() : end_of_braces(code, found.end())])) if found else set()
+    return set(VARIANT.findall(code[found.end() : end_of_braces(code, found.end())])) if found else set()
