@@ -201,7 +201,8 @@ def names_in(code: str, start: int, end: int) -> Iterator[Name]:
         if word.start() >= end:
             return
         if word.end() > start and word[0] not in KEYWORDS | PRIMITIVES:
-            yield Name(word[0], code[max(0, word.start() - LONGEST) : word.start()], code[word.end() : word.end() + LONGEST])
+            before = code[max(0, word.start() - LONGEST) : word.start()]
+            yield Name(word[0], before, code[word.end() : word.end() + LONGEST])
 
 
 @dataclass

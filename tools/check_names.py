@@ -31,7 +31,9 @@ from rattle_code import VARIANT, bare, end_of_braces
 WORD = re.compile(r"[A-Za-z_]\w*")
 NAME = re.compile(r"(?:\w+(?:::|\.))*[A-Za-z_]\w*(?:\(\))?")
 # A file or a folder of the repository, but of what a build makes and of a pattern such as crates/CRATE.
-PATH = re.compile(r"(?:crates|docs|tools|bench|clients|edits)(?:/(?!out\b|[A-Z]+\.cases)[\w.-]*[a-z][\w.-]*)+(?![\w/*])")
+PATH = re.compile(
+    r"(?:crates|docs|tools|bench|clients|edits)(?:/(?!out\b|[A-Z]+\.cases)[\w.-]*[a-z][\w.-]*)+(?![\w/*])"
+)
 SPECS = re.compile(r"(?:(kc_\w+)[^`|]*)?`(specs|proofs|src)/([\w/]+)`")
 
 # What no file of the repository has, by what it is of.
