@@ -12,7 +12,8 @@ there is one:
 - a word with a `_` or a capital inside, in a longer text between backticks, that stands nowhere there;
 - `Type::name` where the type has no such function, by itself or by a trait, and no such variant;
 - a name in a column of functions that is no function of a crate that its row names;
-- a file or a folder between backticks, or a CRATE/FILE anywhere, that is not there.
+- a file or a folder between backticks, or a CRATE/FILE anywhere, that is not there;
+- a library of the toolchain that crates.txt has and docs/PROOFS.md does not name under "Uses", or the other way round.
 
 Names of other programs, of libraries and of the system are in FOREIGN. A name that the text itself calls gone is not
 looked up (`NAME`, which is gone), and neither is a word in capitals alone, since examples have symbols of such names.
@@ -25,7 +26,7 @@ from functools import lru_cache
 from pathlib import Path
 from typing import Dict, FrozenSet, Iterator, List, Set, Tuple
 
-from check_rules import CRATES, DOCS, ROOT, cells_of, shown, text_of
+from check_rules import CRATES, DOCS, ROOT, cells_of, crates_of, shown, text_of
 from rattle_code import VARIANT, bare, end_of_braces
 
 WORD = re.compile(r"[A-Za-z_]\w*")
@@ -210,10 +211,21 @@ def mistakes_of(text: str, there: FrozenSet[str], known: Dict[str, Set[str]]) ->
     yield from (f"{number}: {mistake}" for number, mistake in dict.fromkeys(sorted(found)))
 
 
+def library_mistakes(proofs: str, crates: str) -> Iterator[str]:
+    """Where the libraries that docs/PROOFS.md names are not those that crates.txt has."""
+    found = re.search(r"\*\*Uses\*\* std and the crates ([\w,\s]+?)\s+of\s+the\s+toolchain", proofs)
+    named = set(WORD.findall(found[1])) - {"and"} if found else set()
+    used = {word for line in re.findall(r"^\w[^:#\n]*:([^#\n]*)", crates, re.MULTILINE) for word in line.split()}
+    used -= set(crates_of(crates))
+    yield from (f"docs/PROOFS.md: {name} is used, and not named" for name in sorted(used - named))
+    yield from (f"docs/PROOFS.md: {name} is named, and not used" for name in sorted(named - used))
+
+
 def main() -> int:
     documents = [ROOT / "README.md", ROOT / "CONTRIBUTING.md", ROOT / "CHANGELOG.md", *sorted(DOCS.glob("*.md"))]
     there, known = words_there(), all_members()
     mistakes = [f"{shown(it)}:{mistake}" for it in documents for mistake in mistakes_of(text_of(it), there, known)]
+    mistakes += library_mistakes(text_of(DOCS / "PROOFS.md"), text_of(ROOT / "crates.txt"))
     print("\n".join(mistakes) if mistakes else f"{len(documents)} documents name what is there")
     return 1 if mistakes else 0
 

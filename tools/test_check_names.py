@@ -6,7 +6,7 @@ import unittest
 from pathlib import Path
 from typing import List
 
-from check_names import lines_of, members, mistakes_of, without_comments
+from check_names import library_mistakes, lines_of, members, mistakes_of, without_comments
 from rattle_code import bare
 
 CODE = """\
@@ -105,6 +105,12 @@ class Names(unittest.TestCase):
     def test_a_block_of_code_is_left_out(self) -> None:
         lines = lines_of("one\n```\ntwo\n```\n    three\nfour")
         self.assertEqual([(line.number, line.text) for line in lines], [(1, "one"), (6, "four")])
+
+    def test_libraries_are_those_of_the_crates(self) -> None:
+        proofs = "**Uses** std and the crates bumpalo, clap and\nmemchr of the toolchain. More.\n"
+        crates = "# c: d\nkc_a: bumpalo memchr\nkc_b: kc_a serde  # no more\n"
+        wanted = ["docs/PROOFS.md: serde is used, and not named", "docs/PROOFS.md: clap is named, and not used"]
+        self.assertEqual(list(library_mistakes(proofs, crates)), wanted)
 
     def test_comments_and_edits_make_no_name_known(self) -> None:
         with tempfile.TemporaryDirectory() as folder:
