@@ -1,7 +1,7 @@
 -- The lines that have a problem, one line further on, and what the first of them is to the reading of the lines.
 use Rattle.std.proofs.Common.{◌≡◌, ◌⊎◌, inl, inr, ℕ, ◌+◌, ◌-◌, ◌<◌, ◌==◌, Bool, true, false, ◌||◌, List, [], ◌∷◌, ◌++◌, Option, Some, None, All, AllPairs, Contains, length, refl, sym, ap, ◌∙◌, subst, arith}
 use Rattle.std.specs.List.{slice_get}
-use Rattle.std.proofs.lemmas.Bool.{cases_lt}
+use Rattle.std.proofs.lemmas.Bool.{true≢false, cases_lt}
 use Rattle.std.proofs.lemmas.Option.{same_Some, slice_get_cases, slice_get_within}
 use Rattle.std.proofs.lemmas.List.Elements.{All-push, All-weaker, Contains-push, Contains-append_left}
 use Rattle.std.proofs.lemmas.List.Quantifiers.{all_pairs_push}
@@ -13,7 +13,7 @@ use Rattle.kc_outline.specs.declared.fault.FaultyLine.{FaultyLine}
 use Rattle.kc_outline.specs.declared.fault.LineProblem.{LineProblem}
 use Rattle.kc_outline.specs.declared.fault.LineProblem.TheVariants.{Limit, Malformed}
 use Rattle.kc_outline.specs.Enclosing.{before, open_blocks, innermost, choice_among, nearest_statement, owner_at}
-use Rattle.kc_outline.specs.FaultyLines.{HasProblemAt, AreLineFaults, IsRefusal, AreRefusedForFirst}
+use Rattle.kc_outline.specs.FaultyLines.{HasProblemAt, IsAfterTooDeep, AreLineFaults, IsRefusal, AreRefusedForFirst}
 use Rattle.kc_outline.specs.LineFaults.{HasProblem, IsSound, early_problem, late_problem, first_problem, is_no_choice_default, is_past_limit, opens_too_deep, test}
 use Rattle.kc_outline.specs.Reader.{IsFound, IsOnlyForm, IsOnlyProblem, faults_with}
 use Rattle.kc_outline.specs.TreeOf.{Reading, IsReading, tree_of}
@@ -44,6 +44,19 @@ pub record AreFaultsBefore (lines : List LineValue) (n : ℕ) (fs : List FaultyL
   pub in_order : AllPairs (λ f g. f.place < g.place) fs
   pub below : All (λ f. f.place < n) fs
   pub first : AreStoppedBefore lines n fs
+
+-- no line before line n opens one block too many
+abbrev pub IsShallowBefore : List LineValue → ℕ → Type 0
+IsShallowBefore lines n = IsAfterTooDeep lines n → ⊥
+
+pub no_lines : (lines : List LineValue) → IsShallowBefore lines 0
+no_lines lines h = let none = h.earlier in absurd (omega (arith, none))
+
+-- then no line up to line n is after such a line
+shallow_up_to : (lines : List LineValue) (n : ℕ) → IsShallowBefore lines n → (f : FaultyLine) → f.place < n + 1 → IsAfterTooDeep lines f.place → ⊥
+shallow_up_to lines n shallow f below h =
+    let earlier = h.earlier in
+    shallow (record { opener = h.opener; earlier = omega (arith, earlier, below); line = h.line; is = h.is; deep = h.deep })
 
 pub no_faults : (lines : List LineValue) → AreFaultsBefore lines 0 []
 no_faults lines = record {
@@ -123,6 +136,17 @@ module _ (lines : List LineValue) (n : ℕ) (l : LineValue) (is : slice_get line
       first = stop_at fs before_it.first;
     }
 
+  -- ---- a line that does not open one block too many
+  pub shallow_next : IsShallowBefore lines n → opens_too_deep (open_blocks (before lines n)) l ≡ false → IsShallowBefore lines (n + 1)
+  shallow_next shallow flat h = elim (before_or_here h.opener h.earlier) [
+    | inl sooner ↦ shallow (record { opener = h.opener; earlier = sooner; line = h.line; is = h.is; deep = h.deep })
+    | inr here ↦
+        let own : h.line ≡ l = same_Some h.line l (sym h.is ∙ ap (λ i. slice_get lines i) here ∙ is) in
+        let deep : opens_too_deep (open_blocks (before lines n)) h.line ≡ true =
+        subst (λ i. opens_too_deep (open_blocks (before lines i)) h.line ≡ true) here h.deep in
+        absurd (true≢false (sym deep ∙ ap (λ x. opens_too_deep (open_blocks (before lines n)) x) own ∙ flat))
+  ]
+
   -- ---- by what is found
   pub next_faults : (found : Option LineProblem) → IsFound (names_of lines) (before lines n) (n + 1 == length lines) l found → AreFaultsBefore lines (n + 1) (faults_with fs n found)
   next_faults None says = sound_next says.0 says.1 says.2
@@ -149,9 +173,11 @@ module _ (lines : List LineValue) where
 
   -- up to the last
   module _ (fs : List FaultyLine) (found : AreFaultsBefore lines (length lines) fs) where
-    pub all_line_faults : AreLineFaults lines fs
-    all_line_faults = record {
+    pub all_line_faults : IsShallowBefore lines (length lines) → AreLineFaults lines fs
+    all_line_faults shallow = record {
       each = found.each;
+      read = All-weaker (λ f. f.place < length lines) (λ f. IsAfterTooDeep lines f.place → ⊥)
+          (λ f h. shallow_up_to lines (length lines) shallow f (omega (arith, h))) fs found.below;
       all = λ i p h. inl (found.all i p (slice_get_within lines i h.line h.is) h);
       in_order = found.in_order;
     }
@@ -165,9 +191,10 @@ module _ (lines : List LineValue) where
 
   -- up to one that opens a block too deep
   module _ (n : ℕ) (l : LineValue) (is : slice_get lines n ≡ Some l) (deep : opens_too_deep (open_blocks (before lines n)) l ≡ true) (fs : List FaultyLine) (found : AreFaultsBefore lines (n + 1) fs) where
-    pub line_faults_before : AreLineFaults lines fs
-    line_faults_before = record {
+    pub line_faults_before : IsShallowBefore lines n → AreLineFaults lines fs
+    line_faults_before shallow = record {
       each = found.each;
+      read = All-weaker (λ f. f.place < n + 1) (λ f. IsAfterTooDeep lines f.place → ⊥) (shallow_up_to lines n shallow) fs found.below;
       all = λ i p h. elim (cases_lt i (n + 1)) [
         | inl sooner ↦ inl (found.all i p sooner h)
         | inr later ↦ inr (record { opener = n; earlier = omega (arith, later); line = l; is = is; deep = deep })

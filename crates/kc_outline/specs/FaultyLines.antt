@@ -27,9 +27,10 @@ pub record IsAfterTooDeep (lines : List LineValue) (place : ℕ) : Type 0 where
   pub deep : opens_too_deep (open_blocks (before lines opener)) line ≡ true
 
 -- each of these has its problem, each line that has one is among them with it, and they are in the order of the lines.
--- Nothing is read after a block that is too deep.
+-- Nothing is read after a block that is too deep, and no line after it is among them: so these are one list.
 pub record AreLineFaults (lines : List LineValue) (faults : List FaultyLine) : Type 0 where
   pub each : All (λ f. HasProblemAt lines f.place f.problem) faults
+  pub read : All (λ f. IsAfterTooDeep lines f.place → ⊥) faults
   pub all : (place : ℕ) (problem : LineProblem) → HasProblemAt lines place problem
       → Contains faults (record { place = place; problem = problem }) ⊎ IsAfterTooDeep lines place
   pub in_order : AllPairs (λ f g. f.place < g.place) faults

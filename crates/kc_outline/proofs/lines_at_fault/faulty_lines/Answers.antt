@@ -1,4 +1,4 @@
-use Rattle.std.proofs.Common.{◌≡◌, ℕ, true, Option, ◌<◌, ◌+◌, ◌==◌, ◌^◌, List, length, reverse, take, Some, sym, ap, ◌∙◌, subst, arith}
+use Rattle.std.proofs.Common.{◌≡◌, ℕ, true, false, Option, ◌<◌, ◌+◌, ◌==◌, ◌^◌, List, length, reverse, take, Some, sym, ap, ◌∙◌, subst, arith}
 use Rattle.std.proofs.lemmas.List.{length-reverse, length-take-le}
 use Rattle.std.proofs.lemmas.Option.{slice_get-get_or}
 use Rattle.std.specs.List.{slice_get}
@@ -10,7 +10,7 @@ use Rattle.kc_outline.specs.LineFaults.{opens_too_deep}
 use Rattle.kc_outline.specs.ContextAfter.{IsPlaceAfter}
 use Rattle.kc_outline.specs.Enclosing.{before, open_blocks}
 use Rattle.kc_outline.specs.Reader.{IsFound, faults_with}
-use Rattle.kc_outline.proofs.FaultyLaws.{AreFaultsBefore, all_line_faults, line_faults_before, next_faults, no_faults, refused_before, refused_for_first}
+use Rattle.kc_outline.proofs.FaultyLaws.{AreFaultsBefore, IsShallowBefore, no_lines, shallow_next, all_line_faults, line_faults_before, next_faults, no_faults, refused_before, refused_for_first}
 use Rattle.kc_outline.proofs.PassingLaws.{has_room_after, place_of}
 use Rattle.kc_outline.proofs.PlaceLaws.{before_more}
 use Rattle.kc_outline.proofs.lines_at_fault.faulty_lines.Goals as goal
@@ -28,6 +28,7 @@ loop-place-init c =
     record {
       context = place_of (names_of lines) (reverse (take 0 lines)) c.new-context.result (c.new-context.ensures (names_of lines));
       faults = subst (λ (fs : List FaultyLine). AreFaultsBefore lines 0 fs) (sym c.new-faults.ensures.items) (no_faults lines);
+      shallow = no_lines lines;
     }
 
 -- the lines before the place are fewer than those that are read
@@ -46,10 +47,13 @@ loop-place-preserved c =
     let line = c.index-lines-place.result in
     let known = c.loop-place.invariant in
     let is : slice_get lines i ≡ Some line = slice_get-get_or lines i line c.loop-place-test.true ∙ ap Some (sym c.index-lines-place.is) in
+    let flat : opens_too_deep (open_blocks (before lines i)) line ≡ false =
+    ap (λ bs. opens_too_deep bs line) (sym known.context.stack) ∙ sym c.opens_too_deep.ensures ∙ c.if-opens_too_deep.false in
     record {
       context = subst (λ ls. IsPlaceAfter ls c.pass_over.new.self) (sym (before_more lines i line is)) (c.in_ok-pass_over.ensures (before lines i) known.context);
       faults = faults_here lines i line is c.in_ok-names.names c.in_ok-names.ensures.names c.loop-place.faults.items c.add_found.new.faults.items c.in_ok-found.found known.faults
           (c.in_ok-found.ensures (before lines i) known.context.stack known.context.statement) c.in_ok-add_found.ensures;
+      shallow = shallow_next lines i line is c.loop-place.faults.items known.faults known.shallow flat;
     }
 
 pub returns-then-opens_too_deep-clause-faults : goal.returns-then-opens_too_deep-clause-faults
@@ -64,6 +68,7 @@ returns-then-opens_too_deep-clause-faults c =
     line_faults_before lines i line is deep c.add_found.new.faults.items
     (faults_here lines i line is c.in_ok-names.names c.in_ok-names.ensures.names c.loop-place.faults.items c.add_found.new.faults.items c.in_ok-found.found known.faults
     (c.in_ok-found.ensures (before lines i) known.context.stack known.context.statement) c.in_ok-add_found.ensures)
+    known.shallow
 
 pub returns-then-opens_too_deep-clause-first : goal.returns-then-opens_too_deep-clause-first
 returns-then-opens_too_deep-clause-first c =
@@ -84,6 +89,7 @@ returns-clause-faults c =
     let fs = c.loop-place.faults.items in
     let end : c.loop-place.place ≡ length lines = omega (arith, c.loop-place-test.false, c.loop-place.auto.place-end) in
     all_line_faults lines fs (subst (λ n. AreFaultsBefore lines n fs) end c.loop-place.invariant.faults)
+    (subst (λ n. IsShallowBefore lines n) end c.loop-place.invariant.shallow)
 
 pub returns-clause-first : goal.returns-clause-first
 returns-clause-first c =
