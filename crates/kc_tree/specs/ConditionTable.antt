@@ -1,5 +1,6 @@
 -- What each part of a tree depends on: kconfig-language.rst, "Menu dependencies" and "Menu structure". Each row is one of
--- docs/VALUES.md, "Conditions". What a condition is worth (kc_value) and which nodes it reads (Uses) both follow from it.
+-- docs/VALUES.md, "Conditions". What a condition is worth (kc_value) and which nodes it reads (Uses) both follow from its
+-- factors: of the nodes `Tree::uses` says so.
 use Rattle.std.specs.Prelude.{List, [], ◌∷◌, ◌++◌, Option, Some, None, map, flat_map, slice_get}
 use Rattle.kc_statement.specs.declared.expr.Expr.{Expr}
 use Rattle.kc_statement.specs.declared.attribute.Prompt.{Prompt}

@@ -1,8 +1,10 @@
-ghost use Rattle.std.specs.Prelude.{◌≡◌, ◌<◌, ◌≤◌, ◌^◌, IfSome, IfOk, IfErr, length, Contains, ◌↔◌};
+ghost use Rattle.std.specs.Prelude.{◌≡◌, ℕ, ◌<◌, ◌≤◌, ◌^◌, IfSome, IfOk, IfErr, length, flat_map, Contains, ◌↔◌};
 ghost use Rattle.kc_text.specs.declared.reading.TheConstants.{MOST_LINES};
+ghost use Rattle.kc_outline.specs.Blocks.{AreBlocksEnclosing, AreOpenAt};
 ghost use Rattle.kc_outline.specs.TreeValue.{choice_of, symbol_named, name_of, modules_symbol};
 ghost use Rattle.kc_tree.specs.Nodes.{all_nodes, node_at, node_count, number_of, AreNumbered, IsNodeOf};
-ghost use Rattle.kc_tree.specs.Uses.{Uses};
+ghost use Rattle.kc_tree.specs.Uses.{Uses, condition_nodes, factor_nodes};
+ghost use Rattle.kc_tree.specs.ConditionTable.{Condition, factors};
 ghost use Rattle.kc_tree.specs.Order.{IsOrder};
 ghost use Rattle.kc_tree.specs.Accepted.{IsAccepted};
 ghost use Rattle.kc_tree.specs.Cells.{IsCellOf, cell_at, cell_count, cell_number};
@@ -99,6 +101,8 @@ impl Tree {
         ensures tree { IfOk result (IsTreeOf lines.now) }
         ensures only { IfOk result (IsOnlyTree lines.now) }
         ensures accepted { IfOk result IsAccepted }
+        ensures open_blocks { (j : ℕ) → j ≤ length lines.now → AreOpenAt lines.now j }
+        ensures enclosing { IfOk result (AreBlocksEnclosing lines.now) }
         ensures fault { IfErr result (IsFaultOf lines.now) }
         ensures first { IfErr result (IsFirstFault lines.now) }
     {
@@ -117,6 +121,8 @@ impl Tree {
         ensures tree { IfOk result (IsTreeOf lines.now) }
         ensures only { IfOk result (IsOnlyTree lines.now) }
         ensures accepted { IfOk result IsAccepted }
+        ensures open_blocks { (j : ℕ) → j ≤ length lines.now → AreOpenAt lines.now j }
+        ensures enclosing { IfOk result (AreBlocksEnclosing lines.now) }
         ensures fault { IfErr result (IsFaultOf lines.now) }
         ensures first { IfErr result (IsFirstFault lines.now) }
     {
@@ -259,10 +265,11 @@ impl Tree {
         )
     }
 
-    /// The nodes that a node is computed from.
+    /// The nodes that a node is computed from. Of a condition these are the nodes that its factors read.
     pub fn uses(&self, node: Node) -> NodeRow<'_>
         requires { IsNodeOf self.now node }
         ensures exact { (m : Node) → Contains result m ↔ Uses self.now node m }
+        ensures factors { (c : Condition) → condition_nodes self.now c ≡ flat_map (factor_nodes self.now) (factors self.now c) }
         ensures accepted { IsAccepted self.now }
     {
         let symbols = self.outline.symbols().len();

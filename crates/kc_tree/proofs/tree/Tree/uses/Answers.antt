@@ -7,6 +7,7 @@ use Rattle.kc_tree.specs.Uses.{Uses}
 use Rattle.kc_tree.specs.CellRows.{AreChains}
 use Rattle.kc_tree.specs.WholeRows.{whole_row, whole_rows}
 use Rattle.kc_tree.proofs.CellTables.{chains, closed_rows, graph_of_rows}
+use Rattle.kc_tree.proofs.FactorLaws.{nodes_of_factors}
 use Rattle.kc_tree.proofs.NodeGraphLaws.{row_exact}
 use Rattle.kc_tree.proofs.NodeNumbers.{number_below}
 use Rattle.kc_tree.proofs.WholeRowLaws.{row-whole_rows}
@@ -43,3 +44,6 @@ returns-clause-exact c = λ m.
     ∙ ap (map (node_at o)) (sym (row-whole_rows (node_count o) g (chains o g known.uses nested) (number_of o node) (number_below o node inside))) in
     subst (λ t. Contains c.of.result m ↔ Uses t node m) c.self.view_is
     (subst (λ (ns : List Node). Contains ns m ↔ Uses o node m) (sym made) (row_exact o (whole_rows (node_count o) g) (used_within o) (graph_of_rows o g known.uses nested) node m inside))
+
+pub returns-clause-factors : goal.returns-clause-factors
+returns-clause-factors c = nodes_of_factors c.args.self.now
