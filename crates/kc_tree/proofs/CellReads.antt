@@ -260,47 +260,46 @@ module _ (t : TreeValue) where
     | inr none ↦ absurd (contains_nothing e none)
   ]
 
-  -- each condition among these has a number below one
-  abbrev AreLower : ℕ → List Cell → Type 0
-  AreLower k cs = (e : Cell) → IsCondition e → Contains cs e → cell_number t e < k
+  -- by a measure of cells, each condition among these is below a number
+  module _ (measure : Cell → ℕ) where
+    abbrev pub AreLower : ℕ → List Cell → Type 0
+    AreLower k cs = (e : Cell) → IsCondition e → Contains cs e → measure e < k
 
-  lower_after : (k : ℕ) (ns : List Node) (cs : List Cell) → AreLower k cs → AreLower k (nodes_in ns ++ cs)
-  lower_after k ns cs h e is c = elim (Contains-append_cases (nodes_in ns) cs e c) [
-    | inl n ↦ absurd (no_condition ns e is n)
-    | inr r ↦ h e is r
-  ]
+    pub lower_after : (k : ℕ) (ns : List Node) (cs : List Cell) → AreLower k cs → AreLower k (nodes_in ns ++ cs)
+    lower_after k ns cs h e is c = elim (Contains-append_cases (nodes_in ns) cs e c) [
+      | inl n ↦ absurd (no_condition ns e is n)
+      | inr r ↦ h e is r
+    ]
 
-  lower_option : {X : Type 0} (k : ℕ) (f : X → List Cell) (o : Option X) → ((x : X) → o ≡ Some x → AreLower k (f x)) → AreLower k (option_map_or f o [])
-  lower_option k f None h = λ e is c. absurd (contains_nothing e c)
-  lower_option k f (Some x) h = h x refl
+    pub lower_option : {X : Type 0} (k : ℕ) (f : X → List Cell) (o : Option X) → ((x : X) → o ≡ Some x → AreLower k (f x)) → AreLower k (option_map_or f o [])
+    lower_option k f None h = λ e is c. absurd (contains_nothing e c)
+    lower_option k f (Some x) h = h x refl
 
-  lower_depends : (k : ℕ) (o : Option BlockId) → ((b : BlockId) → o ≡ Some b → b.0 < length t.blocks → node_count t + b.0 < k) → AreLower k (depends_cells t o)
-  lower_depends k None h = λ e is c. absurd (contains_nothing e c)
-  lower_depends k (Some b) h = lower_option k (λ x. Depends b ∷ []) (slice_get t.blocks b.0) (λ x there e is c.
-      let small = h b refl (slice_get_within t.blocks b.0 x there) in
-      subst (λ (d : Cell). cell_number t d < k) (one_of (Depends b) e (Some x) c) small)
+    pub lower_depends : (k : ℕ) (o : Option BlockId) → ((b : BlockId) → o ≡ Some b → (x : BlockValue) → slice_get t.blocks b.0 ≡ Some x → measure (Depends b) < k) → AreLower k (depends_cells t o)
+    lower_depends k None h = λ e is c. absurd (contains_nothing e c)
+    lower_depends k (Some b) h = lower_option k (λ x. Depends b ∷ []) (slice_get t.blocks b.0) (λ x there e is c.
+        subst (λ (d : Cell). measure d < k) (one_of (Depends b) e (Some x) c) (h b refl x there))
 
-  lower_visible : (k : ℕ) (o : Option BlockId) → ((b : BlockId) → o ≡ Some b → b.0 < length t.blocks → node_count t + (length t.blocks + b.0) < k) → AreLower k (visible_cells t o)
-  lower_visible k None h = λ e is c. absurd (contains_nothing e c)
-  lower_visible k (Some b) h = lower_option k (λ x. Visible b ∷ []) (slice_get t.blocks b.0) (λ x there e is c.
-      let small = h b refl (slice_get_within t.blocks b.0 x there) in
-      subst (λ (d : Cell). cell_number t d < k) (one_of (Visible b) e (Some x) c) small)
+    pub lower_visible : (k : ℕ) (o : Option BlockId) → ((b : BlockId) → o ≡ Some b → (x : BlockValue) → slice_get t.blocks b.0 ≡ Some x → measure (Visible b) < k) → AreLower k (visible_cells t o)
+    lower_visible k None h = λ e is c. absurd (contains_nothing e c)
+    lower_visible k (Some b) h = lower_option k (λ x. Visible b ∷ []) (slice_get t.blocks b.0) (λ x there e is c.
+        subst (λ (d : Cell). measure d < k) (one_of (Visible b) e (Some x) c) (h b refl x there))
 
   module _ (nested : AreNested t) where
-    pub lower_condition : (c : Cell) → IsCondition c → AreLower (cell_number t c) (read_cells t c)
+    pub lower_condition : (c : Cell) → IsCondition c → AreLower (cell_number t) (cell_number t c) (read_cells t c)
     lower_condition (OfNode n) is = absurd is
     lower_condition (Definition d) is =
         let k = cell_number t (Definition d) in
-        lower_option k (λ x. nodes_in (conditions_nodes t x.depends) ++ depends_cells t x.block) (slice_get t.definitions d)
-        (λ x there. lower_after k (conditions_nodes t x.depends) (depends_cells t x.block) (lower_depends k x.block (λ b up inside. omega (arith, inside))))
+        lower_option (cell_number t) k (λ x. nodes_in (conditions_nodes t x.depends) ++ depends_cells t x.block) (slice_get t.definitions d)
+        (λ x there. lower_after (cell_number t) k (conditions_nodes t x.depends) (depends_cells t x.block) (lower_depends (cell_number t) k x.block (λ b up y within. let inside = slice_get_within t.blocks b.0 y within in omega (arith, inside))))
     lower_condition (Depends b) is =
         let k = cell_number t (Depends b) in
-        lower_option k (λ x. nodes_in (conditions_nodes t x.depends) ++ depends_cells t x.parent) (slice_get t.blocks b.0)
-        (λ x there. lower_after k (conditions_nodes t x.depends) (depends_cells t x.parent) (lower_depends k x.parent (λ p up inside. let down = nested.after b x p there up in omega (arith, down))))
+        lower_option (cell_number t) k (λ x. nodes_in (conditions_nodes t x.depends) ++ depends_cells t x.parent) (slice_get t.blocks b.0)
+        (λ x there. lower_after (cell_number t) k (conditions_nodes t x.depends) (depends_cells t x.parent) (lower_depends (cell_number t) k x.parent (λ p up y within. let down = nested.after b x p there up in omega (arith, down))))
     lower_condition (Visible b) is =
         let k = cell_number t (Visible b) in
-        lower_option k (λ x. nodes_in (conditions_nodes t x.visible) ++ visible_cells t x.parent) (slice_get t.blocks b.0)
-        (λ x there. lower_after k (conditions_nodes t x.visible) (visible_cells t x.parent) (lower_visible k x.parent (λ p up inside. let down = nested.after b x p there up in omega (arith, down))))
+        lower_option (cell_number t) k (λ x. nodes_in (conditions_nodes t x.visible) ++ visible_cells t x.parent) (slice_get t.blocks b.0)
+        (λ x there. lower_after (cell_number t) k (conditions_nodes t x.visible) (visible_cells t x.parent) (lower_visible (cell_number t) k x.parent (λ p up y within. let down = nested.after b x p there up in omega (arith, down))))
 
     -- ---- what a cell reads, itself and by conditions
     reads_from : (c : Cell) (m : Node) → ((e : Cell) → Contains (read_cells t c) e → IsCondition e → Contains (leads e) m → Reads t e m) → Contains (spread (read_cells t c)) m → Reads t c m

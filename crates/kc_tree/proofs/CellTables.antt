@@ -46,7 +46,7 @@ place_there (x ∷ xs) k c = at (place_there xs k) (eqb x k) refl
 
 module _ (t : TreeValue) (g : List (List ℕ)) (rows : AreRowsTo t (cell_count t) g) where
   -- ---- rows and what cells read
-  row_within : (p q : ℕ) → graph.Uses g p q → p < cell_count t
+  pub row_within : (p q : ℕ) → graph.Uses g p q → p < cell_count t
   row_within p q u = elim (cases_lt p (length g)) [
     | inl l ↦ let whole = rows.whole in omega (arith, l, whole)
     | inr h ↦ absurd (contains_nothing q (subst (λ ks. Contains ks q) (get_or_past g p [] h) u))
@@ -150,11 +150,11 @@ module _ (t : TreeValue) (g : List (List ℕ)) (rows : AreRowsTo t (cell_count t
     }
 
     -- ---- what rows hold is what cells read, through conditions
-    holds_reads : (p q : ℕ) → Holds (node_count t) g p q → Reads t (cell_at t p) (node_at t q)
+    pub holds_reads : (p q : ℕ) → Holds (node_count t) g p q → Reads t (cell_at t p) (node_at t q)
     holds_reads p q (held_itself below u) = read_itself (subst (λ d. Contains (read_cells t (cell_at t p)) d) (at_node t q below) (read_of p q u).0)
     holds_reads p q (held_through {s = s} above u rest) = read_through (condition_at t s above) (read_of p s u).0 (holds_reads s q rest)
 
-    reads_holds : (c : Cell) (m : Node) → IsCellOf t c → Reads t c m → Holds (node_count t) g (cell_number t c) (number_of t m)
+    pub reads_holds : (c : Cell) (m : Node) → IsCellOf t c → Reads t c m → Holds (node_count t) g (cell_number t c) (number_of t m)
     reads_holds c m inside (read_itself listed) = held_itself (number_below t m (read_within t c (OfNode m) inside listed)) (use_of c (OfNode m) inside listed)
     reads_holds c m inside (read_through {e = e} is listed rest) =
         held_through (condition_above t e is) (use_of c e inside listed) (reads_holds e m (read_within t c e inside listed) rest)

@@ -11,6 +11,7 @@ pub mod FilterPlaces
 pub mod FactorLaws
 pub mod FlatLaws
 pub mod GroupLaws
+pub mod LevelLaws
 pub mod LinkLaws
 pub mod NodeGraphLaws
 pub mod NodeNumbers

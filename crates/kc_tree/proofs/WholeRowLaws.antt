@@ -20,10 +20,10 @@ from_filter p xs x c =
 
 module _ (n : ℕ) (g : List (List ℕ)) where
   -- ---- one step
-  trail_node : (fuel k : ℕ) → k < n → trail (suc fuel) n g k ≡ k ∷ []
+  pub trail_node : (fuel k : ℕ) → k < n → trail (suc fuel) n g k ≡ k ∷ []
   trail_node fuel k h = ap (λ b. k ∷ cond b [] (flat_map (trail fuel n g) (row g k))) (lt-ltb k n h)
 
-  trail_condition : (fuel k : ℕ) → n ≤ k → trail (suc fuel) n g k ≡ k ∷ flat_map (trail fuel n g) (row g k)
+  pub trail_condition : (fuel k : ℕ) → n ≤ k → trail (suc fuel) n g k ≡ k ∷ flat_map (trail fuel n g) (row g k)
   trail_condition fuel k h = ap (λ b. k ∷ cond b [] (flat_map (trail fuel n g) (row g k))) (le-ltb k n h)
 
   module _ (chains : AreChains n g) where

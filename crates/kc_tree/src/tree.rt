@@ -277,13 +277,15 @@ impl Tree {
         NodeRow::of(symbols, self.node_count(), &self.uses, row)
     }
 
-    /// The nodes that are computed from a node, which are found by one pass over all nodes.
+    /// The nodes that are computed from a node. One may come more than once.
     pub fn used_by(&self, node: Node) -> NodeUsers<'_>
         requires { IsNodeOf self.now node }
         ensures exact { (m : Node) → Contains result m ↔ Uses self.now m node }
         ensures accepted { IsAccepted self.now }
     {
-        NodeUsers::of(self, node)
+        let symbols = self.outline.symbols().len();
+        let row = self.used_by.row(node.number_in(symbols));
+        NodeUsers::of(symbols, self.node_count(), &self.used_by, row)
     }
 
     /// How many cells there are: the nodes, and the conditions that many of them read.
