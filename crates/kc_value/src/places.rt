@@ -4,14 +4,15 @@ ghost use Rattle.std.specs.Prelude.{◌≡◌, Some, option_map, find};
 ghost use Rattle.std.specs.List.{position_or_len};
 ghost use Rattle.kc_outline.specs.TreeValue.{kind_of};
 ghost use Rattle.kc_value.specs.Conditions.{dependency};
-ghost use Rattle.kc_value.specs.Defaults.{is_active};
 ghost use Rattle.kc_value.specs.Known.{given};
-ghost use Rattle.kc_value.specs.Reasons.{default_in, active_default, range_at, range_of, range_in, active_range_of, active_range, type_of, IsSmallRange};
+ghost use Rattle.kc_value.specs.Reasons.{default_in, active_default, range_at, range_in, active_range_of, active_range, type_of, IsSmallRange};
+ghost use Rattle.kc_value.specs.TextRule.{is_range_active};
 
 use crate::conditions::dependency_tri;
 use crate::known::Known;
-use crate::symbol_value::is_active;
+use crate::symbol_value::first_active_default;
 use crate::text_value::{bounds_in, is_range_active};
+use itertools::Itertools;
 use kc_tree::{Definition, Range, SymId, Symbol, SymbolType, Tri};
 
 /// Where a default of a symbol is: the number of its definition in the tree, and its place among the defaults there.
@@ -36,27 +37,13 @@ pub struct ActiveRange {
     pub high: i128,
 }
 
-/// The place of the first default of a definition whose condition is not n.
-fn first_default(known: &Known<'_>, definition: &Definition, depends: Tri) -> Option<usize>
-    requires { depends ≡ dependency known.now.tree (given known.now) definition.now }
-    ensures { let p = is_active known.now.tree (given known.now) definition.now in
-        result ≡ option_map (λ v. position_or_len p definition.now.defaults) (find p definition.now.defaults) }
-{
-    for (place, default) in definition.defaults().iter().enumerate() {
-        if is_active(known, default, depends) {
-            return Some(place);
-        }
-    }
-    None
-}
-
 /// The first active default of a definition by number.
 fn numbered_default(known: &Known<'_>, number: usize) -> Option<DefaultPlace>
     ensures { result ≡ option_map (λ f. f.place) (default_in known.now.tree (given known.now) number) }
 {
     let definition = known.definition(number)?;
     let depends = dependency_tri(known, number);
-    let default = first_default(known, definition, depends)?;
+    let (default, _) = first_active_default(known, definition, depends)?;
     Some(DefaultPlace {
         definition: number,
         default,
@@ -76,6 +63,25 @@ pub(crate) fn default_place(known: &Known<'_>, symbol: &Symbol) -> Option<Defaul
     None
 }
 
+/// The first range of a definition whose condition is not n, with its place.
+fn first_active_range<'a>(
+    known: &Known<'_>,
+    definition: &'a Definition,
+    depends: Tri,
+) -> Option<(usize, &'a Range)>
+    requires { depends ≡ dependency known.now.tree (given known.now) definition.now }
+    ensures range { option_map (λ q. q.1.now) result
+        ≡ find (is_range_active known.now.tree (given known.now) definition.now) definition.now.ranges }
+    ensures place { let p = is_range_active known.now.tree (given known.now) definition.now in
+        option_map (λ q. q.0) result
+        ≡ option_map (λ r. position_or_len p definition.now.ranges) (find p definition.now.ranges) }
+{
+    definition
+        .ranges()
+        .iter()
+        .find_position(|range| is_range_active(known, range, depends))
+}
+
 /// A range of a definition, by the type of its symbol.
 fn range_at(known: &Known<'_>, kind: SymbolType, place: RangePlace, range: &Range) -> ActiveRange
     ensures range { result
@@ -90,30 +96,6 @@ fn range_at(known: &Known<'_>, kind: SymbolType, place: RangePlace, range: &Rang
     }
 }
 
-/// The first range of a definition, which has this number, whose condition is not n.
-fn first_range(
-    known: &Known<'_>,
-    kind: SymbolType,
-    number: usize,
-    definition: &Definition,
-    depends: Tri,
-) -> Option<ActiveRange>
-    requires { depends ≡ dependency known.now.tree (given known.now) definition.now }
-    ensures range { result ≡ range_of known.now.tree (given known.now) kind number definition.now }
-    ensures small { IsSmallRange kind result }
-{
-    for (place, range) in definition.ranges().iter().enumerate() {
-        if is_range_active(known, range, depends) {
-            let place = RangePlace {
-                definition: number,
-                range: place,
-            };
-            return Some(range_at(known, kind, place, range));
-        }
-    }
-    None
-}
-
 /// The first active range of a definition by number.
 fn numbered_range(known: &Known<'_>, kind: SymbolType, number: usize) -> Option<ActiveRange>
     ensures range { result ≡ range_in known.now.tree (given known.now) kind number }
@@ -121,7 +103,12 @@ fn numbered_range(known: &Known<'_>, kind: SymbolType, number: usize) -> Option<
 {
     let definition = known.definition(number)?;
     let depends = dependency_tri(known, number);
-    first_range(known, kind, number, definition, depends)
+    let (place, range) = first_active_range(known, definition, depends)?;
+    let place = RangePlace {
+        definition: number,
+        range: place,
+    };
+    Some(range_at(known, kind, place, range))
 }
 
 /// The first active range of a symbol, if it is an int or a hex.

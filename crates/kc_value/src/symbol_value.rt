@@ -1,6 +1,7 @@
 //! The visibility and the value of a symbol.
 
-ghost use Rattle.std.specs.Prelude.{◌≡◌, IfOk, not, slice_get, option_and_then, find, filter_map, unwrap_or};
+ghost use Rattle.std.specs.Prelude.{◌≡◌, IfOk, not, slice_get, option_and_then, option_map, find, filter_map, unwrap_or};
+ghost use Rattle.std.specs.List.{position_or_len};
 ghost use Rattle.std.specs.Option.{option_copied, option_map_or, option_or};
 ghost use Rattle.kc_statement.specs.declared.tri.Tri.TheVariants.{No};
 ghost use Rattle.kc_statement.specs.Tristate.{least, greatest, is_no};
@@ -73,28 +74,30 @@ fn default_condition_tri(known: &Known<'_>, default: &DefaultValue, depends: Tri
 }
 
 /// Whether the condition of a default is not n.
-pub(crate) fn is_active(known: &Known<'_>, default: &DefaultValue, depends: Tri) -> bool
+fn is_active(known: &Known<'_>, default: &DefaultValue, depends: Tri) -> bool
     ensures { result
         ≡ not (is_no (least (own_condition known.now.tree (given known.now) default.now.condition) depends)) }
 {
     !default_condition_tri(known, default, depends).is_no()
 }
 
-/// The first default of a definition whose condition is not n.
+/// The first default of a definition whose condition is not n, with its place.
 pub(crate) fn first_active_default<'a>(
     known: &Known<'_>,
     definition: &'a Definition,
     depends: Tri,
-) -> Option<&'a DefaultValue>
+) -> Option<(usize, &'a DefaultValue)>
     requires { depends ≡ dependency known.now.tree (given known.now) definition.now }
-    ensures { option_copied result
+    ensures default { option_map (λ q. q.1.now) result
         ≡ find (is_active known.now.tree (given known.now) definition.now) definition.now.defaults }
+    ensures place { let p = is_active known.now.tree (given known.now) definition.now in
+        option_map (λ q. q.0) result
+        ≡ option_map (λ v. position_or_len p definition.now.defaults) (find p definition.now.defaults) }
 {
-    let (_, default) = definition
+    definition
         .defaults()
         .iter()
-        .find_position(|default| is_active(known, default, depends))?;
-    Some(default)
+        .find_position(|default| is_active(known, default, depends))
 }
 
 /// The least of the first active default of a definition and its condition.
@@ -105,7 +108,7 @@ fn definition_default_tri(known: &Known<'_>, definition: &Definition, depends: T
     if depends.is_no() {
         return None;
     }
-    let default = first_active_default(known, definition, depends)?;
+    let (_, default) = first_active_default(known, definition, depends)?;
     let condition = default_condition_tri(known, default, depends);
     Some(tri(known, &default.value).and(condition))
 }

@@ -37,7 +37,7 @@ fn numbered_text<'a>(known: &Known<'a>, number: usize) -> Option<LentText<'a>>
 {
     let definition = known.definition(number)?;
     let depends = dependency_tri(known, number);
-    let default = first_active_default(known, definition, depends)?;
+    let (_, default) = first_active_default(known, definition, depends)?;
     Some(value_text(known, &default.value))
 }
 

@@ -1,26 +1,23 @@
-use Rattle.std.proofs.Common.{ℕ, Bool, sym, ap, ◌∙◌, rules, Bor}
-use Rattle.std.specs.Option.{option_map}
+use Rattle.std.proofs.Common.{Bool, rules}
 use Rattle.std.proofs.lemmas.Iterator.{YieldsList-from_slice}
 use Rattle.kc_statement.specs.declared.attribute.DefaultValue.{DefaultValue}
 use Rattle.kc_value.specs.Known.{given}
 use Rattle.kc_value.specs.Defaults.{is_active}
-use Rattle.kc_value.proofs.FirstLemmas.{first_from_run}
+use Rattle.kc_value.proofs.FirstLemmas.{first_from_run, place_from_run}
 use Rattle.kc_value.proofs.symbol_value.first_active_default.Goals as goal
 
-pub returns-in_err-default : goal.returns-in_err-default
-returns-in_err-default c =
+pub returns-clause-default : goal.returns-clause-default
+returns-clause-default c =
     let r = c.find_position.ensures.runs in
     let slice = YieldsList-from_slice {s = c.iter.result} c.args.definition.now.defaults (search rules) in
     let active : DefaultValue → Bool = is_active c.args.known.now.tree (given c.args.known.now) c.args.definition.now in
     let b = r.2 (λ d. active d.now) (search rules) in
-    let first = first_from_run active slice r.0 r.1 c.find_position.result b.0 b.1 in
-    search (rules, first)
+    first_from_run active slice r.0 r.1 c.find_position.result b.0 b.1
 
-pub returns : goal.returns
-returns c =
+pub returns-clause-place : goal.returns-clause-place
+returns-clause-place c =
     let r = c.find_position.ensures.runs in
     let slice = YieldsList-from_slice {s = c.iter.result} c.args.definition.now.defaults (search rules) in
     let active : DefaultValue → Bool = is_active c.args.known.now.tree (given c.args.known.now) c.args.definition.now in
     let b = r.2 (λ d. active d.now) (search rules) in
-    let first = first_from_run active slice r.0 r.1 c.find_position.result b.0 b.1 in
-    ap (λ o. option_map (λ (q : ℕ × Bor DefaultValue). q.1.now) o) (sym c.in_ok-default.was) ∙ first
+    place_from_run active slice r.0 r.1 c.find_position.result b.0 b.1
