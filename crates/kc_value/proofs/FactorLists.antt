@@ -1,22 +1,17 @@
 -- Lists of factors with their values.
 use Rattle.std.proofs.Common.{◌≡◌, List, [], ◌∷◌, ◌++◌, map, Option, Some, None, refl, sym, ap, ◌∙◌}
-use Rattle.std.specs.Prelude.{option_and_then, option_map, slice_get}
 use Rattle.std.specs.List.{flat_map}
 use Rattle.std.proofs.lemmas.List.{append_assoc, map-append}
-use Rattle.kc_statement.specs.declared.attribute.DefaultValue.{DefaultValue}
-use Rattle.kc_statement.specs.declared.attribute.Range.{Range}
 use Rattle.kc_statement.specs.declared.expr.Expr.{Expr}
 use Rattle.kc_statement.specs.Tristate.{least_of}
-use Rattle.kc_outline.specs.TreeValue.{TreeValue, BlockValue, DefinitionValue}
-use Rattle.kc_tree.specs.ConditionTable.{Condition, own_lines, of_property, also, Factor as Part, expression, factors}
+use Rattle.kc_outline.specs.TreeValue.{TreeValue, BlockValue}
+use Rattle.kc_tree.specs.ConditionTable.{Condition, own_lines, also, Factor as Part, expression, factors}
 use Rattle.kc_value.specs.declared.factors.BlockLines.{BlockLines}
 use Rattle.kc_value.specs.declared.factors.BlockLines.TheVariants.{Depends, Visible}
 use Rattle.kc_value.specs.declared.factors.Factor.{Factor}
-use Rattle.kc_value.specs.declared.places.DefaultPlace.{DefaultPlace}
-use Rattle.kc_value.specs.declared.places.RangePlace.{RangePlace}
 use Rattle.kc_value.specs.Assignment.{Assignment}
 use Rattle.kc_value.specs.Conditions.{condition_value, factor_value}
-use Rattle.kc_value.specs.Factors.{Judged, judged, judged_part, judged_expression, judged_factors, judged_of, lines_of, of_blocks, worth_of, default_condition_at, range_condition_at}
+use Rattle.kc_value.specs.Factors.{Judged, judged, judged_part, judged_expression, judged_factors, judged_of, lines_of, of_blocks, worth_of}
 use Rattle.kc_value.proofs.FactorLaws.{value_of_factors}
 
 module _ (t : TreeValue) (a : Assignment) where
@@ -52,23 +47,6 @@ module _ (t : TreeValue) (a : Assignment) where
   pub least_judged_of : (o : Option Condition) (fs : List Factor) → map judged fs ≡ judged_of t a o → least_of (map (λ f. f.value) fs) ≡ worth_of t a o
   least_judged_of None fs h = ap least_of (values_judged fs ∙ ap (map (λ (j : Judged). j.value)) h)
   least_judged_of (Some c) fs h = least_judged c fs h
-
-  -- and so it is of the condition of a default or a range that was found, whose factors were added to none
-  pub least_default : (p : DefaultPlace) (d : DefinitionValue) (v : DefaultValue) (o : Option Expr) (old new : List Factor)
-      → slice_get t.definitions p.definition ≡ Some d → slice_get d.defaults p.default ≡ Some v → o ≡ v.condition
-      → map judged new ≡ map judged old ++ judged_factors t a (of_property t d o) → old ≡ [] → least_of (map (λ f. f.value) new) ≡ worth_of t a (default_condition_at t p)
-  least_default p d v o old new found has same added none =
-      least_judged (of_property t d o) new (added ∙ ap (λ (fs : List Factor). map judged fs ++ judged_factors t a (of_property t d o)) none)
-      ∙ ap (λ c. condition_value t a (of_property t d c)) same
-      ∙ sym (ap (λ x. worth_of t a (option_and_then (λ e. option_map (λ w. of_property t e w.condition) (slice_get e.defaults p.default)) x)) found ∙ ap (λ x. worth_of t a (option_map (λ (w : DefaultValue). of_property t d w.condition) x)) has)
-
-  pub least_range : (p : RangePlace) (d : DefinitionValue) (v : Range) (o : Option Expr) (old new : List Factor)
-      → slice_get t.definitions p.definition ≡ Some d → slice_get d.ranges p.range ≡ Some v → o ≡ v.condition
-      → map judged new ≡ map judged old ++ judged_factors t a (of_property t d o) → old ≡ [] → least_of (map (λ f. f.value) new) ≡ worth_of t a (range_condition_at t p)
-  least_range p d v o old new found has same added none =
-      least_judged (of_property t d o) new (added ∙ ap (λ (fs : List Factor). map judged fs ++ judged_factors t a (of_property t d o)) none)
-      ∙ ap (λ c. condition_value t a (of_property t d c)) same
-      ∙ sym (ap (λ x. worth_of t a (option_and_then (λ e. option_map (λ w. of_property t e w.condition) (slice_get e.ranges p.range)) x)) found ∙ ap (λ x. worth_of t a (option_map (λ (w : Range). of_property t d w.condition) x)) has)
 
   -- one condition after another
   pub joined : (c d : Condition) (js : List Judged) → (js ++ judged_factors t a c) ++ judged_factors t a d ≡ js ++ judged_factors t a (also c d)

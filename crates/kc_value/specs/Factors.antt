@@ -9,7 +9,7 @@ use Rattle.kc_outline.specs.declared.id.BlockId.{BlockId}
 use Rattle.kc_outline.specs.declared.id.ChoiceId.{ChoiceId}
 use Rattle.kc_outline.specs.declared.id.CommentId.{CommentId}
 use Rattle.kc_outline.specs.TreeValue.{TreeValue, BlockValue, choice_of, prompt_of, choice_prompt_of}
-use Rattle.kc_tree.specs.ConditionTable.{Condition, depends_around, visible_around, mode_of, also, of_prompt, of_property, of_menu, of_comment, of_choice_prompt, Factor as Part, expression, mode, missing, factors}
+use Rattle.kc_tree.specs.ConditionTable.{Condition, depends_around, visible_around, mode_of, also, of_prompt, of_menu, of_comment, of_choice_prompt, Factor as Part, expression, mode, missing, factors}
 use Rattle.kc_value.specs.declared.factors.BlockLines.{BlockLines}
 use Rattle.kc_value.specs.declared.factors.BlockLines.TheVariants.{Depends, Visible}
 use Rattle.kc_value.specs.declared.factors.Factor.{Factor}
@@ -19,8 +19,6 @@ use Rattle.kc_value.specs.declared.factors.Lines.{Lines}
 use Rattle.kc_value.specs.declared.factors.Lines.TheVariants as lines
 use Rattle.kc_value.specs.declared.factors.Origin.{Origin}
 use Rattle.kc_value.specs.declared.factors.Origin.TheVariants as origin
-use Rattle.kc_value.specs.declared.places.DefaultPlace.{DefaultPlace}
-use Rattle.kc_value.specs.declared.places.RangePlace.{RangePlace}
 use Rattle.kc_value.specs.Assignment.{Assignment}
 use Rattle.kc_value.specs.Conditions.{condition_value, factor_value}
 
@@ -76,14 +74,6 @@ worth_of t a o = option_map_or (condition_value t a) o Yes
 abbrev pub prompt_condition : TreeValue → ℕ → Option Condition
 prompt_condition t n = option_and_then
     (λ d. option_map (λ p. also (of_prompt t d p) (mode_of (choice_of t d.symbol))) (prompt_of d)) (slice_get t.definitions n)
-
-abbrev pub default_condition_at : TreeValue → DefaultPlace → Option Condition
-default_condition_at t p = option_and_then
-    (λ d. option_map (λ v. of_property t d v.condition) (slice_get d.defaults p.default)) (slice_get t.definitions p.definition)
-
-abbrev pub range_condition_at : TreeValue → RangePlace → Option Condition
-range_condition_at t p = option_and_then
-    (λ d. option_map (λ r. of_property t d r.condition) (slice_get d.ranges p.range)) (slice_get t.definitions p.definition)
 
 abbrev pub menu_condition_at : TreeValue → BlockId → Option Condition
 menu_condition_at t b = option_map (of_menu t) (slice_get t.blocks b.0)

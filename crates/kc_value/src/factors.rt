@@ -5,15 +5,14 @@ ghost use Rattle.std.specs.Option.{option_copied};
 ghost use Rattle.kc_statement.specs.declared.expr.Expr.{Expr};
 ghost use Rattle.kc_statement.specs.Tristate.{least_of};
 ghost use Rattle.kc_outline.specs.TreeValue.{blocks_around, choice_of};
-ghost use Rattle.kc_tree.specs.ConditionTable.{also, own_if, own_lines, mode_of, dependencies_in, dependencies, of_prompt, of_property, of_reverse, of_menu, of_comment, of_choice_prompt};
+ghost use Rattle.kc_tree.specs.ConditionTable.{also, own_if, own_lines, mode_of, dependencies_in, dependencies, of_prompt, of_reverse, of_menu, of_comment, of_choice_prompt};
 ghost use Rattle.kc_value.specs.Conditions.{condition_value};
 ghost use Rattle.kc_value.specs.Known.{given};
-ghost use Rattle.kc_value.specs.Factors.{judged, judged_factors, judged_of, judged_expression, worth_of, lines_of, of_blocks, origin_in, prompt_condition, default_condition_at, range_condition_at, menu_condition_at, comment_condition_at, choice_condition_at};
+ghost use Rattle.kc_value.specs.Factors.{judged, judged_factors, judged_of, judged_expression, worth_of, lines_of, of_blocks, origin_in, prompt_condition, menu_condition_at, comment_condition_at, choice_condition_at};
 
 use crate::conditions::{block_at, mode_tri};
 use crate::expr_value::tri;
 use crate::known::Known;
-use crate::places::{DefaultPlace, RangePlace};
 use kc_outline::MOST_OPEN_BLOCKS;
 use kc_tree::{
     Block, BlockId, Choice, ChoiceId, Comment, CommentId, Definition, Expr, Prompt, Reverse, Tri,
@@ -222,21 +221,6 @@ fn add_numbered<'t>(
     }
 }
 
-/// Adds the condition of a default or a range of a definition: its `if`, and the dependencies. The error comes where
-/// memory is refused.
-fn add_property<'t>(
-    known: &Known<'t>,
-    factors: &mut Vec<Factor<'t>>,
-    definition: &'t Definition,
-    condition: Option<&'t Expr>,
-) -> Result<(), AllocError>
-    ensures { OnOk result (map judged factors.new.items ≡ map judged factors.old.items
-        ++ judged_factors known.now.tree (given known.now) (of_property known.now.tree definition.now (option_copied condition.entry))) }
-{
-    add_condition(known, factors, condition)?;
-    add_dependencies(known, factors, definition)
-}
-
 /// Adds the condition of the prompt of a definition. The error comes where memory is refused.
 fn add_prompt<'t>(
     known: &Known<'t>,
@@ -361,58 +345,6 @@ pub fn prompt_factors<'t>(
         return Ok(factors);
     };
     add_whole_prompt(known, &mut factors, definition, prompt)?;
-    Ok(factors)
-}
-
-/// Each factor of the condition of a default; none where there is no such default.
-///
-/// # Errors
-///
-/// The error comes where memory is refused.
-pub fn default_factors<'t>(
-    alloc: Global,
-    known: &Known<'t>,
-    place: DefaultPlace,
-) -> Result<Vec<Factor<'t>>, AllocError>
-    ensures factors { IfOk result (λ v. map judged v.items
-        ≡ judged_of known.now.tree (given known.now) (default_condition_at known.now.tree place)) }
-    ensures value { IfOk result (λ v. least_of (map (λ f. f.value) v.items)
-        ≡ worth_of known.now.tree (given known.now) (default_condition_at known.now.tree place)) }
-{
-    let mut factors = Vec::new(alloc);
-    let Some(definition) = known.definition(place.definition) else {
-        return Ok(factors);
-    };
-    let Some(default) = definition.defaults().get(place.default) else {
-        return Ok(factors);
-    };
-    add_property(known, &mut factors, definition, default.condition.as_ref())?;
-    Ok(factors)
-}
-
-/// Each factor of the condition of a range; none where there is no such range.
-///
-/// # Errors
-///
-/// The error comes where memory is refused.
-pub fn range_factors<'t>(
-    alloc: Global,
-    known: &Known<'t>,
-    place: RangePlace,
-) -> Result<Vec<Factor<'t>>, AllocError>
-    ensures factors { IfOk result (λ v. map judged v.items
-        ≡ judged_of known.now.tree (given known.now) (range_condition_at known.now.tree place)) }
-    ensures value { IfOk result (λ v. least_of (map (λ f. f.value) v.items)
-        ≡ worth_of known.now.tree (given known.now) (range_condition_at known.now.tree place)) }
-{
-    let mut factors = Vec::new(alloc);
-    let Some(definition) = known.definition(place.definition) else {
-        return Ok(factors);
-    };
-    let Some(range) = definition.ranges().get(place.range) else {
-        return Ok(factors);
-    };
-    add_property(known, &mut factors, definition, range.condition.as_ref())?;
     Ok(factors)
 }
 

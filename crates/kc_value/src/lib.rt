@@ -44,8 +44,8 @@ pub use conditions::{comment_condition, menu_condition};
 pub use evaluation::eval;
 pub use expr_value::tri;
 pub use factors::{
-    Factor, FactorPart, Origin, choice_factors, comment_factors, default_factors,
-    dependency_factors, menu_factors, prompt_factors, range_factors, reverse_factors,
+    Factor, FactorPart, Origin, choice_factors, comment_factors, dependency_factors, menu_factors,
+    prompt_factors, reverse_factors,
 };
 pub use fresh::{Fresh, solve};
 pub use kept_values::{KeptValues, Meter};
