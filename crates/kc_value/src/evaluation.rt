@@ -1,10 +1,12 @@
-ghost use Rattle.std.specs.Prelude.{◌≡◌, false, IfOk, None, if◌then◌else◌, is_ok};
+ghost use Rattle.std.specs.Prelude.{◌≡◌, false, IfOk, None, if◌then◌else◌, is_ok, map};
 ghost use Rattle.std.specs.Option.{option_copied};
-ghost use Rattle.kc_statement.specs.Tristate.{is_no};
+ghost use Rattle.kc_statement.specs.Tristate.{is_no, least_of};
+ghost use Rattle.kc_tree.specs.ConditionTable.{Condition, factors};
 ghost use Rattle.kc_tree.specs.declared.node.Node.{Node};
 ghost use Rattle.kc_tree.specs.declared.node.Node.TheVariants.{Vis, Val, Mode, Sel};
 ghost use Rattle.kc_tree.specs.Uses.{Uses};
 ghost use Rattle.kc_value.specs.Assignment.{Assignment};
+ghost use Rattle.kc_value.specs.Conditions.{condition_value, factor_value};
 ghost use Rattle.kc_value.specs.Counting.{raised};
 ghost use Rattle.kc_value.specs.Dirty.{is_changed};
 ghost use Rattle.kc_value.specs.Known.{given};
@@ -104,10 +106,11 @@ pub(crate) fn apply_rule(
 /// attributes") over the values of the nodes that it uses. A node without a value counts as n.
 ///
 /// A rule looks only at the nodes that its node uses: where two assignments give these the same values, it gives the node
-/// the same. And it looks only at the user values that change its node: for others it gives the same.
+/// the same. And it looks only at the user values that change its node: for others it gives the same. What a condition
+/// is worth in it is the least of what its factors are worth, and these are in the table by which a node uses others.
 ///
 /// The error comes where memory is refused for a text; the meter stays then.
-#[tactic(auto, using(crate::proofs::Agreement::rule_agrees, crate::proofs::Agreement::rule_user))]
+#[tactic(auto, using(crate::proofs::Agreement::rule_agrees, crate::proofs::Agreement::rule_user, crate::proofs::FactorLaws::value_of_factors))]
 pub fn eval(
     alloc: Global,
     known: &Known<'_>,
@@ -121,6 +124,8 @@ pub fn eval(
         → rule known.now.tree user.now a node ≡ rule known.now.tree user.now b node }
     ensures user_enters { (w : UserValues) (a : Assignment) → is_changed known.now.tree user.now w node ≡ false
         → rule known.now.tree user.now a node ≡ rule known.now.tree w a node }
+    ensures conditions { (a : Assignment) (c : Condition) → condition_value known.now.tree a c
+        ≡ least_of (map (factor_value known.now.tree a) (factors known.now.tree c)) }
 {
     let value = apply_rule(alloc, known, user, node)?;
     meter.raise();
