@@ -1,6 +1,6 @@
 //! How many lines of fragments came to what.
 
-ghost use Rattle.std.specs.Prelude.{◌≡◌, ◌+◌, count_by, length};
+ghost use Rattle.std.specs.Prelude.{◌≡◌, ◌+◌, ◌||◌, count_by, length, nat_lt};
 ghost use Rattle.kc_check.specs.Outcomes.{is_got, is_other, is_unusable, is_replaced};
 
 use crate::outcomes::Outcome;
@@ -44,7 +44,9 @@ impl MergeCounts {
     }
 
     /// Whether a line of a fragment can't be used, or has no effect.
-    pub fn has_unmet(&self) -> bool {
+    pub fn has_unmet(&self) -> bool
+        ensures { result ≡ (nat_lt 0 self.now.other || nat_lt 0 self.now.unusable) }
+    {
         self.other > 0 || self.unusable > 0
     }
 

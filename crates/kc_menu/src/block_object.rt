@@ -2,9 +2,11 @@
 
 ghost use Rattle.std.specs.Prelude.{◌≡◌, IfOk, option_map};
 ghost use Rattle.std.specs.String.{string_bytes};
+ghost use Rattle.kc_outline.specs.TreeValue.{name_of};
 ghost use Rattle.kc_statement.specs.Tristate.{letter};
 ghost use Rattle.kc_value.specs.Assignment.{assignment_of};
 ghost use Rattle.kc_value.specs.Conditions.{comment_condition, menu_condition};
+ghost use Rattle.kc_value.specs.UserValues.{chosen_in};
 ghost use Rattle.kc_menu.specs.Objects.{choice_help};
 
 use crate::conditions_as_text::{FactorsOf, factors_text, least_value};
@@ -152,6 +154,8 @@ pub(crate) fn choice_object<'m>(
 ) -> Result<ChoiceObject<'m>, AllocError>
     ensures id { IfOk result (λ o. o.id ≡ row.id) }
     ensures parent { IfOk result (λ o. o.parent ≡ row.parent) }
+    ensures user { IfOk result (λ o. option_map (λ p. p.now) o.user
+        ≡ option_map (name_of inputs.now.view.tree) (chosen_in inputs.now.view.user id)) }
     ensures help { IfOk result (λ o. option_map string_bytes o.help ≡ choice_help inputs.now.help inputs.now.lines id) }
 {
     let (view, places) = (inputs.view(), inputs.places());
@@ -221,7 +225,9 @@ fn member_names<'t>(
 }
 
 /// The name of a symbol, if there is one.
-fn name_of(tree: &Tree, symbol: Option<SymId>) -> Option<&str> {
+fn name_of(tree: &Tree, symbol: Option<SymId>) -> Option<&str>
+    ensures { option_map (λ p. p.now) result ≡ option_map (name_of tree.now) symbol }
+{
     Some(tree.name(symbol?))
 }
 

@@ -1,6 +1,7 @@
 -- This project's own: why a file gave no bytes.
+use Rattle.std.specs.Prelude.{ℕ, List, codes}
 use Rattle.std.specs.declared.io.ErrorKind.{ErrorKind}
-use Rattle.std.specs.declared.io.ErrorKind.TheVariants.{OutOfMemory}
+use Rattle.std.specs.declared.io.ErrorKind.TheVariants.{NotFound, OutOfMemory, PermissionDenied}
 use Rattle.kc_program.specs.declared.folder.FolderFault.{FolderFault}
 use Rattle.kc_program.specs.declared.folder.FolderFault.TheVariants.{CannotRead, NoMemory}
 
@@ -8,3 +9,9 @@ use Rattle.kc_program.specs.declared.folder.FolderFault.TheVariants.{CannotRead,
 abbrev pub folder_fault : ErrorKind → FolderFault
 folder_fault OutOfMemory = NoMemory
 folder_fault _ = CannotRead
+
+-- what is said of a file that can't be opened, by what the system answers
+abbrev pub reason_of : ErrorKind → List ℕ
+reason_of NotFound = codes "no such file"
+reason_of PermissionDenied = codes "permission denied"
+reason_of _ = codes "the system can't open it"

@@ -1,5 +1,7 @@
 //! Where the bytes of files come from.
+ghost use Rattle.std.specs.Prelude.{◌≡◌};
 ghost use Rattle.kc_program.specs.Cuts.{IsCut};
+ghost use Rattle.kc_program.specs.FolderFaults.{reason_of};
 
 use kc_tree::Seed;
 use std::alloc::Global;
@@ -150,6 +152,17 @@ fn whole_characters(bytes: &[u8]) -> usize
     }
 }
 
+/// What is said of a file that can't be opened, by what the system answers.
+fn reason_of(kind: ErrorKind) -> &'static str
+    ensures { result.now ≡ reason_of kind }
+{
+    match kind {
+        ErrorKind::NotFound => "no such file",
+        ErrorKind::PermissionDenied => "permission denied",
+        _ => "the system can't open it",
+    }
+}
+
 impl<R: Files + RandomSource> Folder for SystemFolder<'_, R> {
     fn read_bytes(&self, alloc: Global, path: &str) -> Result<Vec<u8>, FolderFault> {
         let metadata = fs::metadata(self.rt, path)?;
@@ -175,11 +188,7 @@ impl<R: Files + RandomSource> Folder for SystemFolder<'_, R> {
     fn why_unread(&self, _alloc: Global, path: &str) -> &'static str {
         match fs::open(self.rt, path) {
             Ok(_) => "it is no file that can be read to its end",
-            Err(error) => match error.kind() {
-                ErrorKind::NotFound => "no such file",
-                ErrorKind::PermissionDenied => "permission denied",
-                _ => "the system can't open it",
-            },
+            Err(error) => reason_of(error.kind()),
         }
     }
 
