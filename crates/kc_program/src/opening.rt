@@ -63,9 +63,18 @@ impl ConfigFile {
 
     /// The number of the first line that has more bytes than one may have, without its line end.
     pub fn long_line(&self) -> Option<usize> {
-        let mut lines = self.bytes.split(|byte| *byte == b'\n').enumerate();
-        let (index, _) = lines.find(|line| line.1.len() > MOST_LINE)?;
+        let mut lines = self.bytes.split_inclusive(|byte| *byte == b'\n');
+        let index = lines.position(|line| without_line_end(line).len() > MOST_LINE)?;
         Some(index.saturating_add(1))
+    }
+}
+
+/// A line without its line feed and the one carriage return before it.
+fn without_line_end(line: &[u8]) -> &[u8] {
+    match line {
+        [text @ .., b'\r', b'\n'] => text,
+        [text @ .., b'\n'] => text,
+        _ => line,
     }
 }
 
