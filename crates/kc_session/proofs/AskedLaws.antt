@@ -1,5 +1,5 @@
 -- What is kept once the nodes of symbols or of choices were asked, one after the other.
-use Rattle.std.proofs.Common.{◌≡◌, ℕ, zero, suc, ◌+◌, ◌-◌, ◌*◌, ◌<◌, ◌≤◌, List, [], ◌∷◌, Option, Result, Ok, Err, OnOk, map, length, get_or, refl, sym, ap, ◌∙◌, subst, arith}
+use Rattle.std.proofs.Common.{◌≡◌, ℕ, zero, suc, ◌+◌, ◌-◌, ◌*◌, ◌<◌, ◌≤◌, List, [], ◌∷◌, Option, Result, Ok, Err, OnOk, is_some, map, length, get_or, refl, sym, ap, ◌∙◌, subst, ⊎_elim, arith}
 use Rattle.std.specs.List.{Contains, range_with_len}
 use Rattle.std.proofs.lemmas.Bool.{false≢true}
 use Rattle.std.proofs.lemmas.List.FromFn.{get_or-map-range_with_len, length-map-range_with_len}
@@ -15,17 +15,21 @@ use Rattle.kc_value.specs.Kept.{IsKept}
 use Rattle.kc_value.specs.Known.{KnownValue}
 use Rattle.kc_value.specs.Solution.{AreSolved, solution}
 use Rattle.kc_value.specs.Solved.{SolvedValue}
-use Rattle.kc_value.specs.FillLaws.{fills_again, fills_nothing, fills_wider}
+use Rattle.kc_value.specs.FillLaws.{FillLaws}
 use Rattle.kc_files.specs.DraftValue.{Agrees}
 use Rattle.kc_session.specs.declared.command.Refusal.{Refusal}
 use Rattle.kc_session.specs.declared.command.Reply.{Reply}
 use Rattle.kc_session.specs.declared.command.Reply.TheVariants.{Refused}
-use Rattle.kc_session.specs.Keeping.{choice_nodes, symbol_nodes, AreAllKept, Asks, Grew, KeepsAll}
+use Rattle.kc_session.specs.Keeping.{choice_nodes, symbol_nodes, AreAllKept, Asks, Grew, GrewByLaws, KeepsAll, KeepsUsed}
 use Rattle.kc_session.specs.Session.{IsSound, SessionState, SessionValue}
 
 -- what a session lends as solved
 abbrev pub solved_of : SessionState → SolvedValue
 solved_of s = record { tree = s.session.tree; user = s.session.user; values = s.kept.values }
+
+-- ---- what a kept node is computed from
+pub used_kept : (s : SessionState) → IsSound s → KeepsUsed s
+used_kept s sound n m inside kept uses = sound.laws.used_kept s.kept.values sound.kept.closed n m inside kept uses
 
 -- ---- nodes by number
 abbrev numbered : TreeValue → ℕ → ℕ → List Node
@@ -125,6 +129,14 @@ module _ (old new : SessionState) (s : SolvedValue) (sound : IsSound new) (is : 
       there (choice_nodes old.session.tree) new s is all (Mode x)
       (subst (λ (y : SessionValue). Contains (choice_nodes y.tree) (Mode x)) f.session (mode_in new.session.tree sound.laws.numbered x (subst (λ (t : TreeValue). x.0 < length t.choices) tree_is inside)))
 
+-- ---- what a resolver says of what it was asked
+pub grew_by_laws : (nodes : List Node) (old new : SessionState) → Grew nodes old new → GrewByLaws nodes old new
+grew_by_laws nodes old new f = record {
+  session = f.session;
+  stays = λ n inside kept. ⊎_elim (λ same. ap is_some same ∙ kept) (λ h. h.1) (f.fills.adds.each n inside);
+  fills = λ laws. f.fills;
+}
+
 -- ---- a symbol that is shown
 only_one : (p : List Node) (m : Node) → Contains p m → (n : Node) → Contains (m ∷ []) n → Contains p n
 only_one p m c n h = go h.0 h.1 h.2
@@ -134,12 +146,15 @@ only_one p m c n h = go h.0 h.1 h.2
     go (suc k) within is = absurd (omega (arith, within))
 
 -- the visibility of a symbol is asked with its value
-pub shown_grew : (s : SymId) (old new : SessionState) → Grew (Val s ∷ []) old new → Grew (Vis s ∷ Val s ∷ []) old new
-shown_grew s old new f = record {
-  session = f.session;
-  fills = fills_again old.session.tree old.session.tree (Vis s ∷ Val s ∷ []) (Val s ∷ []) old.kept old.kept new.kept refl (only_one (Vis s ∷ Val s ∷ []) (Val s) (1, omega arith, refl))
-      (fills_wider old.session.tree [] (Vis s ∷ Val s ∷ []) old.kept old.kept (λ n h. absurd (omega (arith, h.1.1))) (fills_nothing old.session.tree old.kept)) f.fills;
-}
+pub shown_grew : (s : SymId) (old new : SessionState) → IsSound new → Grew (Val s ∷ []) old new → Grew (Vis s ∷ Val s ∷ []) old new
+shown_grew s old new sound f =
+    let nodes = Vis s ∷ Val s ∷ [] in
+    let laws : FillLaws old.session.tree = subst (λ (x : SessionValue). FillLaws x.tree) f.session sound.laws.fills in
+    record {
+      session = f.session;
+      fills = laws.again nodes (Val s ∷ []) old.kept old.kept new.kept (only_one nodes (Val s) (1, omega arith, refl))
+          (laws.wider [] nodes old.kept old.kept (λ n h. absurd (omega (arith, h.1.1))) (laws.nothing old.kept)) f.fills;
+    }
 
 pub shown_kept : (s : SymId) (old new : SessionState) → s.0 < length old.session.tree.symbols → Grew (Val s ∷ []) old new → IsKept old.session.tree new.kept.values (Val s) → IsSound new
     → AreAllKept (Vis s ∷ Val s ∷ []) new

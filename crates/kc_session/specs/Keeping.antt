@@ -6,7 +6,9 @@ use Rattle.kc_outline.specs.TreeValue.{TreeValue, symbol_named}
 use Rattle.kc_tree.specs.declared.node.Node.{Node}
 use Rattle.kc_tree.specs.declared.node.Node.TheVariants.{Vis, Val}
 use Rattle.kc_tree.specs.Nodes.{all_nodes, node_at, IsNodeOf}
+use Rattle.kc_tree.specs.Uses.{Uses}
 use Rattle.kc_value.specs.Dirty.{Edits}
+use Rattle.kc_value.specs.FillLaws.{FillLaws}
 use Rattle.kc_value.specs.Kept.{AreKept, Fills, IsKept}
 use Rattle.kc_session.specs.declared.command.Command.{Command}
 use Rattle.kc_session.specs.declared.command.Command.TheVariants.{Set, Unset, Reset, Load, Merge, AllNo, AllYes, Show, List as ListAll, Choices, Config, Header, Defconfig, New}
@@ -17,6 +19,11 @@ use Rattle.kc_session.specs.Session.{SessionState}
 -- ---- what is kept is right: each value is the solution's, and what a kept node is computed from is kept
 abbrev pub KeepsRight : SessionState → Type 0
 KeepsRight s = AreKept s.session.tree s.session.user s.kept.values
+
+-- each node that a kept node is computed from is kept
+abbrev pub KeepsUsed : SessionState → Type 0
+KeepsUsed s = (n m : Node) → IsNodeOf s.session.tree n → IsKept s.session.tree s.kept.values n → Uses s.session.tree n m
+    → IsKept s.session.tree s.kept.values m
 
 -- the value of each node is kept
 abbrev pub KeepsAll : SessionState → Type 0
@@ -70,3 +77,10 @@ Keeps old New reply new = Asks (all_nodes old.session.tree) old reply new
 pub record Grew (nodes : List Node) (old new : SessionState) : Type 0 where
   pub session : new.session ≡ old.session
   pub fills : Fills old.session.tree nodes old.kept new.kept
+
+-- The same of a session as a resolver: what was kept stays; and by the laws of what is kept, which hold of each tree
+-- (KeptLaws), only nodes that are reached from those asked were added, and each was counted once.
+pub record GrewByLaws (nodes : List Node) (old new : SessionState) : Type 0 where
+  pub session : new.session ≡ old.session
+  pub stays : (n : Node) → IsNodeOf old.session.tree n → IsKept old.session.tree old.kept.values n → IsKept old.session.tree new.kept.values n
+  pub fills : FillLaws old.session.tree → Fills old.session.tree nodes old.kept new.kept

@@ -2,7 +2,7 @@
 ghost use Rattle.std.specs.Prelude.{◌≡◌, ℕ, List, [], ◌∷◌, IfOk, IfErr, OnOk, IsOk};
 ghost use Rattle.kc_files.specs.DefaultLoading.{HasNoFeeds};
 ghost use Rattle.kc_files.specs.OneReading.{IsReadAs};
-ghost use Rattle.kc_session.specs.Keeping.{symbol_nodes, choice_nodes, AreAllKept, EditsKept, Grew, KeepsAll, KeepsRight};
+ghost use Rattle.kc_session.specs.Keeping.{symbol_nodes, choice_nodes, AreAllKept, EditsKept, Grew, GrewByLaws, KeepsAll, KeepsRight, KeepsUsed};
 ghost use Rattle.kc_session.specs.Session.{new_session, new_state, IsSound};
 ghost use Rattle.kc_tree.specs.Nodes.{IsNodeOf, all_nodes};
 ghost use Rattle.kc_value.specs.Kept.{is_kept, IsKept};
@@ -30,6 +30,7 @@ impl Session {
     ) -> Result<Session, (Tree, Prefix, AllocError)>
         ensures ok { IfOk result (λ s. s ≡ new_state (new_session tree prefix)) }
         ensures right { IfOk result KeepsRight }
+        ensures used { IfOk result KeepsUsed }
         ensures unfed { IfOk result (λ s. HasNoFeeds s.session.user) }
         ensures solved { IfOk result (λ s. (u : UserValues) → IsOnlySolution s.session.tree u (solution s.session.tree u)) }
         ensures err { IfErr result (λ e. (e.0 ≡ tree) × (e.1 ≡ prefix)) }
@@ -54,6 +55,7 @@ impl Session {
         requires { IsUserFor tree user }
         ensures ok { IfOk result (λ s. s ≡ new_state (record { tree = tree; user = user; prefix = prefix })) }
         ensures right { IfOk result KeepsRight }
+        ensures used { IfOk result KeepsUsed }
         ensures solved { IfOk result (λ s. (u : UserValues) → IsOnlySolution s.session.tree u (solution s.session.tree u)) }
         ensures bodies { IfOk result (λ s. (body : List ℕ) → IsReadAs s.session.tree s.session.prefix body) }
         ensures err { IfErr result (λ e. (e.0 ≡ tree) × (e.1 ≡ prefix)) }
@@ -77,9 +79,11 @@ impl Session {
     /// What is true of a session, whatever was done before: what is kept is right; whatever the user values are, the tree
     /// has one solution, and no other; and each body has one reading. Besides, the laws of what is kept; by one of them an
     /// edit that changes no user value drops nothing.
+    #[tactic(auto, using(crate::proofs::AskedLaws::used_kept))]
     pub(crate) fn facts(&self)
         ensures sound { IsSound self.now }
         ensures right { KeepsRight self.now }
+        ensures used { KeepsUsed self.now }
         ensures solved { (u : UserValues) → IsOnlySolution self.now.session.tree u (solution self.now.session.tree u) }
         ensures bodies { (body : List ℕ) → IsReadAs self.now.session.tree self.now.session.prefix body }
         ensures laws { KeptLaws self.now.session.tree }
@@ -88,11 +92,14 @@ impl Session {
         let _ = self.prefix.as_str();
     }
 
-    /// Whether the value of a node is kept: it is the solution's then, and a query of it evaluates nothing.
+    /// Whether the value of a node is kept: it is the solution's then, a query of it evaluates nothing, and each node that
+    /// it is computed from is kept, too.
     pub fn is_kept(&self, node: Node) -> bool
         ensures kept { result ≡ is_kept self.now.session.tree self.now.kept.values node }
         ensures right { KeepsRight self.now }
+        ensures used { KeepsUsed self.now }
     {
+        self.facts();
         self.kept.is_kept(&self.tree, node)
     }
 
@@ -187,35 +194,46 @@ impl Session {
 impl Resolver for Session {
     ghost use Rattle.std.specs.Borrow.{sem};
     ghost use Rattle.std.specs.Io.BufRead.{Rests};
-    ghost use Rattle.std.proofs.Common.{refl, ap, ◌∙◌};
+    ghost use Rattle.std.proofs.Common.{refl, sym, ap, ◌∙◌, subst};
+    ghost use Rattle.kc_outline.specs.TreeValue.{TreeValue};
     ghost use Rattle.kc_session.specs.contracts.session.Session.{the_row};
     ghost use Rattle.kc_session.specs.Session.{SessionValue};
-    ghost use Rattle.kc_value.specs.FillLaws.{fills_nothing, fills_then, fills_wider, kept_after};
+    ghost use Rattle.kc_value.specs.FillLaws.{FillLaws};
+    ghost use Rattle.kc_value.specs.Kept.{Fills};
 
     ghost tree_of = { λ s. s.session.tree };
 
     ghost user_of = { λ s. s.session.user };
 
-    ghost grew = { λ old new asked. Grew asked old new };
+    ghost grew = { λ old new asked. GrewByLaws asked old new };
 
     ghost knows = { λ s n. IsKept s.session.tree s.kept.values n };
 
     ghost lends = { λ s n. IsKept s.session.tree s.kept.values n };
 
-    ghost grew_nothing = { λ r. record { session = refl; fills = fills_nothing r.session.tree r.kept } };
+    ghost grew_nothing = { λ r. record { session = refl; stays = λ n inside kept. kept; fills = λ laws. laws.nothing r.kept } };
 
-    ghost grew_then = { λ r s t p q g h. record {
-      session = h.session ∙ g.session;
-      fills = fills_then r.session.tree s.session.tree p q r.kept s.kept t.kept (ap (λ (x : SessionValue). x.tree) g.session) g.fills h.fills;
-    } };
+    ghost grew_then = { λ r s t p q g h.
+        let same : s.session.tree ≡ r.session.tree = ap (λ (x : SessionValue). x.tree) g.session in
+        record {
+          session = h.session ∙ g.session;
+          stays = λ n inside kept.
+              subst (λ (x : TreeValue). IsKept x t.kept.values n) same
+              (h.stays n (subst (λ (x : TreeValue). IsNodeOf x n) (sym same) inside)
+              (subst (λ (x : TreeValue). IsKept x s.kept.values n) (sym same) (g.stays n inside kept)));
+          fills = λ laws.
+              laws.both p q r.kept s.kept t.kept (g.fills laws)
+              (subst (λ (x : TreeValue). Fills x q s.kept t.kept) same (h.fills (subst (λ (x : TreeValue). FillLaws x) (sym same) laws)));
+        } };
 
     ghost grew_wider = { λ r s p q wider g. record {
       session = g.session;
-      fills = fills_wider r.session.tree p q r.kept s.kept wider g.fills;
+      stays = g.stays;
+      fills = λ laws. laws.wider p q r.kept s.kept wider (g.fills laws);
     } };
 
     ghost knows_after = { λ r s p n inside known g.
-        kept_after r.session.tree s.session.tree p r.kept s.kept n (ap (λ (x : SessionValue). x.tree) g.session) inside known g.fills };
+        subst (λ (x : SessionValue). IsKept x.tree s.kept.values n) (sym g.session) (g.stays n inside known) };
 
     fn tree(&self) -> &Tree {
         &self.tree
@@ -225,6 +243,7 @@ impl Resolver for Session {
         &self.user
     }
 
+    #[tactic(auto, using(crate::proofs::AskedLaws::grew_by_laws))]
     fn node(&mut self, node: Node) -> Result<&Value, AllocError>
         requires { IsNodeOf self.old.session.tree node }
         ensures value { IfOk result (λ v. v.now ≡ solution self.old.session.tree self.old.session.user node) }
@@ -232,20 +251,24 @@ impl Resolver for Session {
         ensures fitting { IsUserFor self.old.session.tree self.old.session.user }
         ensures right { KeepsRight self.old }
         ensures kept_before { IsKept self.old.session.tree self.old.kept.values node → IsOk result }
+        ensures used { KeepsUsed self.old }
+        ensures laws { KeptLaws self.old.session.tree }
         ensures* after_borrow { sem 𝓛 (Rests the_row self.entry (λ new.
             (new.session.tree ≡ self.old.session.tree) × (new.session.user ≡ self.old.session.user)
-            × Grew (node ∷ []) self.old new × OnOk result (IsKept new.session.tree new.kept.values node))) }
+            × GrewByLaws (node ∷ []) self.old new × OnOk result (IsKept new.session.tree new.kept.values node))) }
     {
         self.facts();
         self.fill_node(node)?;
         Ok(self.value(node))
     }
 
+    #[tactic(auto, using(crate::proofs::AskedLaws::grew_by_laws))]
     fn fill_node(&mut self, node: Node) -> Result<(), AllocError> {
         self.facts();
         Session::fill_node(self, node)
     }
 
+    #[tactic(auto, using(crate::proofs::AskedLaws::grew_by_laws))]
     fn fill_all(&mut self) -> Result<(), AllocError> {
         self.facts();
         Session::fill_all(self)

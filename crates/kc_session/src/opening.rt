@@ -11,7 +11,7 @@ ghost use Rattle.kc_files.specs.DefaultLoading.{HasNoFeeds};
 ghost use Rattle.kc_files.specs.LineReading.{IsAssignFor, IsUnfed};
 ghost use Rattle.kc_files.specs.OneReading.{assigns_in, warnings_in, IsReadAs};
 ghost use Rattle.kc_session.specs.Bodies.{fits_body};
-ghost use Rattle.kc_session.specs.Keeping.{KeepsRight};
+ghost use Rattle.kc_session.specs.Keeping.{KeepsRight, KeepsUsed};
 ghost use Rattle.kc_session.specs.Opened.{IsOpened, IsOpenedFrom, IsOpenFault, IsFaultFrom, IsTextFaultOf, IsTreeFaultOf, IsConfigFault, IsOnlySession, IsOnlySessionFrom, IsOnlyTreeFault, IsFirstOpenFault, IsFirstFaultFrom, user_of_config};
 
 use crate::command::Refusal;
@@ -148,6 +148,7 @@ pub fn open(
     ensures bodies { IfOk result (λ r. (body : List ℕ) → IsReadAs r.0.session.tree r.0.session.prefix body) }
     ensures nothing_kept { IfOk result (λ r. r.0.kept ≡ nothing_kept r.0.session.tree) }
     ensures right { IfOk result (λ r. KeepsRight r.0) }
+    ensures used { IfOk result (λ r. KeepsUsed r.0) }
     ensures solved { IfOk result (λ r. (u : UserValues) → IsOnlySolution r.0.session.tree u (solution r.0.session.tree u)) }
     ensures only { IfOk result (λ r. IsOnlySession sources.now vars.now top.now prefix.now config.now r.0.session) }
     ensures fault { IfErr result (IsOpenFault sources.now vars.now top.now config.now) }
@@ -178,6 +179,7 @@ pub fn open_lines(
     ensures bodies { IfOk result (λ r. (body : List ℕ) → IsReadAs r.0.session.tree r.0.session.prefix body) }
     ensures nothing_kept { IfOk result (λ r. r.0.kept ≡ nothing_kept r.0.session.tree) }
     ensures right { IfOk result (λ r. KeepsRight r.0) }
+    ensures used { IfOk result (λ r. KeepsUsed r.0) }
     ensures solved { IfOk result (λ r. (u : UserValues) → IsOnlySolution r.0.session.tree u (solution r.0.session.tree u)) }
     ensures only { IfOk result (λ r. IsOnlySessionFrom lines.now prefix.now config.now r.0.session) }
     ensures fault { IfErr result (IsFaultFrom lines.now config.now) }
@@ -214,6 +216,7 @@ pub fn open_seeded(
     ensures bodies { IfOk result (λ r. (body : List ℕ) → IsReadAs r.0.session.tree r.0.session.prefix body) }
     ensures nothing_kept { IfOk result (λ r. r.0.kept ≡ nothing_kept r.0.session.tree) }
     ensures right { IfOk result (λ r. KeepsRight r.0) }
+    ensures used { IfOk result (λ r. KeepsUsed r.0) }
     ensures solved { IfOk result (λ r. (u : UserValues) → IsOnlySolution r.0.session.tree u (solution r.0.session.tree u)) }
     ensures only { IfOk result (λ r. IsOnlySession texts.now.sources.now texts.now.vars.now texts.now.top.now prefix.now config.now r.0.session) }
     ensures fault { IfErr result (IsOpenFault texts.now.sources.now texts.now.vars.now texts.now.top.now config.now) }

@@ -13,6 +13,7 @@ use Rattle.kc_value.specs.declared.value.Value.{Value}
 use Rattle.kc_value.specs.Dirty.{Edits, IsDirty}
 use Rattle.kc_value.specs.Kept.{AreKept, IsClosed, KeptValue, kept_count, nothing_kept}
 use Rattle.kc_value.specs.KeptLaws.{KeptLaws}
+use Rattle.kc_value.proofs.FillLaws.{fill_laws_hold}
 use Rattle.kc_value.specs.UserValues.{UserValues}
 use Rattle.kc_value.proofs.EditLaws.{edits_nothing, edits_once}
 use Rattle.kc_value.proofs.KeptCounts.{DiffersWithin, value_count-differs, value_count-within}
@@ -77,6 +78,7 @@ laws_hold t laws = record {
   used_right = λ u kept are n inside is m uses. (kept_solved t laws u kept are).used n m inside is uses;
   conditions_right = λ u kept are. kept_right t laws u kept are;
   used_kept = λ kept closed n m inside is uses. (used_kept t laws kept closed n m inside is uses).1;
+  fills = fill_laws_hold t;
   edits_nothing = edits_nothing t;
   edits_once = edits_once t;
   count_within = count_within t;

@@ -15,6 +15,7 @@ pub mod Examples
 pub mod ExprLemmas
 pub mod FactorLaws
 pub mod FactorLists
+pub mod FillLaws
 pub mod FillSteps
 pub mod FirstLemmas
 pub mod FittingLaws

@@ -10,7 +10,7 @@ use Rattle.kc_tree.specs.Nodes.{IsNodeOf, node_at, node_count, number_of}
 use Rattle.kc_tree.proofs.NodeNumbers.{Contains-at, Contains-from_at, at_below, node_in-number_in, node_at-number_of, number_of-node_at}
 use Rattle.kc_value.specs.declared.value.Value.{Value}
 use Rattle.kc_value.specs.Kept.{KeptValue, IsKept, Fills}
-use Rattle.kc_value.specs.FillLaws.{fills_again, fills_nothing, fills_wider, kept_after}
+use Rattle.kc_value.proofs.FillLaws.{fills_again, fills_nothing, fills_wider, kept_after}
 
 -- the nodes of so many numbers, from one on
 abbrev pub numbered : TreeValue → ℕ → ℕ → List Node

@@ -17,7 +17,7 @@ use Rattle.kc_tree.proofs.NodeNumbers.{node_at-number_of, number_below}
 use Rattle.kc_value.specs.declared.value.Value.{Value}
 use Rattle.kc_value.specs.FillWalk.{HasValue}
 use Rattle.kc_value.specs.Kept.{Fills, IsHeld, IsKept, KeptValue}
-use Rattle.kc_value.specs.FillLaws.{fills_nothing, fills_wider}
+use Rattle.kc_value.proofs.FillLaws.{fills_nothing, fills_wider}
 
 -- each node of the tree is among all nodes
 pub in_all : (t : TreeValue) (n : Node) → IsNodeOf t n → Contains (all_nodes t) n

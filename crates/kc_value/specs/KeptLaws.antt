@@ -10,6 +10,7 @@ use Rattle.kc_tree.specs.Uses.{Uses}
 use Rattle.kc_value.specs.declared.value.Value.{Value}
 use Rattle.kc_value.specs.Assignment.{assignment_of}
 use Rattle.kc_value.specs.Dirty.{ChangesEachOnce, Edits, IsDirty}
+use Rattle.kc_value.specs.FillLaws.{FillLaws}
 use Rattle.kc_value.specs.Kept.{AreKept, IsClosed, IsKept, KeptValue, kept_count}
 use Rattle.kc_value.specs.Known.{AreRight}
 use Rattle.kc_value.specs.Solution.{solution}
@@ -33,6 +34,8 @@ pub record KeptLaws (t : TreeValue) : Type 0 where
   pub conditions_right : (u : UserValues) (kept : List (Option Value)) → AreKept t u kept → AreRight t kept
   -- what a node that is kept is computed from is kept
   pub used_kept : (kept : List (Option Value)) → IsClosed t kept → (n m : Node) → IsNodeOf t n → IsKept t kept n → Uses t n m → IsKept t kept m
+  -- asking nodes adds what it adds, whatever was asked before
+  pub fills : FillLaws t
   -- an edit that leaves the user values as they are leaves what is kept
   pub edits_nothing : (u : UserValues) (k : KeptValue) → Edits t u u k k
   -- and two edits that change each place at most once are one

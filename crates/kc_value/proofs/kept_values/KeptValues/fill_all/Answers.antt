@@ -1,5 +1,5 @@
 use Rattle.kc_tree.specs.Nodes.{all_nodes}
-use Rattle.kc_value.specs.FillLaws.{fills_again}
+use Rattle.kc_value.proofs.FillLaws.{fills_again}
 use Rattle.kc_value.proofs.OrderSteps.{all_begun, all_done, next_cell, next_done, next_ready, none_done}
 use Rattle.kc_value.proofs.SolutionLaws.{one_solution}
 use Rattle.std.proofs.Common.{refl}
