@@ -1,5 +1,5 @@
 -- What cells read, themselves and by conditions, is what the nodes are computed from.
-use Rattle.std.proofs.Common.{◌≡◌, ◌↔◌, ℕ, zero, suc, ◌+◌, ◌<◌, List, [], ◌∷◌, ◌++◌, length, Option, Some, None, refl, sym, ap, subst, ◌∙◌, inl, inr, append_assoc, arith}
+use Rattle.std.proofs.Common.{◌≡◌, ◌↔◌, ℕ, zero, suc, ◌+◌, ◌<◌, List, [], ◌∷◌, ◌++◌, Option, Some, None, refl, sym, ap, subst, ◌∙◌, inl, inr, append_assoc, arith}
 use Rattle.std.specs.List.{Contains, flat_map, slice_get}
 use Rattle.std.specs.Option.{option_map_or}
 use Rattle.std.proofs.lemmas.List.{append-nil}
@@ -20,7 +20,7 @@ use Rattle.kc_tree.specs.declared.node.Node.TheVariants.{Vis, Val, Mode, Sel}
 use Rattle.kc_tree.specs.declared.cell.Cell.{Cell}
 use Rattle.kc_tree.specs.declared.cell.Cell.TheVariants.{Node as OfNode, Definition, Depends, Visible}
 use Rattle.kc_tree.specs.ConditionTable.{dependencies_in, of_member}
-use Rattle.kc_tree.specs.Nodes.{IsNodeOf, node_count}
+use Rattle.kc_tree.specs.Nodes.{IsNodeOf}
 use Rattle.kc_tree.specs.Uses.{Uses, choice_prompt_nodes, choice_value_nodes, condition_nodes, conditions_nodes, default_nodes, definition_nodes, dependency_nodes, depends_nodes, free_value_nodes, own_condition_nodes, prompt_nodes, range_nodes, reverse_nodes, selection_nodes, symbol_nodes, symbol_value_nodes, term_nodes, type_nodes, used_nodes, value_nodes, visibility_nodes, visible_nodes}
 use Rattle.kc_tree.specs.Cells.{IsCellOf, IsCondition, cell_number, choice_prompt_cells, condition_of, default_alone_nodes, definition_cells, depends_cells, free_value_cells, node_cells, nodes_in, prompt_cells, range_alone_nodes, read_cells, reverse_cells, symbol_value_cells, value_cells, visibility_cells, visible_cells}
 use Rattle.kc_tree.specs.CellLaws.{Reads}

@@ -1,10 +1,10 @@
 -- The nodes that are computed from a node, as they are found by the rows of what reads each cell.
-use Rattle.std.proofs.Common.{◌≡◌, ◌↔◌, ℕ, zero, suc, ◌+◌, ◌*◌, ◌<◌, ◌≤◌, List, [], ◌∷◌, ◌++◌, length, map, filter, reverse, refl, sym, ap, subst, ◌∙◌, inl, inr, arith, append_assoc}
-use Rattle.std.specs.List.{Contains, flat_map}
+use Rattle.std.proofs.Common.{◌≡◌, ◌↔◌, ℕ, zero, suc, ◌+◌, ◌<◌, ◌≤◌, List, [], ◌∷◌, ◌++◌, length, map, filter, reverse, refl, sym, ap, subst, ◌∙◌, inl, inr, arith, append_assoc}
+use Rattle.std.specs.List.{Contains}
 use Rattle.std.proofs.lemmas.Bool.{cases_lt, cond-false, cond-true, le-ltb, lt-ltb, ltb-true}
 use Rattle.std.proofs.lemmas.List.Elements.{filter-append}
 use Rattle.std.proofs.lemmas.List.{length-append, map-append, reverse-append}
-use Rattle.kc_graph.specs.Graph.{IsConverse, Uses, row}
+use Rattle.kc_graph.specs.Graph.{IsConverse, row}
 use Rattle.kc_tree.specs.CellRows.{AreInside}
 use Rattle.kc_tree.specs.Users.{AreLeveled, IsHigh, IsPath, steps_left, user_trails, users_left, whole_users}
 use Rattle.kc_tree.specs.WholeRows.{Holds, is_node, trail}

@@ -1,6 +1,6 @@
 -- The nodes that are computed from a node, by the table of what reads each cell: those that read it, and those that read a
 -- condition that reads it. This project's own. A table has the rows of n nodes first, and those of conditions after them.
-use Rattle.std.specs.Prelude.{ℕ, suc, ◌+◌, ◌*◌, ◌<◌, ◌≤◌, List, [], ◌∷◌, ◌++◌, length, flat_map, filter, slice_index_or, Contains}
+use Rattle.std.specs.Prelude.{ℕ, ◌+◌, ◌*◌, ◌<◌, ◌≤◌, List, [], ◌∷◌, ◌++◌, length, flat_map, filter, slice_index_or, Contains}
 use Rattle.kc_graph.specs.Graph.{IsClosed}
 use Rattle.kc_outline.specs.declared.limits.TheConstants.{MOST_OPEN_BLOCKS}
 use Rattle.kc_tree.specs.declared.node_users.TheConstants.{MOST_ROWS}

@@ -265,7 +265,7 @@ impl Tree {
         )
     }
 
-    /// The nodes that a node is computed from. Of a condition these are the nodes that its factors read.
+    /// The nodes that a node is computed from. A condition reads the nodes that its factors read.
     pub fn uses(&self, node: Node) -> NodeRow<'_>
         requires { IsNodeOf self.now node }
         ensures exact { (m : Node) → Contains result m ↔ Uses self.now node m }
