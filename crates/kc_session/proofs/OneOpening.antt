@@ -13,7 +13,7 @@ use Rattle.kc_session.specs.declared.opening.OpenFault.{OpenFault}
 use Rattle.kc_session.specs.declared.opening.OpenFault.TheVariants.{Text, Tree, Limit, NoMemory}
 use Rattle.kc_session.specs.Bodies.{fits_body}
 use Rattle.kc_session.specs.Session.{SessionValue}
-use Rattle.kc_session.specs.Opened.{user_of_config, IsTextFaultOf, IsTreeFaultOf, IsConfigFault, IsOpenFault, IsOpened, IsOpenedFrom, IsFaultFrom, IsOfTexts, AreOneOpenFault, IsOnlySession, IsOnlySessionFrom, IsOnlyOpenFault, IsOnlyFaultFrom, IsOnlyTreeFault, IsFirstOpenFault, IsFirstFaultFrom}
+use Rattle.kc_session.specs.Opened.{user_of_config, AreEnclosed, AreTextsEnclosed, IsTextFaultOf, IsTreeFaultOf, IsConfigFault, IsOpenFault, IsOpened, IsOpenedFrom, IsFaultFrom, IsOfTexts, AreOneOpenFault, IsOnlySession, IsOnlySessionFrom, IsOnlyOpenFault, IsOnlyFaultFrom, IsOnlyTreeFault, IsFirstOpenFault, IsFirstFaultFrom}
 
 -- ---- logical lines that were read before
 module _ (lines : List LineValue) (prefix config : List ℕ) where
@@ -139,6 +139,9 @@ module _ (files vars : List File) (top prefix config : List ℕ) where
     fault_from_texts (Tree fault) h = (fault_of_lines h.lines fault h.lines_are h.fault_is, h.of_lines)
     fault_from_texts Limit h = record { tree = h.tree; tree_is = tree_of_lines h.lines h.tree h.lines_are h.tree_is; is_long = h.is_long }
     fault_from_texts NoMemory h = tt
+
+    pub enclosed_of : (t : TreeValue) → AreEnclosed lines t → AreTextsEnclosed files vars top t
+    enclosed_of t h others also = subst (λ (ls : List LineValue). AreEnclosed ls t) (sym (same_lines others also)) h
 
     pub only_of : (s : SessionValue) → IsOnlySessionFrom lines prefix config s → IsOnlySession files vars top prefix config s
     only_of s only = record {

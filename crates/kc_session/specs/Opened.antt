@@ -1,5 +1,5 @@
 -- This project's own: the session of the texts of a Kconfig, or why there is none.
-use Rattle.std.specs.Prelude.{◌≡◌, ℕ, true, false, List, Ok, Err}
+use Rattle.std.specs.Prelude.{◌≡◌, ℕ, ◌≤◌, true, false, List, Ok, Err, length}
 use Rattle.kc_text.specs.LineValue.{LineValue}
 use Rattle.kc_text.specs.FileList.{File}
 use Rattle.kc_text.specs.Expansion.{texts_in}
@@ -8,6 +8,7 @@ use Rattle.kc_tree.specs.declared.fault.TreeFault.{TreeFault}
 use Rattle.kc_tree.specs.Parsed.{IsTreeOf, IsFaultOf, IsOfLines, AreOneFault, IsFirstFault}
 use Rattle.kc_session.specs.declared.opening.OpenFault.{OpenFault}
 use Rattle.kc_session.specs.declared.opening.OpenFault.TheVariants.{Text, Tree, Limit, NoMemory}
+use Rattle.kc_outline.specs.Blocks.{AreBlocksEnclosing, AreOpenAt}
 use Rattle.kc_outline.specs.TreeValue.{TreeValue}
 use Rattle.kc_value.specs.UserValues.{UserValues, no_values}
 use Rattle.kc_files.specs.Loading.{user_after}
@@ -28,6 +29,16 @@ pub record IsOpened (files vars : List File) (top prefix config : List ℕ) (s :
   pub tree : IsTreeOf lines s.tree
   pub session : s ≡ record { tree = s.tree; user = user_of_config s.tree prefix config; prefix = prefix }
   pub fits : fits_body config ≡ true
+
+-- The blocks that are open at each of the lines are those that the lines around it open, and what the tree defines is in
+-- those blocks.
+pub record AreEnclosed (lines : List LineValue) (t : TreeValue) : Type 0 where
+  pub at_each : (j : ℕ) → j ≤ length lines → AreOpenAt lines j
+  pub blocks : AreBlocksEnclosing lines t
+
+-- the same of the logical lines of the texts
+abbrev pub AreTextsEnclosed : List File → List File → List ℕ → TreeValue → Type 0
+AreTextsEnclosed files vars top t = (lines : List LineValue) → logical_lines_of files (texts_in vars) top ≡ Ok lines → AreEnclosed lines t
 
 -- the first fault of the lines
 pub record HasTreeFault (files vars : List File) (top : List ℕ) (fault : TreeFault) : Type 0 where

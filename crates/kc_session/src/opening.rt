@@ -12,7 +12,7 @@ ghost use Rattle.kc_files.specs.LineReading.{IsAssignFor, IsUnfed};
 ghost use Rattle.kc_files.specs.OneReading.{assigns_in, warnings_in, IsReadAs};
 ghost use Rattle.kc_session.specs.Bodies.{fits_body};
 ghost use Rattle.kc_session.specs.Keeping.{KeepsRight, KeepsUsed};
-ghost use Rattle.kc_session.specs.Opened.{IsOpened, IsOpenedFrom, IsOpenFault, IsFaultFrom, IsTextFaultOf, IsTreeFaultOf, IsConfigFault, IsOnlySession, IsOnlySessionFrom, IsOnlyTreeFault, IsFirstOpenFault, IsFirstFaultFrom, user_of_config};
+ghost use Rattle.kc_session.specs.Opened.{AreEnclosed, AreTextsEnclosed, IsOpened, IsOpenedFrom, IsOpenFault, IsFaultFrom, IsTextFaultOf, IsTreeFaultOf, IsConfigFault, IsOnlySession, IsOnlySessionFrom, IsOnlyTreeFault, IsFirstOpenFault, IsFirstFaultFrom, user_of_config};
 
 use crate::command::Refusal;
 use crate::load::read_body;
@@ -69,6 +69,7 @@ fn read_tree(alloc: Global, seed: Seed, lines: &[Line<'_>]) -> Result<Tree, Open
     requires { length lines.now ≤ MOST_LINES }
     ensures tree { IfOk result (IsTreeOf lines.now) }
     ensures only { IfOk result (IsOnlyTree lines.now) }
+    ensures enclosed { IfOk result (AreEnclosed lines.now) }
     ensures fault { IfErr result (IsTreeFaultOf lines.now) }
     ensures first { IfErr result (IsOnlyTreeFault lines.now) }
 {
@@ -151,6 +152,7 @@ pub fn open(
     ensures used { IfOk result (λ r. KeepsUsed r.0) }
     ensures solved { IfOk result (λ r. (u : UserValues) → IsOnlySolution r.0.session.tree u (solution r.0.session.tree u)) }
     ensures only { IfOk result (λ r. IsOnlySession sources.now vars.now top.now prefix.now config.now r.0.session) }
+    ensures enclosed { IfOk result (λ r. AreTextsEnclosed sources.now vars.now top.now r.0.session.tree) }
     ensures fault { IfErr result (IsOpenFault sources.now vars.now top.now config.now) }
     ensures first { IfErr result (IsFirstOpenFault sources.now vars.now top.now prefix.now config.now) }
 {
@@ -182,6 +184,7 @@ pub fn open_lines(
     ensures used { IfOk result (λ r. KeepsUsed r.0) }
     ensures solved { IfOk result (λ r. (u : UserValues) → IsOnlySolution r.0.session.tree u (solution r.0.session.tree u)) }
     ensures only { IfOk result (λ r. IsOnlySessionFrom lines.now prefix.now config.now r.0.session) }
+    ensures enclosed { IfOk result (λ r. AreEnclosed lines.now r.0.session.tree) }
     ensures fault { IfErr result (IsFaultFrom lines.now config.now) }
     ensures first { IfErr result (IsFirstFaultFrom lines.now prefix.now config.now) }
 {
@@ -219,6 +222,7 @@ pub fn open_seeded(
     ensures used { IfOk result (λ r. KeepsUsed r.0) }
     ensures solved { IfOk result (λ r. (u : UserValues) → IsOnlySolution r.0.session.tree u (solution r.0.session.tree u)) }
     ensures only { IfOk result (λ r. IsOnlySession texts.now.sources.now texts.now.vars.now texts.now.top.now prefix.now config.now r.0.session) }
+    ensures enclosed { IfOk result (λ r. AreTextsEnclosed texts.now.sources.now texts.now.vars.now texts.now.top.now r.0.session.tree) }
     ensures fault { IfErr result (IsOpenFault texts.now.sources.now texts.now.vars.now texts.now.top.now config.now) }
     ensures first { IfErr result (IsFirstOpenFault texts.now.sources.now texts.now.vars.now texts.now.top.now prefix.now config.now) }
 {
