@@ -1,9 +1,8 @@
 //! All faults of texts at once, the first of which is the fault of `Tree::parse`.
-use crate::parsing::{fault_of, faults_of, faults_of_files};
-use crate::table::{rows, two_fields};
+use crate::table::{Shown, compare, compare_rows};
 use std::test::Fail;
 
-/// Texts with all their faults.
+/// Texts with all their faults, and files with ` & ` between them.
 const FAULTS: &str = r#"
 // Lines, each by itself. An unknown word ends an entry.
 default y\nfrob | K:1: K06, K:2: K04
@@ -30,61 +29,30 @@ choice\nendchoice\nchoice\nprompt "c"\nendchoice\nchoice\nprompt "d"\ndefault X\
 config A\nmodules\nchoice\nendchoice\nconfig B\nbool "b"\ntristate | K12 A, K13 B, K:3: K17, K18 A
 // A loop is sought where there is nothing else.
 config A\nbool "a"\ndepends on A\nmodules | K18 A
-config A\nbool "a"\ndefault A |  val A ->
+config A\nbool "a"\ndefault A | K19
+config A\nbool "a"\nchoice\nprompt "c"\nconfig B\nbool "b"\nendchoice\n | a tree
+// A file K, and b after it: the menu is left open by b, and no file closes a block of another.
+frob\nsource "b"\nendmenu\n & default y\nmenu "m"\n | K:1: K04, b:1: K06, b:3: K07, K:3: K07
 "#;
 
 #[test]
 fn all_faults_are_found(rt: HostRuntime) -> Result<(), Fail> {
-    let alloc = rt.alloc();
-    for row in rows(alloc, FAULTS)? {
-        let (text, want) = two_fields(alloc, row)?;
-        let found = faults_of(alloc, text.as_str())?;
-        assert_eq!(rt; found.as_str(), want.as_str(), "at {row}");
-        let first = fault_of(alloc, text.as_str())?;
-        assert!(rt; found.starts_with(first.as_str()), "at {row}: {first}");
-    }
-    Ok(())
+    compare_rows(rt.alloc(), Shown::Faults, FAULTS)
 }
 
-#[test]
-fn a_tree_has_no_fault(rt: HostRuntime) -> Result<(), Fail> {
-    let alloc = rt.alloc();
-    let text = "config A\nbool \"a\"\nchoice\nprompt \"c\"\nconfig B\nbool \"b\"\nendchoice\n";
-    assert_eq!(rt; faults_of(alloc, text)?.as_str(), "");
-    assert_eq!(rt; fault_of(alloc, text)?.as_str(), "a tree");
-    Ok(())
-}
-
-#[test]
-fn faults_of_files_are_in_the_order_of_their_lines(rt: HostRuntime) -> Result<(), Fail> {
-    let alloc = rt.alloc();
-    let found = faults_of_files(
-        alloc,
-        "frob\nsource \"b\"\nendmenu\n",
-        "default y\nmenu \"m\"\n",
-    )?;
-    // The menu is left open by b, and no file closes a block of another.
-    assert_eq!(rt; found.as_str(), "K:1: K04, b:1: K06, b:3: K07, K:3: K07");
-    Ok(())
-}
+/// What comes after 64 open blocks, with all faults. The end of the file is the line after the last.
+const TOO_DEEP: [(&str, &str); 2] = [
+    ("", "K:1: K06, K:66: K04, K:67: K07"),
+    ("if y\nfrob\n", "K:1: K06, K:66: K04, K:67: K01"),
+];
 
 #[test]
 fn nothing_is_read_after_a_block_too_deep(rt: HostRuntime) -> Result<(), Fail> {
     let alloc = rt.alloc();
-    let mut text = String::from_str(alloc, "default y\n")?;
-    for _block in 0..64 {
-        text.push_str("if y\n")?;
+    let blocks = "if y\n".repeat(alloc, 64)?;
+    for (after, want) in TOO_DEEP {
+        let text = format!(in alloc; "default y\n{blocks}frob\n{after}")?;
+        compare(alloc, Shown::Faults, text.as_str(), want)?;
     }
-    text.push_str("frob\n")?;
-    // The end of the file is the line after the last.
-    assert_eq!(rt;
-        faults_of(alloc, text.as_str())?.as_str(),
-        "K:1: K06, K:66: K04, K:67: K07"
-    );
-    text.push_str("if y\nfrob\n")?;
-    assert_eq!(rt;
-        faults_of(alloc, text.as_str())?.as_str(),
-        "K:1: K06, K:66: K04, K:67: K01"
-    );
     Ok(())
 }

@@ -1,6 +1,5 @@
 //! Lists of lines that were cut before the end of their file.
-use crate::parsing::fault_of_cut;
-use crate::table::{rows, two_fields};
+use crate::table::{Shown, compare, compare_rows};
 use std::test::Fail;
 
 /// Texts with the fault of their lines without the end of the file.
@@ -16,20 +15,11 @@ menu "m"\nfrob\n | K:2: K04
 
 #[test]
 fn a_block_is_open_at_the_last_line_of_a_cut_list(rt: HostRuntime) -> Result<(), Fail> {
-    let alloc = rt.alloc();
-    for row in rows(alloc, CUT)? {
-        let (text, want) = two_fields(alloc, row)?;
-        let found = fault_of_cut(alloc, text.as_str())?;
-        assert_eq!(rt; found.as_str(), want.as_str(), "at {row}");
-    }
-    Ok(())
+    compare_rows(rt.alloc(), Shown::Cut, CUT)
 }
 
 #[test]
 fn an_open_block_comes_before_the_limit_of_blocks(rt: HostRuntime) -> Result<(), Fail> {
-    let alloc = rt.alloc();
-    let blocks = "if y\n".repeat(alloc, 65)?;
-    let found = fault_of_cut(alloc, blocks.as_str())?;
-    assert_eq!(rt; found.as_str(), "K:65: K07");
-    Ok(())
+    let blocks = "if y\n".repeat(rt.alloc(), 65)?;
+    compare(rt.alloc(), Shown::Cut, blocks.as_str(), "K:65: K07")
 }

@@ -1,5 +1,5 @@
 //! Which user values symbols take.
-use crate::parsing::shown;
+use crate::table::{Shown, compare};
 use kc_statement::SharedText;
 use kc_tree::{SymId, Tree, Tri, UserVal};
 use std::alloc::{AllocError, Global};
@@ -63,7 +63,7 @@ fn show_texts(
 }
 
 /// The symbols of a tree and one more, each with the values that it takes.
-fn show_taken(alloc: Global, tree: &Tree) -> Result<String, AllocError> {
+pub(crate) fn show_taken(alloc: Global, tree: &Tree) -> Result<String, AllocError> {
     let mut out = String::from_str(alloc, "\n")?;
     for number in 0..7 {
         let symbol = SymId(number);
@@ -78,7 +78,5 @@ fn show_taken(alloc: Global, tree: &Tree) -> Result<String, AllocError> {
 
 #[test]
 fn symbols_take_the_values_of_their_types(rt: HostRuntime) -> Result<(), Fail> {
-    let found = shown(rt.alloc(), SYMBOLS, show_taken)?;
-    assert_eq!(rt; found.as_str(), TAKEN);
-    Ok(())
+    compare(rt.alloc(), Shown::Taken, SYMBOLS, TAKEN)
 }

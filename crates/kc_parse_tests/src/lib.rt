@@ -1,5 +1,5 @@
-//! The tests of kc_text and kc_tree, over their public calls alone: lines of texts, what trees have of them, faults and
-//! limits, as definitions and worked examples have them.
+//! The tests of kc_text and kc_tree, over their public calls alone: lines of texts, all faults at once, what nodes
+//! use, and lists that were cut, as definitions and worked examples have them. What a case can show is in kc_cases.
 //!
 //! A crate with tests is proved twice, with them and without. With its tests here, each library is proved once.
 #![tactic(auto)]
@@ -7,25 +7,15 @@
 #[cfg(test)]
 mod all_faults;
 #[cfg(test)]
-mod counts;
-#[cfg(test)]
 mod cut;
 #[cfg(test)]
-mod expressions;
-#[cfg(test)]
 mod fitting;
-#[cfg(test)]
-mod forms;
 #[cfg(test)]
 mod line_showing;
 #[cfg(test)]
 mod lines;
 #[cfg(test)]
-mod loops;
-#[cfg(test)]
 mod nodes;
-#[cfg(test)]
-mod numerals;
 #[cfg(test)]
 mod parsing;
 #[cfg(test)]
@@ -34,9 +24,5 @@ mod sharing;
 mod sources;
 #[cfg(test)]
 mod table;
-#[cfg(test)]
-mod text_limits;
-#[cfg(test)]
-mod tree_showing;
 #[cfg(test)]
 mod variables;

@@ -1,11 +1,9 @@
 //! Lines of texts, faults, and what was added, as short texts.
-use crate::table::{rows, two_fields};
 use bumpalo::Bump;
 use kc_text::{
     Line, LineKind, Operator, Sources, TextFault, TextProblem, Token, Vars, logical_lines,
 };
 use std::alloc::{AllocError, Global};
-use std::process::Abort;
 use std::test::Fail;
 
 fn sign_of(operator: Operator) -> &'static str {
@@ -74,7 +72,7 @@ fn show_line(alloc: Global, out: &mut String, line: &Line<'_>) -> Result<(), All
 }
 
 /// A fault as `K02 K:1`, and a missing file as `K08 K:1 b`.
-pub(crate) fn show_fault(alloc: Global, fault: &TextFault) -> Result<String, AllocError> {
+fn show_fault(alloc: Global, fault: &TextFault) -> Result<String, AllocError> {
     let TextFault::At(problem, path, line) = fault else {
         return String::from_str(alloc, "no memory");
     };
@@ -109,60 +107,43 @@ pub(crate) fn lines_of(
     }
 }
 
-/// The lines of a file K, or the fault, once its files were added.
-pub(crate) fn lines_of_added(
-    alloc: Global,
-    sources: &Sources,
-    vars: &Vars,
-    added: Result<(), Fail>,
-) -> Result<String, Fail> {
-    added?;
-    Ok(lines_of(alloc, sources, vars, "K")?)
-}
-
-/// Adds files, each as its path and its text.
-fn add_files(sources: &mut Sources, files: &[(&str, &str)]) -> Result<(), Fail> {
-    for (path, text) in files {
+/// Adds files, each as `PATH: TEXT`, with ` & ` between two.
+fn add_files(sources: &mut Sources, files: &str) -> Result<(), Fail> {
+    for file in files.split(" & ") {
+        let (path, text) = file.split_once(": ").ok_or("no path")?;
         sources.add(path, text)?;
     }
     Ok(())
 }
 
-/// The lines of a file K among files with variables, or the fault.
-fn shown_with(alloc: Global, files: &[(&str, &str)], vars: &Vars) -> Result<String, Fail> {
+/// The lines of K among such files, or the fault.
+pub(crate) fn lines_of_files(alloc: Global, files: &str) -> Result<String, Fail> {
     let mut sources = Sources::new(alloc);
-    let added = add_files(&mut sources, files);
-    lines_of_added(alloc, &sources, vars, added)
-}
-
-/// The lines of a file K among files, or the fault.
-pub(crate) fn shown_among(alloc: Global, files: &[(&str, &str)]) -> Result<String, Fail> {
-    shown_with(alloc, files, &Vars::none(alloc))
-}
-
-/// The lines of a file K of this text, or the fault.
-pub(crate) fn shown(alloc: Global, text: &str) -> Result<String, Fail> {
-    shown_among(alloc, &[("K", text)])
+    add_files(&mut sources, files)?;
+    Ok(lines_of(alloc, &sources, &Vars::none(alloc), "K")?)
 }
 
 /// The lines of a file K of this text with the variables of pairs, or the fault of the pairs or of the text.
-pub(crate) fn shown_with_pairs(
+pub(crate) fn lines_of_pairs(
     alloc: Global,
     pairs: &[(&str, &str)],
     text: &str,
 ) -> Result<String, Fail> {
-    match Vars::from_pairs(alloc, pairs) {
-        Ok(vars) => shown_with(alloc, &[("K", text)], &vars),
-        Err(fault) => Ok(show_fault(alloc, &fault)?),
-    }
+    let vars = match Vars::from_pairs(alloc, pairs) {
+        Ok(vars) => vars,
+        Err(fault) => return Ok(show_fault(alloc, &fault)?),
+    };
+    let mut sources = Sources::new(alloc);
+    sources.add("K", text)?;
+    Ok(lines_of(alloc, &sources, &vars, "K")?)
 }
 
-/// Wants the lines of each text of a table, or its fault: each row has the text, and its lines or its fault.
-pub(crate) fn read_table(rt: &impl Abort, alloc: Global, table: &str) -> Result<(), Fail> {
-    for row in rows(alloc, table)? {
-        let (text, want) = two_fields(alloc, row)?;
-        let found = shown(alloc, text.as_str())?;
-        assert_eq!(rt; found.as_str(), want.as_str(), "at {row}");
+/// The same of a text with the pairs before it, each as `NAME=VALUE & `.
+pub(crate) fn lines_with_pairs(alloc: Global, text: &str) -> Result<String, Fail> {
+    let (before, text) = text.rsplit_once(" & ").ok_or("no pairs")?;
+    let mut pairs = Vec::new(alloc);
+    for pair in before.split(" & ") {
+        pairs.push(pair.split_once('=').ok_or("no pair")?)?;
     }
-    Ok(())
+    lines_of_pairs(alloc, pairs.as_slice(), text)
 }

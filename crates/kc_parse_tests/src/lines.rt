@@ -1,5 +1,5 @@
 //! Lines, tokens and help texts.
-use crate::line_showing::read_table;
+use crate::table::{Shown, compare_rows};
 use std::test::Fail;
 
 /// Texts with their lines, or their first fault.
@@ -35,7 +35,7 @@ default "$X | K10 K:1
 
 #[test]
 fn reads_lines(rt: HostRuntime) -> Result<(), Fail> {
-    read_table(&rt, rt.alloc(), LINES)
+    compare_rows(rt.alloc(), Shown::Lines, LINES)
 }
 
 /// Texts with lines that end in a backslash.
@@ -59,7 +59,7 @@ con\\\nfig A | [1 config A][3 end]
 
 #[test]
 fn joins_lines(rt: HostRuntime) -> Result<(), Fail> {
-    read_table(&rt, rt.alloc(), JOINED_LINES)
+    compare_rows(rt.alloc(), Shown::Lines, JOINED_LINES)
 }
 
 /// Texts with help texts.
@@ -90,5 +90,5 @@ help = x\n one | [2 one][3 end]
 
 #[test]
 fn takes_help_texts(rt: HostRuntime) -> Result<(), Fail> {
-    read_table(&rt, rt.alloc(), HELP_TEXTS)
+    compare_rows(rt.alloc(), Shown::Lines, HELP_TEXTS)
 }

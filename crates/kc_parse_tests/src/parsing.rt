@@ -3,10 +3,9 @@
 ghost use Rattle.std.specs.Prelude.{◌≤◌, length};
 ghost use Rattle.kc_text.specs.declared.reading.TheConstants.{MOST_LINES};
 
-use crate::tree_showing::node_word;
 use bumpalo::Bump;
 use kc_text::{Line, Sources, Vars, logical_lines};
-use kc_tree::{NamedNode, Seed, Tree, TreeFault, all_faults};
+use kc_tree::{Seed, Tree, TreeFault, all_faults};
 use std::alloc::{AllocError, Global};
 use std::test::Fail;
 
@@ -19,26 +18,23 @@ enum Part {
     Cut,
 }
 
-/// Nodes as ` val A -> vis B ->`.
-fn show_loop(alloc: Global, nodes: &[NamedNode]) -> Result<String, AllocError> {
-    let mut out = String::new(alloc);
-    for node in nodes {
-        let word = node_word(node.node);
-        let name = node.name.as_str();
-        out.push_str(format!(in alloc; " {word} {name} ->")?.as_str())?;
-    }
-    Ok(out)
+/// The lines of a part.
+fn lines_of_part<'a, 'b>(lines: &'a [Line<'b>], part: Part) -> &'a [Line<'b>]
+    ensures { length result.now ≤ length lines.now }
+{
+    let count = match part {
+        Part::Whole => lines.len(),
+        Part::Cut => lines.len().saturating_sub(1),
+    };
+    &lines[..count]
 }
 
-/// A fault as the program reports it, but a loop by its nodes.
+/// A fault as the program reports it.
 fn show_fault(alloc: Global, fault: &TreeFault) -> Result<String, AllocError> {
-    match fault {
-        TreeFault::Loop(nodes) => show_loop(alloc, nodes.as_slice()),
-        _ => format!(in alloc; "{fault}"),
-    }
+    format!(in alloc; "{fault}")
 }
 
-/// What a function shows of the tree of lines, or their fault.
+/// What a function shows of the tree of lines, or their fault. It owns a tree, so it has one way out for each.
 fn shown_of_lines<F: FnOnce(Global, &Tree) -> Result<String, AllocError>>(
     alloc: Global,
     lines: &[Line<'_>],
@@ -53,18 +49,7 @@ fn shown_of_lines<F: FnOnce(Global, &Tree) -> Result<String, AllocError>>(
     }
 }
 
-/// The lines of a part.
-fn lines_of_part<'a, 'b>(lines: &'a [Line<'b>], part: Part) -> &'a [Line<'b>]
-    ensures { length result.now ≤ length lines.now }
-{
-    let count = match part {
-        Part::Whole => lines.len(),
-        Part::Cut => lines.len().saturating_sub(1),
-    };
-    &lines[..count]
-}
-
-/// What a function shows of the tree of a file K, or its fault.
+/// What a function shows of the tree of a part of the lines of a file K.
 fn shown_of_sources<F: FnOnce(Global, &Tree) -> Result<String, AllocError>>(
     alloc: Global,
     sources: &Sources,
@@ -73,11 +58,10 @@ fn shown_of_sources<F: FnOnce(Global, &Tree) -> Result<String, AllocError>>(
 ) -> Result<String, Fail>
     requires { F.IsAlwaysCallable show }
 {
-    let vars = Vars::none(alloc);
-    let arena = Bump::new(alloc);
+    let (vars, arena) = (Vars::none(alloc), Bump::new(alloc));
     let lines = logical_lines(alloc, &arena, sources, &vars, "K")?;
-    let lines = lines_of_part(lines.as_slice(), part);
-    Ok(shown_of_lines(alloc, lines, show)?)
+    let shown = shown_of_lines(alloc, lines_of_part(lines.as_slice(), part), show);
+    Ok(shown?)
 }
 
 /// What a function shows of the tree of a part of a file K of this text, or its fault.
@@ -110,46 +94,46 @@ fn show_nothing(alloc: Global, _tree: &Tree) -> Result<String, AllocError> {
     String::from_str(alloc, "a tree")
 }
 
-/// The fault of a file K of this text, or that there is a tree.
-pub(crate) fn fault_of(alloc: Global, text: &str) -> Result<String, Fail> {
-    shown_of_part(alloc, text, Part::Whole, show_nothing)
-}
-
-/// The fault of the same lines without the end of the file.
+/// The fault of the lines of a text without the end of the file, or that they have a tree.
 pub(crate) fn fault_of_cut(alloc: Global, text: &str) -> Result<String, Fail> {
     shown_of_part(alloc, text, Part::Cut, show_nothing)
 }
 
-/// Faults with a comma and a blank between each two.
+/// Faults with a comma and a blank between each two, and that there is a tree where there are none.
 fn show_faults(alloc: Global, faults: &[TreeFault]) -> Result<String, AllocError> {
-    let mut out = String::new(alloc);
-    for fault in faults {
-        if !out.is_empty() {
-            out.push_str(", ")?;
-        }
+    let Some((first, others)) = faults.split_first() else {
+        return String::from_str(alloc, "a tree");
+    };
+    let mut out = show_fault(alloc, first)?;
+    for fault in others {
+        out.push_str(", ")?;
         out.push_str(show_fault(alloc, fault)?.as_str())?;
     }
     Ok(out)
 }
 
-/// All faults of a file K of these sources.
+/// All faults of lines, the first of which is that of `Tree::parse`.
+fn faults_of_lines(alloc: Global, lines: &[Line<'_>]) -> Result<String, Fail>
+    requires { length lines.now ≤ MOST_LINES }
+{
+    let first = shown_of_lines(alloc, lines, show_nothing)?;
+    let faults = show_faults(alloc, all_faults(alloc, Seed::fixed(), lines)?.as_slice())?;
+    if faults.starts_with(first.as_str()) {
+        return Ok(faults);
+    }
+    Err(Fail::new(format!(in alloc; "{first}, not the first of {faults}")?))
+}
+
+/// All faults of a file K.
 fn faults_of_sources(alloc: Global, sources: &Sources) -> Result<String, Fail> {
-    let vars = Vars::none(alloc);
-    let arena = Bump::new(alloc);
+    let (vars, arena) = (Vars::none(alloc), Bump::new(alloc));
     let lines = logical_lines(alloc, &arena, sources, &vars, "K")?;
-    let faults = all_faults(alloc, Seed::fixed(), lines.as_slice())?;
-    Ok(show_faults(alloc, faults.as_slice())?)
+    faults_of_lines(alloc, lines.as_slice())
 }
 
-/// All faults of a file K of this text.
+/// All faults of a file K. K may source a file b, which comes after ` & `.
 pub(crate) fn faults_of(alloc: Global, text: &str) -> Result<String, Fail> {
-    let mut sources = Sources::new(alloc);
-    sources.add("K", text)?;
-    faults_of_sources(alloc, &sources)
-}
-
-/// All faults of a file K, which may source a file b.
-pub(crate) fn faults_of_files(alloc: Global, top: &str, sourced: &str) -> Result<String, Fail> {
+    let (top, sourced) = text.split_once(" & ").unwrap_or((text, ""));
     let mut sources = Sources::new(alloc);
     sources.add("K", top)?;
     sources.add("b", sourced)?;

@@ -1,37 +1,43 @@
 //! How much the tables of a tree take: a list that many nodes read is there once.
-use crate::parsing::shown;
+use crate::table::{Shown, compare};
 use kc_graph::Rows;
 use kc_tree::Tree;
 use std::alloc::{AllocError, Global};
 use std::test::Fail;
 
-/// How many symbols a menu depends on, and how many are in it.
+/// How many symbols there are in a condition, and how many under it.
 const COUNT: u32 = 1_000;
 
 /// The numbers that a node has in a table, on average, where no long list is there twice.
 const MOST_OF_A_NODE: usize = 8;
 
-/// Adds `COUNT` symbols, whose names begin with this letter.
-fn push_symbols(alloc: Global, text: &mut String, letter: &str) -> Result<(), AllocError> {
+/// `COUNT` symbols, whose names begin with this letter.
+fn symbols(alloc: Global, letter: &str) -> Result<String, AllocError> {
+    let mut text = String::new(alloc);
     for number in 0..COUNT {
         let entry = format!(in alloc; "config {letter}{number}\n\tbool \"p\"\n")?;
         text.push_str(entry.as_str())?;
     }
-    Ok(())
+    Ok(text)
 }
 
-/// A text of symbols and of a line, which begins with this word, that depends on all of them, with symbols inside.
-fn menu(alloc: Global, word: &str) -> Result<String, AllocError> {
-    let mut text = String::new(alloc);
-    push_symbols(alloc, &mut text, "A")?;
-    text.push_str(word)?;
-    for number in 0..COUNT {
-        let before = if number == 0 { "" } else { " ||" };
-        text.push_str(format!(in alloc; "{before} A{number}")?.as_str())?;
+/// The condition that one of them is not n.
+fn condition(alloc: Global) -> Result<String, AllocError> {
+    let mut text = String::from_str(alloc, "A0")?;
+    for number in 1..COUNT {
+        text.push_str(format!(in alloc; " || A{number}")?.as_str())?;
     }
-    text.push_str("\n")?;
-    push_symbols(alloc, &mut text, "M")?;
     Ok(text)
+}
+
+/// Symbols, and others under three lines that each have this condition.
+fn kconfig(alloc: Global) -> Result<String, AllocError> {
+    let (before, inside) = (symbols(alloc, "A")?, symbols(alloc, "M")?);
+    let condition = condition(alloc)?;
+    let menu = "menu \"m\"\n\tdepends on";
+    format!(in alloc;
+        "{before}if {condition}\n{menu} {condition}\n\tvisible if {condition}\n{inside}endmenu\nendif\n"
+    )
 }
 
 /// How many numbers the rows of a table have.
@@ -44,7 +50,7 @@ fn numbers_in(table: &Rows) -> usize {
 }
 
 /// What is wrong with the size of a tree's tables.
-fn show_size(alloc: Global, tree: &Tree) -> Result<String, AllocError> {
+pub(crate) fn show_size(alloc: Global, tree: &Tree) -> Result<String, AllocError> {
     let most = tree.node_count().saturating_mul(MOST_OF_A_NODE);
     let used = numbers_in(tree.use_table());
     let users = numbers_in(tree.user_table());
@@ -56,16 +62,6 @@ fn show_size(alloc: Global, tree: &Tree) -> Result<String, AllocError> {
 
 #[test]
 fn a_list_that_many_nodes_read_is_there_once(rt: HostRuntime) -> Result<(), Fail> {
-    let alloc = rt.alloc();
-    for (word, end) in [
-        ("if", "endif\n"),
-        ("menu \"m\"\n\tdepends on", "endmenu\n"),
-        ("menu \"m\"\n\tvisible if", "endmenu\n"),
-    ] {
-        let mut text = menu(alloc, word)?;
-        text.push_str(end)?;
-        let found = shown(alloc, text.as_str(), show_size)?;
-        assert_eq!(rt; found.as_str(), "small", "after {word}");
-    }
-    Ok(())
+    let text = kconfig(rt.alloc())?;
+    compare(rt.alloc(), Shown::Size, text.as_str(), "small")
 }

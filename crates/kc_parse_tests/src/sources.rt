@@ -1,8 +1,6 @@
 //! Files in place of `source` lines.
-use crate::line_showing::lines_of_added;
-use crate::table::{rows, two_fields};
-use kc_text::{Sources, Vars};
-use std::alloc::Global;
+use crate::table::{Shown, compare, compare_rows};
+use std::alloc::{AllocError, Global};
 use std::test::Fail;
 
 /// Files, each as `path: text` with ` & ` between them, and the lines of K or the fault.
@@ -27,41 +25,34 @@ K: source "K" @ | K02 K:1
 K: source "b"\n@ & b: \n@ | K02 b:2
 "#;
 
-/// Adds such files.
-fn add_all(sources: &mut Sources, files: &str) -> Result<(), Fail> {
-    for file in files.split(" & ") {
-        let (path, text) = file.split_once(": ").ok_or("no path")?;
-        sources.add(path, text)?;
-    }
-    Ok(())
-}
-
-/// The lines of K among such files, or the fault.
-fn shown_among(alloc: Global, files: &str) -> Result<String, Fail> {
-    let mut sources = Sources::new(alloc);
-    let added = add_all(&mut sources, files);
-    lines_of_added(alloc, &sources, &Vars::none(alloc), added)
-}
-
 #[test]
 fn puts_files_in_place(rt: HostRuntime) -> Result<(), Fail> {
-    let alloc = rt.alloc();
-    for row in rows(alloc, FILES)? {
-        let (files, want) = two_fields(alloc, row)?;
-        let found = shown_among(alloc, files.as_str())?;
-        assert_eq!(rt; found.as_str(), want.as_str(), "at {row}");
+    compare_rows(rt.alloc(), Shown::Files, FILES)
+}
+
+/// Files that each source the next. K is the first, and the last has this text.
+fn nested(alloc: Global, depth: usize, last: &str) -> Result<String, AllocError> {
+    let mut files = String::from_str(alloc, "K: source \"2\"")?;
+    for i in 2..depth {
+        let next = i + 1;
+        files.push_str(format!(in alloc; " & {i}: source \"{next}\"")?.as_str())?;
     }
-    Ok(())
+    files.push_str(format!(in alloc; " & {depth}: {last}")?.as_str())?;
+    Ok(files)
 }
 
 #[test]
-fn texts_are_lent_and_taken_by_their_paths(rt: HostRuntime) -> Result<(), Fail> {
-    let mut sources = Sources::new(rt.alloc());
-    add_all(&mut sources, "a: A & b: B")?;
-    assert_eq!(rt; sources.text("b").unwrap_or("none"), "B");
-    let taken = sources.take("a").ok_or("no text")?;
-    assert_eq!(rt; taken.as_str(), "A");
-    assert_eq!(rt; sources.text("a").unwrap_or("none"), "none");
-    assert!(rt; sources.take("a").is_none(), "taken twice");
+fn keeps_the_limit_of_depth(rt: HostRuntime) -> Result<(), Fail> {
+    for (depth, last, want) in [
+        (64, "@", "K02 64:1"),
+        (65, "@", "K01 64:1"),
+        // A file within itself is found before the depth, and the depth before a file that is missing.
+        (64, "source \"K\"", "K09 64:1"),
+        (64, "source \"missing\"", "K01 64:1"),
+        (63, "source \"missing\"", "K08 63:1 missing"),
+    ] {
+        let files = nested(rt.alloc(), depth, last)?;
+        compare(rt.alloc(), Shown::Files, files.as_str(), want)?;
+    }
     Ok(())
 }

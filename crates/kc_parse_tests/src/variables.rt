@@ -1,5 +1,5 @@
 //! Variables, references and what is passed in.
-use crate::line_showing::{read_table, shown_with_pairs};
+use crate::table::{Shown, compare, compare_rows};
 use std::test::Fail;
 
 /// Texts with references, and what these give.
@@ -39,7 +39,7 @@ config A\nB = 1\nbool | [1 config A][3 bool][4 end]
 
 #[test]
 fn follows_references(rt: HostRuntime) -> Result<(), Fail> {
-    read_table(&rt, rt.alloc(), REFERENCES)
+    compare_rows(rt.alloc(), Shown::Lines, REFERENCES)
 }
 
 /// Texts with references at fault, and some that look so.
@@ -79,41 +79,47 @@ A = $(A)\ndefault $X$(A) | K10 K:2
 
 #[test]
 fn refuses_references(rt: HostRuntime) -> Result<(), Fail> {
-    read_table(&rt, rt.alloc(), REFUSED_REFERENCES)
+    compare_rows(rt.alloc(), Shown::Lines, REFUSED_REFERENCES)
 }
+
+/// Variables that are passed in, each with ` & ` after it, and a text with its lines or the first fault.
+const PASSED_IN: &str = r#"
+A=a & B=$(A) & A=later & default $(A) | [1 default <later>][2 end]
+// Its text is taken as it is.
+A=a & B=$(A) & A=later & default '$(B)' | [1 default "$(A)"][2 end]
+A=a & B=$(A) & A=later & A = own\ndefault $(A) | [2 default <own>][3 end]
+// `+=` for such a name acts as `=`.
+A=a & B=$(A) & A=later & A += own\ndefault $(A) | [2 default <own>][3 end]
+A=a & B=$(A) & A=later & A := $(A)s\ndefault $(A) | [2 default <laters>][3 end]
+A=é @ $( &  | [1 end]
+// Texts that can't be passed in.
+A=a\nb &  | K02 A:0
+A=a & B=\r &  | K02 B:0
+A=\0 & A=a &  | K02 A:0
+B=\t & A=\n &  | K02 A:0
+"#;
 
 #[test]
 fn takes_what_is_passed_in(rt: HostRuntime) -> Result<(), Fail> {
-    let pairs = [("A", "a"), ("B", "$(A)"), ("A", "later")];
-    let table = [
-        ("default $(A)", "[1 default <later>][2 end]"),
-        // Its text is taken as it is.
-        ("default '$(B)'", "[1 default \"$(A)\"][2 end]"),
-        ("A = own\ndefault $(A)", "[2 default <own>][3 end]"),
-        // `+=` for such a name acts as `=`.
-        ("A += own\ndefault $(A)", "[2 default <own>][3 end]"),
-        ("A := $(A)s\ndefault $(A)", "[2 default <laters>][3 end]"),
-    ];
-    for (text, want) in table {
-        let found = shown_with_pairs(rt.alloc(), pairs.as_slice(), text)?;
-        assert_eq!(rt; found.as_str(), want, "at {text:?}");
-    }
-    Ok(())
+    compare_rows(rt.alloc(), Shown::Pairs, PASSED_IN)
 }
 
+/// Lengths of a text that is passed in as A, what comes after it, and the lines or the first fault.
+const LENGTHS: [(usize, &str, &str); 5] = [
+    (65_536, " & B := $(A)", "[2 end]"),
+    (65_536, " & B := $(A)x", "K01 K:1"),
+    (65_537, " & ", "K01 A:0"),
+    (65_537, "\n & ", "K02 A:0"),
+    (65_537, " & B=\n & ", "K01 A:0"),
+];
+
 #[test]
-fn refuses_texts_that_are_passed_in(rt: HostRuntime) -> Result<(), Fail> {
-    let table: [(&[(&str, &str)], &str); 5] = [
-        (&[("A", "a\nb")], "K02 A:0"),
-        (&[("A", "a"), ("B", "\r")], "K02 B:0"),
-        (&[("A", "\0"), ("A", "a")], "K02 A:0"),
-        (&[("B", "\t"), ("A", "\n")], "K02 A:0"),
-        // These are taken.
-        (&[("A", "é @ $(")], "[1 end]"),
-    ];
-    for (pairs, want) in table {
-        let found = shown_with_pairs(rt.alloc(), pairs, "")?;
-        assert_eq!(rt; found.as_str(), want);
+fn keeps_the_limit_of_a_text_that_is_passed_in(rt: HostRuntime) -> Result<(), Fail> {
+    let alloc = rt.alloc();
+    for (length, after, want) in LENGTHS {
+        let value = "x".repeat(alloc, length)?;
+        let text = format!(in alloc; "A={value}{after}")?;
+        compare(alloc, Shown::Pairs, text.as_str(), want)?;
     }
     Ok(())
 }
