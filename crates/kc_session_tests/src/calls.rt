@@ -1,15 +1,17 @@
 //! The calls of kc_value over a fresh resolver and over a session: both give the same answers, which are those
-//! of worked examples.
+//! of worked examples. And the rule of a node by itself.
 ghost use Rattle.std.specs.Prelude.{◌≡◌, IsTrue};
 ghost use Rattle.kc_tree.specs.declared.node.Node.TheVariants.{Vis, Sel};
 ghost use Rattle.kc_tree.specs.Nodes.{IsNodeOf};
 
+use crate::reasons::reason_of_symbol;
 use crate::serving::{in_session, replies_in};
-use crate::table::{rows, three_fields, two_fields};
+use crate::table::{rows, three_fields};
 use kc_session::Session;
 use kc_tree::{ChoiceId, Node, SymId, Tree, Tri};
 use kc_value::{
-    Fresh, KeptValues, Known, Meter, Resolver, User, Value, assignable, eval, tri, without_user,
+    Fresh, KeptValues, Known, Meter, NodeValues, Resolver, User, Value, assignable, eval,
+    without_user,
 };
 use std::alloc::Global;
 use std::test::Fail;
@@ -92,161 +94,93 @@ fn answer_for_choice<R: Resolver>(alloc: Global, resolver: &mut R) -> Result<Str
     Ok(format!(in alloc; "without={without}")?)
 }
 
-/// What a symbol could be, or, where none has the name, the first choice.
-fn answer<R: Resolver>(alloc: Global, resolver: &mut R, name: &str) -> Result<String, Fail> {
+/// What is asked of a resolver about a symbol.
+#[derive(Clone, Copy)]
+pub(crate) enum Question {
+    /// What it could be. Where no symbol has the name, the first choice is asked.
+    CouldBe,
+    /// Why it has its value.
+    Why,
+}
+
+/// What a resolver answers about the symbol of a name.
+fn answer<R: Resolver>(
+    alloc: Global,
+    resolver: &mut R,
+    question: Question,
+    name: &str,
+) -> Result<String, Fail> {
     let symbol = resolver.tree().find(name);
-    match symbol {
-        Some(symbol) => answer_for_symbol(alloc, resolver, symbol),
-        None => answer_for_choice(alloc, resolver),
+    match (question, symbol) {
+        (Question::CouldBe, Some(symbol)) => answer_for_symbol(alloc, resolver, symbol),
+        (Question::CouldBe, None) => answer_for_choice(alloc, resolver),
+        (Question::Why, Some(symbol)) => Ok(reason_of_symbol(alloc, resolver, symbol)?),
+        (Question::Why, None) => Err(Fail::new(format!(in alloc; "no symbol {name}")?)),
     }
 }
 
-/// What symbols could be whose names begin the lines of a text.
-fn answers<R: Resolver>(alloc: Global, resolver: &mut R, lines: &str) -> Result<String, Fail> {
+/// What a resolver answers about the symbols whose names begin the lines of a text.
+fn answers<R: Resolver>(
+    alloc: Global,
+    resolver: &mut R,
+    question: Question,
+    lines: &str,
+) -> Result<String, Fail> {
     let mut out = String::new(alloc);
     for line in lines.lines() {
         let (name, _) = line.split_once(' ').ok_or("a line without a name")?;
-        let answer = answer(alloc, resolver, name)?;
+        let answer = answer(alloc, resolver, question, name)?;
         out.push_str(format!(in alloc; "{name} {answer}\n")?.as_str())?;
     }
     Ok(out)
 }
 
 /// The same over a fresh resolver, for the tree and the user values of a session.
-fn fresh_answers(alloc: Global, session: &Session, lines: &str) -> Result<String, Fail> {
+fn fresh_answers(
+    alloc: Global,
+    session: &Session,
+    question: Question,
+    lines: &str,
+) -> Result<String, Fail> {
     let mut resolver = Fresh::new(alloc, session.tree(), session.user());
-    answers(alloc, &mut resolver, lines)
+    answers(alloc, &mut resolver, question, lines)
 }
 
-/// Wants these answers after commands, from a fresh resolver, from the session, and from what it has kept by
-/// then.
+/// Wants these answers after commands, from a fresh resolver, from the session, and from what it has kept by then.
+/// And wants the rule of each node to give its value.
 fn compare_answers(
     alloc: Global,
     session: &mut Session,
+    question: Question,
     commands: &str,
     want: &str,
 ) -> Result<(), Fail> {
     let _ = replies_in(alloc, session, commands)?;
-    let fresh = fresh_answers(alloc, session, want)?;
-    let first = answers(alloc, session, want)?;
-    let second = answers(alloc, session, want)?;
-    if fresh.as_str() == want && first.as_str() == want && second.as_str() == want {
+    let fresh = fresh_answers(alloc, session, question, want)?;
+    let first = answers(alloc, session, question, want)?;
+    let second = answers(alloc, session, question, want)?;
+    let rules = show_rules(alloc, session)?;
+    let is_so = fresh.as_str() == want && first.as_str() == want && second.as_str() == want;
+    if is_so && rules.as_str() == "0 true" {
         return Ok(());
     }
-    Err(Fail::new(format!(in alloc; "{fresh}, {first}, {second}")?))
+    Err(Fail::new(format!(in alloc; "{fresh}, {first}, {second}, {rules}")?))
 }
 
-#[test]
-fn resolvers_say_what_a_symbol_could_be(rt: HostRuntime) -> Result<(), Fail> {
-    let alloc = rt.alloc();
-    for row in rows(alloc, ANSWERS)? {
+/// Wants the answers of a table: each row has a Kconfig, commands, and the answers after them.
+pub(crate) fn compare_rows(alloc: Global, question: Question, table: &str) -> Result<(), Fail> {
+    for row in rows(alloc, table)? {
         let (kconfig, commands, want) = three_fields(alloc, row)?;
         in_session(alloc, kconfig.as_str(), |alloc, session| {
-            compare_answers(alloc, session, commands.as_str(), want.as_str())
+            compare_answers(alloc, session, question, commands.as_str(), want.as_str())
         })?;
     }
     Ok(())
 }
 
-/// A symbol of each type that has a value, where modules are built.
-const SYMBOLS: &str = r#"
-config MODULES
-    def_bool y
-    modules
-config Y
-    def_bool y
-config N
-    bool "n"
-config M
-    def_tristate m
-config I
-    int
-    default 10
-config J
-    int
-    default 9
-config S
-    string
-    default "10"
-config T
-    string
-    default "9"
-"#;
-
-/// Conditions with their values. The texts of I and J are compared as numbers, and those of S and T as texts.
-const CONDITIONS: &str = r#"
-I < J | n
-S < T | y
-FOO = FOO | y
-FOO | n
-Y | y
-!Y | n
-!Y = y | n
-!N = y | y
-!M | m
-m | m
-"m" | m
-Y && M | m
-N && M | n
-N || M | m
-Y || FOO | y
-I | n
-S | n
-M = m | y
-I != "10" | n
-(I >= J) && !(S > T) | y
-"#;
-
-/// The value of the condition of the first block of a tree.
-fn first_condition(known: &Known<'_>) -> Result<Tri, Fail> {
-    let block = known.tree().blocks().first().ok_or("no block")?;
-    let condition = block.depends().first().ok_or("no condition")?;
-    Ok(tri(known, condition))
-}
-
-/// The value of the condition of the first block, and the visibility of the symbol in it.
-fn condition<R: Resolver>(alloc: Global, resolver: &mut R) -> Result<String, Fail> {
-    resolver.fill_all()?;
-    let solved = resolver.solved();
-    let known = solved.known();
-    let inside = known.tree().find("INSIDE").ok_or("no symbol INSIDE")?;
-    let condition = first_condition(known)?.letter();
-    let visibility = known.tri(Node::Vis(inside)).letter();
-    Ok(format!(in alloc; "{condition} {visibility}")?)
-}
-
-/// The same over a fresh resolver.
-fn fresh_condition(alloc: Global, session: &Session) -> Result<String, Fail> {
-    let mut resolver = Fresh::new(alloc, session.tree(), session.user());
-    condition(alloc, &mut resolver)
-}
-
-/// Wants this value of the condition, over all values of a fresh resolver and over those of the session.
-fn compare_conditions(alloc: Global, session: &mut Session, want: &str) -> Result<(), Fail> {
-    let want = format!(in alloc; "{want} {want}")?;
-    let fresh = fresh_condition(alloc, session)?;
-    let kept = condition(alloc, session)?;
-    if fresh.as_str() == want.as_str() && kept.as_str() == want.as_str() {
-        return Ok(());
-    }
-    Err(Fail::new(format!(in alloc; "{fresh}, {kept}, not {want}")?))
-}
-
 #[test]
-fn conditions_have_values(rt: HostRuntime) -> Result<(), Fail> {
-    let alloc = rt.alloc();
-    for row in rows(alloc, CONDITIONS)? {
-        let (condition, want) = two_fields(alloc, row)?;
-        let kconfig = format!(in alloc;
-            "{SYMBOLS}if {condition}\nconfig INSIDE\ntristate \"i\"\nendif\n"
-        )?;
-        in_session(
-            alloc,
-            kconfig.as_str(),
-            |alloc, session| compare_conditions(alloc, session, want.as_str()),
-        )?;
-    }
-    Ok(())
+fn resolvers_say_what_a_symbol_could_be(rt: HostRuntime) -> Result<(), Fail> {
+    compare_rows(rt.alloc(), Question::CouldBe, ANSWERS)
 }
 
 /// The value of a node: its text, whether the `.config` has a line for it, and the member that is selected.
@@ -290,34 +224,47 @@ fn show_rules<R: Resolver>(alloc: Global, resolver: &mut R) -> Result<String, Fa
     Ok(format!(in alloc; "{at_odds} {counted}")?)
 }
 
-/// The same over a fresh resolver.
-fn show_fresh_rules(alloc: Global, session: &Session) -> Result<String, Fail> {
-    let mut resolver = Fresh::new(alloc, session.tree(), session.user());
-    show_rules(alloc, &mut resolver)
+/// What the rule of R gives where no node has a value, whether the `.config` has a line for it, and the count of rules
+/// that were evaluated.
+fn show_rule(alloc: Global, tree: &Tree) -> Result<String, Fail> {
+    let symbol = tree.find("R").ok_or("no symbol R")?;
+    let user = User::empty(alloc, tree)?;
+    let none = NodeValues::empty(alloc, 0)?;
+    let (_, mut meter) = KeptValues::new(alloc, tree)?.into_parts();
+    let known = Known::of_nodes(tree, &none);
+    evaluated(alloc, &known, &user, symbol, &mut meter)
 }
 
-/// Wants the rule of each node to give its value, over the values of a fresh resolver and over those of the
-/// session, after commands.
-fn compare_rules(alloc: Global, session: &mut Session, commands: &str) -> Result<(), Fail> {
-    let _ = replies_in(alloc, session, commands)?;
-    let fresh = show_fresh_rules(alloc, session)?;
-    let kept = show_rules(alloc, session)?;
-    if fresh.as_str() == "0 true" && kept.as_str() == "0 true" {
+/// What the rule of a symbol gives over these values, and the count.
+fn evaluated(
+    alloc: Global,
+    known: &Known<'_>,
+    user: &User,
+    symbol: SymId,
+    meter: &mut Meter,
+) -> Result<String, Fail> {
+    let value = eval(alloc, known, user, Node::Val(symbol), meter)?;
+    let (text, is_written, count) = (value.as_text(), value.is_written(), meter.count());
+    Ok(format!(in alloc; "{text} {is_written} {count}")?)
+}
+
+/// Wants of the rule of R in a Kconfig what it gives where no node has a value.
+fn compare_rule(alloc: Global, kconfig: &str, want: &str) -> Result<(), Fail> {
+    let found = in_session(alloc, kconfig, |alloc, session| {
+        show_rule(alloc, session.tree())
+    })?;
+    if found.as_str() == want {
         return Ok(());
     }
-    Err(Fail::new(format!(in alloc; "{fresh}, {kept}")?))
+    Err(Fail::new(format!(in alloc; "{found} at {kconfig:?}")?))
 }
 
 #[test]
-fn values_are_what_their_rules_give(rt: HostRuntime) -> Result<(), Fail> {
-    let alloc = rt.alloc();
-    for row in rows(alloc, ANSWERS)? {
-        let (kconfig, commands, _) = three_fields(alloc, row)?;
-        in_session(
-            alloc,
-            kconfig.as_str(),
-            |alloc, session| compare_rules(alloc, session, commands.as_str()),
-        )?;
-    }
-    Ok(())
+fn a_rule_takes_n_for_what_has_no_value(rt: HostRuntime) -> Result<(), Fail> {
+    compare_rule(rt.alloc(), "config R\ndef_bool y\n", "y true 1")?;
+    compare_rule(
+        rt.alloc(),
+        "config A\ndef_bool y\nconfig R\ndef_bool A\n",
+        "n false 1",
+    )
 }

@@ -1,8 +1,9 @@
-//! Whole streams, where each call fails in turn.
+//! A whole stream of commands, where each call of its reader and of its writer fails in turn: what is written, and
+//! the user values that the session is left with.
 use crate::failing::{FailingReader, FailingWriter, Failure, NEVER};
-use crate::serving::{serve, want};
-use crate::table::{rows, two_fields};
-use kc_session::IoFault;
+use crate::serving::{Served, in_session, serve};
+use crate::table::{rows, three_fields};
+use kc_session::{IoFault, Session};
 use std::alloc::Global;
 use std::test::Fail;
 
@@ -16,138 +17,188 @@ config B
     depends on A
 "#;
 
-/// Commands with their replies.
+/// Commands with their replies, and the user values after each.
 const COMMANDS: &str = r#"
-set A n\n | ok\n
-config\n | # CONFIG_A is not set\nok\n
-unset A\n | ok\n
-frob\n | refused 1\n
+set A n\n | ok\n | A=n,
+config\n | # CONFIG_A is not set\nok\n | A=n,
+set B y\n | ok\n | A=n,B=y,
+load 3\nCONFIG_B=n\nCONFIG_U=y\nCONFIG_A=y\n | warning 2 1\nok\n | A=y,B=n,
+unset A\n | ok\n | B=n,
+merge 1\nCONFIG_A=n\n | ok\n | A=n,B=n,
+frob\n | refused 1\n | A=n,B=n,
+reset\n | ok\n | -
 "#;
 
-/// How many commands these are.
-const COUNT: usize = 4;
+/// Calls of a stream, one of which fails.
+#[derive(Clone, Copy, Debug)]
+enum Calls {
+    /// Reads, each of one byte.
+    Reads,
+    /// Writes, each of one byte.
+    Writes,
+    /// Flushes.
+    Flushes,
+}
 
-/// The commands as a stream.
-fn all_commands(alloc: Global) -> Result<String, Fail> {
-    let mut stream = String::new(alloc);
+/// All commands joined, and all replies.
+#[derive(Drop)]
+struct Script {
+    stream: String,
+    replies: String,
+    /// After each command.
+    places: Vec<Place>,
+}
+
+/// A place after a command and its reply.
+#[derive(Drop)]
+struct Place {
+    /// How many bytes the commands have up to here.
+    read: usize,
+    /// How many bytes the replies have up to here.
+    written: usize,
+    /// The user values here.
+    user: String,
+}
+
+/// The script of the table.
+fn read_script(alloc: Global) -> Result<Script, Fail> {
+    let mut script = Script {
+        stream: String::new(alloc),
+        replies: String::new(alloc),
+        places: Vec::new(alloc),
+    };
     for row in rows(alloc, COMMANDS)? {
-        let (command, _) = two_fields(alloc, row)?;
-        stream.push_str(command.as_str())?;
+        let (command, reply, user) = three_fields(alloc, row)?;
+        script.stream.push_str(command.as_str())?;
+        script.replies.push_str(reply.as_str())?;
+        let (read, written) = (script.stream.len(), script.replies.len());
+        script.places.push(Place {
+            read,
+            written,
+            user,
+        })?;
     }
-    Ok(stream)
+    Ok(script)
 }
 
-/// The replies to the first commands.
-fn first_replies(alloc: Global, count: usize) -> Result<String, Fail> {
-    let mut replies = String::new(alloc);
-    for row in rows(alloc, COMMANDS)?.iter().take(count) {
-        let (_, reply) = two_fields(alloc, row)?;
-        replies.push_str(reply.as_str())?;
+impl Script {
+    /// How many calls there are.
+    fn count(&self, calls: Calls) -> usize {
+        match calls {
+            Calls::Reads => self.stream.len(),
+            Calls::Writes => self.replies.len(),
+            Calls::Flushes => self.places.len(),
+        }
     }
-    Ok(replies)
+
+    /// How many commands were done where the call of this number fails: those that were read completely, up to that
+    /// whose reply failed.
+    fn done(&self, calls: Calls, call: usize) -> usize {
+        let places = self.places.iter();
+        match calls {
+            Calls::Reads => places.filter(|place| place.read <= call).count(),
+            Calls::Writes => places.filter(|place| place.written <= call).count() + 1,
+            Calls::Flushes => call.saturating_add(1),
+        }
+    }
+
+    /// How many bytes of the replies were written, and the user values, where the call of this number fails.
+    fn left(&self, calls: Calls, call: usize) -> (usize, &str) {
+        let (written, user) = match self.places.get(self.done(calls, call).wrapping_sub(1)) {
+            Some(place) => (place.written, place.user.as_str()),
+            None => (0, "-"),
+        };
+        match calls {
+            Calls::Reads | Calls::Flushes => (written, user),
+            Calls::Writes => (call, user),
+        }
+    }
 }
 
-/// How many line feeds the first bytes of a text have.
-fn lines_in(text: &str, count: usize) -> usize {
-    text.bytes().take(count).filter(|b| *b == b'\n').count()
+/// Serves the stream of a script, in which a call fails.
+fn serve_failing(
+    alloc: Global,
+    session: &mut Session,
+    stream: &str,
+    calls: Calls,
+    call: u64,
+    failure: Failure,
+) -> Result<Served, Fail> {
+    let (read, write, flush) = match calls {
+        Calls::Reads => (call, NEVER, NEVER),
+        Calls::Writes => (NEVER, call, NEVER),
+        Calls::Flushes => (NEVER, NEVER, call),
+    };
+    let reader = FailingReader::new(stream.as_bytes(), 1, read).with(failure);
+    let writer = FailingWriter::new(alloc, 1, write, flush).with(failure);
+    serve(alloc, session, reader, writer)
 }
 
-/// Fails each read in turn.
-fn fail_each_read(alloc: Global, failure: Failure) -> Result<(), Fail> {
-    let stream = all_commands(alloc)?;
-    for call in 0..stream.len() {
-        let reader = FailingReader::new(stream.as_bytes(), 1, call as u64).with(failure);
-        let writer = FailingWriter::new(alloc, 7, NEVER, NEVER);
-        let served = serve(alloc, TWO_BOOLS, reader, writer, "")?;
-        let replies = first_replies(alloc, lines_in(stream.as_str(), call))?;
-        let read = Err(IoFault::Read);
-        want(alloc, &served, read, replies.as_str(), "", call)?;
+/// Fails the call of a number in a session of its own, and wants what that leaves.
+fn fail_call(
+    alloc: Global,
+    script: &Script,
+    calls: Calls,
+    call: usize,
+    failure: Failure,
+) -> Result<(), Fail> {
+    let stream = script.stream.as_str();
+    let served = in_session(alloc, TWO_BOOLS, |alloc, session| {
+        serve_failing(alloc, session, stream, calls, call as u64, failure)
+    })?;
+    let (written, user) = script.left(calls, call);
+    let end = match calls {
+        Calls::Reads => IoFault::Read,
+        Calls::Writes | Calls::Flushes => IoFault::Write,
+    };
+    let replies = script.replies.as_str().as_bytes().get(..written);
+    let is_left = served.end == Err(end) && served.user.as_str() == user;
+    if is_left && replies == Some(served.taken.as_slice()) {
+        return Ok(());
     }
-    Ok(())
+    let found = String::from_utf8_lossy(alloc, served.taken.as_slice())?;
+    let (end, found_user) = (&served.end, served.user.as_str());
+    Err(Fail::new(format!(in alloc;
+        "{calls:?} {call} {failure:?}: {end:?} after {found:?}, with {found_user}, not {user}"
+    )?))
 }
 
 #[test]
-fn a_failed_read_leaves_the_replies_to_whole_lines(rt: HostRuntime) -> Result<(), Fail> {
-    for failure in [Failure::Interrupted, Failure::Other] {
-        fail_each_read(rt.alloc(), failure)?;
-    }
-    Ok(())
-}
-
-#[test]
-fn a_read_that_fails_within_a_body_loads_nothing(rt: HostRuntime) -> Result<(), Fail> {
-    let line = "load 2\n";
-    let stream = "load 2\n# CONFIG_A is not set\n# CONFIG_B is not set\n";
-    for call in line.len()..stream.len() {
-        let reader = FailingReader::new(stream.as_bytes(), 1, call as u64);
-        let writer = FailingWriter::new(rt.alloc(), 7, NEVER, NEVER);
-        let served = serve(rt.alloc(), TWO_BOOLS, reader, writer, "show A\n")?;
-        let shown = "A type=bool value=y vis=y can=n,y user=-\nok\n";
-        want(rt.alloc(), &served, Err(IoFault::Read), "", shown, call)?;
-    }
-    Ok(())
-}
-
-/// Fails each write in turn.
-fn fail_each_write(alloc: Global, failure: Failure) -> Result<(), Fail> {
-    let stream = all_commands(alloc)?;
-    let whole = first_replies(alloc, COUNT)?;
-    for call in 0..whole.len() {
-        let reader = FailingReader::new(stream.as_bytes(), 100, NEVER);
-        let writer = FailingWriter::new(alloc, 1, call as u64, NEVER).with(failure);
-        let served = serve(alloc, TWO_BOOLS, reader, writer, "")?;
-        let beginning = std::str::from_utf8(&whole.as_bytes()[..call])?;
-        let write = Err(IoFault::Write);
-        want(alloc, &served, write, beginning, "", call)?;
-    }
-    Ok(())
-}
-
-#[test]
-fn a_failed_write_leaves_a_beginning(rt: HostRuntime) -> Result<(), Fail> {
-    for failure in [Failure::Interrupted, Failure::Other, Failure::NoByte] {
-        fail_each_write(rt.alloc(), failure)?;
-    }
-    Ok(())
-}
-
-#[test]
-fn a_failed_write_leaves_the_effect_of_its_command(rt: HostRuntime) -> Result<(), Fail> {
-    let stream = all_commands(rt.alloc())?;
-    // The byte that can't be written, and the user value of A that `show A` then has.
-    for (call, end) in [
-        (0, "user=n\nok\n"),
-        (24, "user=n\nok\n"),
-        (28, "user=-\nok\n"),
-        (30, "user=-\nok\n"),
+fn each_call_that_fails_leaves_the_commands_before_it(rt: HostRuntime) -> Result<(), Fail> {
+    let script = read_script(rt.alloc())?;
+    for (calls, failure) in [
+        (Calls::Reads, Failure::Interrupted),
+        (Calls::Reads, Failure::Other),
+        (Calls::Writes, Failure::Interrupted),
+        (Calls::Writes, Failure::Other),
+        (Calls::Writes, Failure::NoByte),
+        (Calls::Flushes, Failure::Interrupted),
+        (Calls::Flushes, Failure::Other),
     ] {
-        let reader = FailingReader::new(stream.as_bytes(), 100, NEVER);
-        let writer = FailingWriter::new(rt.alloc(), 1, call, NEVER);
-        let served = serve(rt.alloc(), TWO_BOOLS, reader, writer, "show A\n")?;
-        let shown = served.replies_after.as_str();
-        assert!(rt; shown.ends_with(end), "at call {call}: {shown}");
+        for call in 0..script.count(calls) {
+            fail_call(rt.alloc(), &script, calls, call, failure)?;
+        }
     }
     Ok(())
 }
 
-/// Fails each flush in turn.
-fn fail_each_flush(alloc: Global, failure: Failure) -> Result<(), Fail> {
-    let stream = all_commands(alloc)?;
-    for call in 0..COUNT {
-        let reader = FailingReader::new(stream.as_bytes(), 100, NEVER);
-        let writer = FailingWriter::new(alloc, 100, NEVER, call as u64).with(failure);
-        let served = serve(alloc, TWO_BOOLS, reader, writer, "")?;
-        let replies = first_replies(alloc, call + 1)?;
-        let write = Err(IoFault::Write);
-        want(alloc, &served, write, replies.as_str(), "", call)?;
+/// Wants so many reads of a stream, each of one byte: one for each byte, and the one that gives none.
+fn count_reads(alloc: Global, stream: &str, reads: u64) -> Result<(), Fail> {
+    let served = in_session(alloc, TWO_BOOLS, |alloc, session| {
+        serve_failing(alloc, session, stream, Calls::Reads, NEVER, Failure::Other)
+    })?;
+    if served.end == Ok(()) && served.reads == reads {
+        return Ok(());
     }
-    Ok(())
+    let (end, found) = (&served.end, served.reads);
+    Err(Fail::new(format!(in alloc; "{end:?} after {found} reads, not {reads}")?))
 }
 
 #[test]
-fn a_failed_flush_leaves_whole_replies(rt: HostRuntime) -> Result<(), Fail> {
-    for failure in [Failure::Interrupted, Failure::Other] {
-        fail_each_flush(rt.alloc(), failure)?;
-    }
-    Ok(())
+fn nothing_is_read_after_the_end(rt: HostRuntime) -> Result<(), Fail> {
+    let alloc = rt.alloc();
+    count_reads(alloc, "", 1)?;
+    count_reads(alloc, "set A n", 8)?;
+    count_reads(alloc, "set A n\n", 9)?;
+    count_reads(alloc, "reset\n".repeat(alloc, 12_000)?.as_str(), 72_001)
 }

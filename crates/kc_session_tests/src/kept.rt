@@ -175,25 +175,53 @@ set Q y | 8
 choices | 9
 "#;
 
-/// What the session counted after each command must be what the table has.
-fn compare_counts(alloc: Global, session: &mut Session, counts: &str) -> Result<(), Fail> {
-    for row in rows(alloc, counts)? {
-        let (command, _) = two_fields(alloc, row)?;
+/// What is compared with a table.
+#[derive(Clone, Copy)]
+enum Shown {
+    /// The count of evaluations.
+    Count,
+    /// Which nodes of two symbols are kept.
+    Kept,
+}
+
+/// The count of evaluations of a session, or whether each node of two symbols is kept, a letter each.
+fn show_kept(alloc: Global, session: &Session, shown: Shown) -> Result<String, Fail> {
+    if let Shown::Count = shown {
+        let count = session.evals();
+        return Ok(format!(in alloc; "{count}")?);
+    }
+    let mut letters = String::new(alloc);
+    for number in 0..2 {
+        for node in [Node::Vis(SymId(number)), Node::Val(SymId(number))] {
+            letters.push_str(if session.is_kept(node) { "y" } else { "n" })?;
+        }
+    }
+    Ok(letters)
+}
+
+/// Wants of a session what a table has after each command.
+fn compare_kept(
+    alloc: Global,
+    session: &mut Session,
+    shown: Shown,
+    table: &str,
+) -> Result<(), Fail> {
+    for row in rows(alloc, table)? {
+        let (command, want) = two_fields(alloc, row)?;
         let line = format!(in alloc; "{command}\n")?;
         let _ = replies_in(alloc, session, line.as_str())?;
-        let found = session.evals();
-        let found = format!(in alloc; "{command} | {found}")?;
-        if found.as_str() != row {
-            return Err(Fail::new(found));
+        let found = show_kept(alloc, session, shown)?;
+        if found.as_str() != want.as_str() {
+            return Err(Fail::new(format!(in alloc; "{command} | {found}")?));
         }
     }
     Ok(())
 }
 
-/// The counts of a new session of a Kconfig.
-fn counts_of(alloc: Global, kconfig: &str, counts: &str) -> Result<(), Fail> {
+/// Wants of a new session of a Kconfig what a table has after each command.
+fn compare_in(alloc: Global, kconfig: &str, shown: Shown, table: &str) -> Result<(), Fail> {
     in_session(alloc, kconfig, |alloc, session| {
-        compare_counts(alloc, session, counts)
+        compare_kept(alloc, session, shown, table)
     })
 }
 
@@ -206,31 +234,18 @@ fn each_node_is_evaluated_once_until_an_edit_changes_it(rt: HostRuntime) -> Resu
         (CHOICE, OF_CHOICE),
         (OPTIONAL, OF_OPTIONAL),
     ] {
-        counts_of(rt.alloc(), kconfig, counts)?;
+        compare_in(rt.alloc(), kconfig, Shown::Count, counts)?;
     }
     Ok(())
 }
 
-/// The count after the call of the value of B.
-fn count_of_a_call(_alloc: Global, session: &mut Session) -> Result<u64, Fail> {
-    let symbol = session.tree().find("B").ok_or("no symbol B")?;
-    let _ = session.node(Node::Val(symbol))?;
-    Ok(session.evals())
-}
-
-#[test]
-fn a_call_counts_as_the_command_does(rt: HostRuntime) -> Result<(), Fail> {
-    let count = in_session(rt.alloc(), TWO, count_of_a_call)?;
-    assert_eq!(rt; count, 4);
-    Ok(())
-}
-
-/// Symbols that each depend on the one before.
-fn chain(alloc: Global, count: u32) -> Result<String, Fail> {
+/// Symbols that each depend on the one before, after `depends on`, or with the prompt alone, where all nodes are in one
+/// chain: a value is then computed from its visibility alone.
+fn chain(alloc: Global, count: u32, condition: &str) -> Result<String, Fail> {
     let mut text = String::from_str(alloc, "config S0\n\tbool \"s\"\n")?;
     for number in 1..count {
         let before = number - 1;
-        let entry = format!(in alloc; "config S{number}\n\tbool \"s\"\n\tdepends on S{before}\n")?;
+        let entry = format!(in alloc; "config S{number}\n\tbool \"s\"{condition}{before}\n")?;
         text.push_str(entry.as_str())?;
     }
     Ok(text)
@@ -238,34 +253,12 @@ fn chain(alloc: Global, count: u32) -> Result<String, Fail> {
 
 #[test]
 fn a_chain_is_evaluated_without_repeats(rt: HostRuntime) -> Result<(), Fail> {
-    let kconfig = chain(rt.alloc(), 65_535)?;
-    counts_of(
-        rt.alloc(),
-        kconfig.as_str(),
-        "show S65534 | 131070\nshow S0 | 131070\n",
-    )
-}
-
-/// Symbols that are each visible only where the one before is y. A value is then computed from its visibility alone, so
-/// that all nodes are in one chain.
-fn chain_of_prompts(alloc: Global, count: u32) -> Result<String, Fail> {
-    let mut text = String::from_str(alloc, "config S0\n\tbool \"s\"\n")?;
-    for number in 1..count {
-        let before = number - 1;
-        let entry = format!(in alloc; "config S{number}\n\tbool \"s\" if S{before}\n")?;
-        text.push_str(entry.as_str())?;
+    for condition in ["\n\tdepends on S", " if S"] {
+        let kconfig = chain(rt.alloc(), 65_535, condition)?;
+        let counts = "show S65534 | 131070\nshow S0 | 131070\n";
+        compare_in(rt.alloc(), kconfig.as_str(), Shown::Count, counts)?;
     }
-    Ok(text)
-}
-
-#[test]
-fn a_chain_has_as_many_nodes_as_a_tree(rt: HostRuntime) -> Result<(), Fail> {
-    let kconfig = chain_of_prompts(rt.alloc(), 65_535)?;
-    counts_of(
-        rt.alloc(),
-        kconfig.as_str(),
-        "show S65534 | 131070\nshow S0 | 131070\n",
-    )
+    Ok(())
 }
 
 /// Commands, and whether the visibility and the value of A and those of B are kept after each.
@@ -284,37 +277,9 @@ choices | ynnn
 defconfig | yyyy
 "#;
 
-/// Whether the nodes of two symbols are kept, a letter each.
-fn kept_letters(alloc: Global, session: &Session) -> Result<String, Fail> {
-    let mut letters = String::new(alloc);
-    for number in 0..2 {
-        for node in [Node::Vis(SymId(number)), Node::Val(SymId(number))] {
-            letters.push_str(if session.is_kept(node) { "y" } else { "n" })?;
-        }
-    }
-    Ok(letters)
-}
-
-/// What is kept after each command must be what the table has.
-fn compare_kept(alloc: Global, session: &mut Session, kept: &str) -> Result<(), Fail> {
-    for row in rows(alloc, kept)? {
-        let (command, _) = two_fields(alloc, row)?;
-        let line = format!(in alloc; "{command}\n")?;
-        let _ = replies_in(alloc, session, line.as_str())?;
-        let letters = kept_letters(alloc, session)?;
-        let found = format!(in alloc; "{command} | {letters}")?;
-        if found.as_str() != row {
-            return Err(Fail::new(found));
-        }
-    }
-    Ok(())
-}
-
 #[test]
 fn an_edit_drops_what_it_can_change_and_nothing_else(rt: HostRuntime) -> Result<(), Fail> {
-    in_session(rt.alloc(), TWO, |alloc, session| {
-        compare_kept(alloc, session, KEPT_OF_TWO)
-    })
+    compare_in(rt.alloc(), TWO, Shown::Kept, KEPT_OF_TWO)
 }
 
 /// Edits of all kinds, and those that are refused in some trees or in all.

@@ -3,12 +3,12 @@
 ghost use Rattle.kc_tree.specs.declared.node.Node.TheVariants.{Val};
 ghost use Rattle.kc_tree.specs.Nodes.{IsNodeOf};
 
-use crate::serving::{in_session, replies_in};
-use crate::table::{rows, three_fields};
+use crate::calls::{Question, compare_rows};
+use crate::serving::in_session;
 use kc_session::Session;
 use kc_tree::{SymId, Tree};
 use kc_value::{
-    DefaultPlace, Factor, Fresh, Origin, RangePlace, Reason, Resolver, prompt_factors, reason_of,
+    DefaultPlace, Factor, Origin, RangePlace, Reason, Resolver, prompt_factors, reason_of,
 };
 use std::alloc::{AllocError, Global};
 use std::test::Fail;
@@ -89,7 +89,7 @@ fn reason_words(alloc: Global, tree: &Tree, reason: Reason) -> Result<String, Al
 }
 
 /// Why a symbol has its value.
-fn symbol_words<R: Resolver>(
+pub(crate) fn reason_of_symbol<R: Resolver>(
     alloc: Global,
     resolver: &mut R,
     symbol: SymId,
@@ -100,57 +100,9 @@ fn symbol_words<R: Resolver>(
     reason_words(alloc, resolver.tree(), reason)
 }
 
-/// Why a symbol of this name has its value.
-fn named_words<R: Resolver>(alloc: Global, resolver: &mut R, name: &str) -> Result<String, Fail> {
-    let Some(symbol) = resolver.tree().find(name) else {
-        return Err(Fail::new(format!(in alloc; "no symbol {name}")?));
-    };
-    Ok(symbol_words(alloc, resolver, symbol)?)
-}
-
-/// Why symbols have their values whose names begin the lines of a text.
-fn words<R: Resolver>(alloc: Global, resolver: &mut R, lines: &str) -> Result<String, Fail> {
-    let mut out = String::new(alloc);
-    for line in lines.lines() {
-        let (name, _) = line.split_once(' ').ok_or("a line without a name")?;
-        let words = named_words(alloc, resolver, name)?;
-        out.push_str(format!(in alloc; "{name} {words}\n")?.as_str())?;
-    }
-    Ok(out)
-}
-
-/// The same over a fresh resolver, for the tree and the user values of a session.
-fn fresh_words(alloc: Global, session: &Session, lines: &str) -> Result<String, Fail> {
-    let mut resolver = Fresh::new(alloc, session.tree(), session.user());
-    words(alloc, &mut resolver, lines)
-}
-
-/// Wants these reasons after commands, from a fresh resolver and from the session.
-fn compare_words(
-    alloc: Global,
-    session: &mut Session,
-    commands: &str,
-    want: &str,
-) -> Result<(), Fail> {
-    let _ = replies_in(alloc, session, commands)?;
-    let fresh = fresh_words(alloc, session, want)?;
-    let kept = words(alloc, session, want)?;
-    if fresh.as_str() == want && kept.as_str() == want {
-        return Ok(());
-    }
-    Err(Fail::new(format!(in alloc; "{fresh}, {kept}, not {want}")?))
-}
-
 #[test]
 fn reasons_are_the_branches_of_the_rule(rt: HostRuntime) -> Result<(), Fail> {
-    let alloc = rt.alloc();
-    for row in rows(alloc, REASONS)? {
-        let (kconfig, commands, want) = three_fields(alloc, row)?;
-        in_session(alloc, kconfig.as_str(), |alloc, session| {
-            compare_words(alloc, session, commands.as_str(), want.as_str())
-        })?;
-    }
-    Ok(())
+    compare_rows(rt.alloc(), Question::Why, REASONS)
 }
 
 /// The example of docs/VALUES.md, "Conditions", with the symbols that it names: SHOW and PCI are y, and no other.
