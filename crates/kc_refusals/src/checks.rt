@@ -4,7 +4,7 @@ use crate::finding::{Call, Stop};
 use crate::sessions::{SessionCall, Word, check_session};
 use crate::tables::{ADDITIONS, LINE_READINGS, OPENINGS, PAIR_READINGS};
 use crate::text_calls::{TextCall, Texts, check_texts};
-use crate::tree_calls::{TreeCall, check_parse, check_tree};
+use crate::tree_calls::{TreeCall, check_new, check_parse, check_tree};
 use std::alloc::Global;
 use std::io::{self, Write};
 
@@ -15,6 +15,8 @@ enum Check {
     Texts(&'static [(TextCall, &'static str)]),
     /// Of `Tree::parse`.
     Parse,
+    /// Of `Session::new`.
+    NewSession,
     Tree(TreeCall),
     Session(SessionCall),
 }
@@ -29,7 +31,7 @@ const CHECKS: [(&str, Check); 25] = [
     ("node", Check::Tree(TreeCall::Node)),
     ("read_config", Check::Tree(TreeCall::ReadConfig)),
     ("read_config_lines", Check::Tree(TreeCall::ReadConfigLines)),
-    ("new_session", Check::Tree(TreeCall::NewSession)),
+    ("new_session", Check::NewSession),
     ("open", Check::Texts(&OPENINGS)),
     ("set", Check::Session(SessionCall::Apply(Word::Set))),
     ("load", Check::Session(SessionCall::Apply(Word::Load))),
@@ -100,6 +102,7 @@ fn run_check(alloc: Global, check: Check) -> Result<Call, Stop> {
     match check {
         Check::Texts(calls) => check_texts(&mut texts, calls),
         Check::Parse => check_parse(&texts),
+        Check::NewSession => check_new(&texts),
         Check::Tree(call) => check_tree(&texts, call),
         Check::Session(call) => check_session(&texts, call),
     }

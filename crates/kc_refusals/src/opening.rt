@@ -36,10 +36,25 @@ pub(crate) fn want_open(texts: &Texts, top: &str, config: &str, wanted: &str) ->
             warnings.as_slice(),
             wanted,
         )),
-        Err(OpenFault::NoMemory) => Err(Stop::Refused),
-        Err(OpenFault::Text(fault)) => own(want_text_fault(texts.alloc, &fault, wanted)),
-        Err(OpenFault::Tree(fault)) => own(want_loop(&fault, wanted)),
-        Err(OpenFault::Limit) => Err(Stop::Wrong(Wrong::Fault)),
+        Err(fault) => want_open_fault(texts.alloc, &fault, wanted),
+    }
+}
+
+/// Wants this fault of a text, or a loop of these names.
+fn want_open_fault(alloc: Global, fault: &OpenFault, wanted: &str) -> Result<(), Stop> {
+    match fault {
+        OpenFault::NoMemory => Err(Stop::Refused),
+        OpenFault::Text(fault) => own(want_text_fault(alloc, fault, wanted)),
+        OpenFault::Tree(fault) => own(want_loop(fault, wanted)),
+        OpenFault::Limit => Err(Stop::Wrong(Wrong::Fault)),
+    }
+}
+
+/// Why a check ends whose session was not opened: it was refused memory of its own, or there is another fault.
+pub(crate) fn stop_of(fault: &OpenFault) -> Stop {
+    match fault {
+        OpenFault::NoMemory => Stop::Unprepared,
+        _ => Stop::Wrong(Wrong::Fault),
     }
 }
 

@@ -2,7 +2,7 @@
 
 use crate::asking::want_nodes;
 use crate::finding::{Call, Stop, Time, Wrong, made, want};
-use crate::opening::open_top;
+use crate::opening::{open_top, stop_of};
 use crate::reporting::{check_effects, check_fill, check_merged};
 use crate::showing::user_text;
 use crate::streams::check_run;
@@ -12,7 +12,7 @@ use crate::texts::{
     USER_LOADED, USER_MERGED, USER_SET,
 };
 use crate::tree_calls::want_user;
-use kc_session::{Body, Command, OpenFault, Refusal, Reply, Session};
+use kc_session::{Body, Command, Refusal, Reply, Session};
 use kc_text::TextRef;
 use kc_value::Resolver;
 use std::alloc::{AllocError, Global};
@@ -153,8 +153,7 @@ pub(crate) fn check_session(texts: &Texts, call: SessionCall) -> Result<Call, St
     };
     match open_top(texts, top, config) {
         Ok((mut session, _)) => check_opened(texts, &mut session, call),
-        Err(OpenFault::NoMemory) => Err(Stop::Unprepared),
-        Err(_) => Err(Stop::Wrong(Wrong::Fault)),
+        Err(fault) => Err(stop_of(&fault)),
     }
 }
 

@@ -33,12 +33,23 @@ fn serve(alloc: Global, session: &mut Session, stream: &[u8], before: &Held) -> 
     match run(alloc, &mut reader, &mut writer, session) {
         Ok(()) => want_replies(alloc, session, writer.taken.as_slice()),
         Err(IoFault::Memory) => {
-            want(reader.calls == 0 && writer.calls == 0, Wrong::Stream)?;
-            want_held(alloc, session, before, false)?;
-            Err(Stop::Refused)
+            let is_unused = reader.calls == 0 && writer.calls == 0;
+            want_nothing_done(alloc, session, before, is_unused)
         }
         Err(IoFault::Read | IoFault::Write) => Err(Stop::Wrong(Wrong::Stream)),
     }
+}
+
+/// Wants a stream that was refused memory to be unused, and the session to hold what it held.
+fn want_nothing_done(
+    alloc: Global,
+    session: &Session,
+    before: &Held,
+    is_unused: bool,
+) -> Result<(), Stop> {
+    want(is_unused, Wrong::Stream)?;
+    want_held(alloc, session, before, false)?;
+    Err(Stop::Refused)
 }
 
 /// Wants replies with one refusal at most, and the user values that they leave.

@@ -6,7 +6,7 @@ use crate::showing::lines_text;
 use crate::texts::{FILES, PAIRS};
 use bumpalo::Bump;
 use kc_files::Prefix;
-use kc_text::{Sources, TextFault, TextProblem, Vars, logical_lines};
+use kc_text::{Line, Sources, TextFault, TextProblem, Vars, logical_lines};
 use std::alloc::Global;
 
 /// What the calls are made on.
@@ -21,17 +21,24 @@ pub(crate) struct Texts {
 impl Texts {
     /// The files, the variables and the prefix of the checks.
     pub(crate) fn new(alloc: Global) -> Result<Texts, Stop> {
-        let mut sources = Sources::new(alloc);
-        for (path, text) in FILES {
-            sources.add(path, text)?;
-        }
+        let vars = Vars::from_pairs(alloc, PAIRS.as_slice())?;
+        let prefix = Prefix::new(alloc, "CONFIG_")?;
         Ok(Texts {
             alloc,
-            sources,
-            vars: Vars::from_pairs(alloc, PAIRS.as_slice())?,
-            prefix: Prefix::new(alloc, "CONFIG_")?,
+            sources: files(alloc)?,
+            vars,
+            prefix,
         })
     }
+}
+
+/// The files of the checks.
+fn files(alloc: Global) -> Result<Sources, TextFault> {
+    let mut sources = Sources::new(alloc);
+    for (path, text) in FILES {
+        sources.add(path, text)?;
+    }
+    Ok(sources)
 }
 
 /// Top files, each with its lines or its fault.
@@ -94,12 +101,15 @@ fn want_tops(texts: &Texts, tops: Tops) -> Result<(), Stop> {
 fn want_lines(texts: &Texts, vars: &Vars, top: &str, wanted: &str) -> Result<(), Stop> {
     let arena = Bump::new(texts.alloc);
     match logical_lines(texts.alloc, &arena, &texts.sources, vars, top) {
-        Ok(lines) => {
-            let found = lines_text(texts.alloc, lines.as_slice())?;
-            want(found.as_str() == wanted, Wrong::Lines)
-        }
+        Ok(lines) => want_shown(texts.alloc, lines.as_slice(), wanted),
         Err(fault) => want_text_fault(texts.alloc, &fault, wanted),
     }
+}
+
+/// Wants these lines.
+fn want_shown(alloc: Global, lines: &[Line<'_>], wanted: &str) -> Result<(), Stop> {
+    let found = lines_text(alloc, lines)?;
+    want(found.as_str() == wanted, Wrong::Lines)
 }
 
 /// Wants a fault of a text: its number, its place, and the path of a file that is missing.

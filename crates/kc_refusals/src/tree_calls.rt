@@ -56,8 +56,15 @@ fn give_values(texts: &Texts, tree: &Tree, user: &mut User) -> Result<(), Stop>
 /// Wants a tree that has this `.config` with the user values of the checks.
 fn want_tree(texts: &Texts, tree: &Tree, wanted: &str) -> Result<(), Stop> {
     let mut user = User::empty(texts.alloc, tree)?;
-    give_values(texts, tree, &mut user)?;
-    let mut fresh = Fresh::new(texts.alloc, tree, &user);
+    want_config(texts, tree, &mut user, wanted)
+}
+
+/// Wants the `.config` of a tree with the user values of the checks.
+fn want_config(texts: &Texts, tree: &Tree, user: &mut User, wanted: &str) -> Result<(), Stop>
+    requires { IsUserFor tree.now user.old }
+{
+    give_values(texts, tree, user)?;
+    let mut fresh = Fresh::new(texts.alloc, tree, user);
     let text = config_text(texts.alloc, &mut fresh, &texts.prefix, "")?;
     want(text.as_str() == wanted, Wrong::Tree)
 }
@@ -91,24 +98,41 @@ pub(crate) enum TreeCall {
     ReadConfig,
     /// `read_config_lines`.
     ReadConfigLines,
-    /// `Session::new`.
-    NewSession,
 }
 
 /// Checks a call on the tree of the Kconfig.
 pub(crate) fn check_tree(texts: &Texts, call: TreeCall) -> Result<Call, Stop> {
+    match parsed(texts) {
+        Ok(tree) => check_call(texts, &tree, call),
+        Err(stop) => Err(stop),
+    }
+}
+
+/// The tree of the Kconfig.
+fn parsed(texts: &Texts) -> Result<Tree, Stop> {
     let arena = Bump::new(texts.alloc);
     let lines = logical_lines(texts.alloc, &arena, &texts.sources, &texts.vars, "Kconfig")?;
     match Tree::parse(texts.alloc, lines.as_slice()) {
-        Ok(tree) => match call {
-            TreeCall::Empty => check_user(texts, &tree),
-            TreeCall::Node => check_nodes(texts, &tree),
-            TreeCall::ReadConfig => check_reading(texts, &tree),
-            TreeCall::ReadConfigLines => check_lines(texts, &tree),
-            TreeCall::NewSession => check_new(texts, tree),
-        },
-        Err(TreeFault::NoMemory) => Err(Stop::Unprepared),
-        Err(_) => Err(Stop::Wrong(Wrong::Fault)),
+        Ok(tree) => Ok(tree),
+        Err(fault) => Err(stop_of_tree(&fault)),
+    }
+}
+
+/// Why a check ends that has no tree.
+fn stop_of_tree(fault: &TreeFault) -> Stop {
+    match fault {
+        TreeFault::NoMemory => Stop::Unprepared,
+        _ => Stop::Wrong(Wrong::Fault),
+    }
+}
+
+/// Checks a call on this tree.
+fn check_call(texts: &Texts, tree: &Tree, call: TreeCall) -> Result<Call, Stop> {
+    match call {
+        TreeCall::Empty => check_user(texts, tree),
+        TreeCall::Node => check_nodes(texts, tree),
+        TreeCall::ReadConfig => check_reading(texts, tree),
+        TreeCall::ReadConfigLines => check_lines(texts, tree),
     }
 }
 
@@ -138,9 +162,16 @@ pub(crate) fn want_user(alloc: Global, tree: &Tree, user: &User, wanted: &str) -
 /// Checks `Fresh::node`, of the nodes of each symbol in turn: where it is refused, it answers the next time.
 fn check_nodes(texts: &Texts, tree: &Tree) -> Result<Call, Stop> {
     let mut user = User::empty(texts.alloc, tree)?;
-    give_values(texts, tree, &mut user)?;
-    let call = ask_nodes(&mut Fresh::new(texts.alloc, tree, &user))?;
-    want_user(texts.alloc, tree, &user, USER)?;
+    check_nodes_with(texts, tree, &mut user)
+}
+
+/// Checks it with the user values of the checks, which stay.
+fn check_nodes_with(texts: &Texts, tree: &Tree, user: &mut User) -> Result<Call, Stop>
+    requires { IsUserFor tree.now user.old }
+{
+    give_values(texts, tree, user)?;
+    let call = ask_nodes(&mut Fresh::new(texts.alloc, tree, user))?;
+    want_user(texts.alloc, tree, user, USER)?;
     Ok(call)
 }
 
@@ -165,8 +196,9 @@ fn check_reading(texts: &Texts, tree: &Tree) -> Result<Call, Stop> {
 }
 
 /// Checks `Session::new`: where it is refused, the tree and the prefix that it gives back make a session.
-fn check_new(texts: &Texts, tree: Tree) -> Result<Call, Stop> {
-    let mut parts = Some((tree, texts.prefix.copy(texts.alloc)?));
+pub(crate) fn check_new(texts: &Texts) -> Result<Call, Stop> {
+    let prefix = texts.prefix.copy(texts.alloc)?;
+    let mut parts = Some((parsed(texts)?, prefix));
     made(|_time| make_session(texts.alloc, &mut parts))
 }
 
