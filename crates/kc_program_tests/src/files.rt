@@ -1,12 +1,9 @@
 //! How often the files are read that a Kconfig sources, and those that it only names.
 use crate::running::{MemoryFolder, run_in};
 use kc_program::{Folder, FolderFault, Seed};
-use std::alloc::{AllocError, Global};
+use std::alloc::Global;
 use std::cell::Cell;
 use std::process::Abort;
-use std::test::Fail;
-
-const SESSION: [&str; 4] = ["kconf", "session", "Kconfig", "-"];
 
 // Counts the reads of files in memory, and how often the seed is asked for. Reading ahead may be refused.
 #[derive(Drop)]
@@ -112,47 +109,4 @@ fn each_file_is_read_as_it_is_wanted(rt: HostRuntime) {
         );
         wants_reads(&rt, rt.alloc(), texts, Some(FolderFault::NoMemory), refused);
     }
-}
-
-// A top file, and an empty file at each other path.
-#[derive(Drop)]
-struct EmptyFiles<'a> {
-    kconfig: &'a str,
-}
-
-impl Folder for EmptyFiles<'_> {
-    fn read_bytes(&self, alloc: Global, path: &str) -> Result<Vec<u8>, FolderFault> {
-        let text = if path == "Kconfig" { self.kconfig } else { "" };
-        text.as_bytes()
-            .to_vec(alloc)
-            .map_err(|_| FolderFault::NoMemory)
-    }
-
-    fn read_plain(&self, alloc: Global, path: &str) -> Result<Vec<u8>, FolderFault> {
-        self.read_bytes(alloc, path)
-    }
-}
-
-// The help text of a symbol that names so many files.
-fn naming_files(alloc: Global, count: usize) -> Result<String, AllocError> {
-    let mut text = String::from_str(alloc, "config A\nbool \"a\"\nhelp\n")?;
-    for number in 0..count {
-        let line = format!(in alloc; "  source \"{number}\"\n")?;
-        text.push_str(line.as_str())?;
-    }
-    Ok(text)
-}
-
-#[test]
-fn many_files_may_be_named(rt: HostRuntime) -> Result<(), Fail> {
-    for count in [4_095, 4_097] {
-        let kconfig = naming_files(rt.alloc(), count)?;
-        let folder = EmptyFiles {
-            kconfig: kconfig.as_str(),
-        };
-        let outcome = run_in(rt.alloc(), SESSION.as_slice(), &folder, b"config\n");
-        assert_eq!(rt; outcome.errors.as_slice(), b"".as_slice(), "at {count}");
-        assert_eq!(rt; outcome.status, 0, "at {count}");
-    }
-    Ok(())
 }

@@ -90,16 +90,6 @@ pub(crate) fn want(
     assert_eq!(rt; outcome.status, status, "at {at:?}");
 }
 
-// Runs the program on words, files and a stream of commands.
-pub(crate) fn run_program(
-    alloc: Global,
-    words: &[&str],
-    files: &[(&str, &[u8])],
-    commands: &[u8],
-) -> Outcome {
-    run_in(alloc, words, &MemoryFolder { files }, commands)
-}
-
 // Runs the program on words, a folder and a stream of commands.
 pub(crate) fn run_in<F: Folder>(
     alloc: Global,
