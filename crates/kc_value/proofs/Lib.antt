@@ -30,6 +30,7 @@ pub mod NodeValueLemmas
 pub mod NumberedSteps
 pub mod NumeralLemmas
 pub mod OrderSteps
+pub mod OriginLists
 pub mod PartLemmas
 pub mod PathLemmas
 pub mod ReadNodes

@@ -1,14 +1,15 @@
 //! The factors of conditions, one by one, each with where it is and its value (kconfig-language.rst, "Menu dependencies").
 
-ghost use Rattle.std.specs.Prelude.{◌≡◌, IfOk, OnOk, Option, Some, ◌++◌, map, slice_get};
-ghost use Rattle.std.specs.Option.{option_copied};
+ghost use Rattle.std.specs.Prelude.{◌≡◌, IfOk, OnOk, Option, Some, None, [], ◌∷◌, ◌++◌, map, slice_get};
+ghost use Rattle.std.specs.Option.{option_copied, option_map_or};
 ghost use Rattle.kc_statement.specs.declared.expr.Expr.{Expr};
 ghost use Rattle.kc_statement.specs.Tristate.{least_of};
 ghost use Rattle.kc_outline.specs.TreeValue.{blocks_around, choice_of};
 ghost use Rattle.kc_tree.specs.ConditionTable.{also, own_if, own_lines, mode_of, dependencies_in, dependencies, of_prompt, of_reverse, of_menu, of_comment, of_choice_prompt};
+ghost use Rattle.kc_value.specs.declared.factors.Origin.TheVariants.{Missing};
 ghost use Rattle.kc_value.specs.Conditions.{condition_value};
 ghost use Rattle.kc_value.specs.Known.{given};
-ghost use Rattle.kc_value.specs.Factors.{judged, judged_factors, judged_of, judged_expression, worth_of, lines_of, of_blocks, origin_in, prompt_condition, menu_condition_at, comment_condition_at, choice_condition_at};
+ghost use Rattle.kc_value.specs.Factors.{judged, judged_factors, judged_of, judged_expression, worth_of, lines_of, of_blocks, origin_in, lines_at, around_at, if_at, mode_at, dependencies_at, origins, origins_of, definition_block, comment_block, choice_block, menu_origins, menu_origins_at, prompt_condition, menu_condition_at, comment_condition_at, choice_condition_at};
 
 use crate::conditions::{block_at, mode_tri};
 use crate::expr_value::tri;
@@ -117,8 +118,10 @@ fn add_lines<'t>(
     lines: &'t [Expr],
     from: Lines,
 ) -> Result<(), AllocError>
-    ensures { OnOk result (map judged factors.new.items ≡ map judged factors.old.items
+    ensures judged { OnOk result (map judged factors.new.items ≡ map judged factors.old.items
         ++ judged_factors known.now.tree (given known.now) (own_lines lines.now)) }
+    ensures origins { OnOk result (map (λ f. f.origin) factors.new.items ≡ map (λ f. f.origin) factors.old.items
+        ++ lines_at from lines.now) }
 {
     for (place, line) in lines.iter().enumerate() {
         factors.push(line_factor(known, line, from.origin(place)))?;
@@ -132,8 +135,10 @@ fn add_condition<'t>(
     factors: &mut Vec<Factor<'t>>,
     condition: Option<&'t Expr>,
 ) -> Result<(), AllocError>
-    ensures { OnOk result (map judged factors.new.items ≡ map judged factors.old.items
+    ensures judged { OnOk result (map judged factors.new.items ≡ map judged factors.old.items
         ++ judged_factors known.now.tree (given known.now) (own_if (option_copied condition.entry))) }
+    ensures origins { OnOk result (map (λ f. f.origin) factors.new.items ≡ map (λ f. f.origin) factors.old.items
+        ++ if_at (option_copied condition.entry)) }
 {
     if let Some(line) = condition {
         factors.push(line_factor(known, line, Origin::Condition))?;
@@ -147,8 +152,10 @@ fn add_mode(
     factors: &mut Vec<Factor<'_>>,
     choice: Option<ChoiceId>,
 ) -> Result<(), AllocError>
-    ensures { OnOk result (map judged factors.new.items ≡ map judged factors.old.items
+    ensures judged { OnOk result (map judged factors.new.items ≡ map judged factors.old.items
         ++ judged_factors known.now.tree (given known.now) (mode_of choice)) }
+    ensures origins { OnOk result (map (λ f. f.origin) factors.new.items ≡ map (λ f. f.origin) factors.old.items
+        ++ mode_at choice) }
 {
     if let Some(id) = choice {
         factors.push(Factor {
@@ -167,8 +174,10 @@ fn add_around<'t>(
     innermost: Option<BlockId>,
     lines: BlockLines,
 ) -> Result<(), AllocError>
-    ensures { OnOk result (map judged factors.new.items ≡ map judged factors.old.items
+    ensures judged { OnOk result (map judged factors.new.items ≡ map judged factors.old.items
         ++ judged_factors known.now.tree (given known.now) (of_blocks lines (blocks_around known.now.tree innermost))) }
+    ensures origins { OnOk result (map (λ f. f.origin) factors.new.items ≡ map (λ f. f.origin) factors.old.items
+        ++ around_at known.now.tree lines innermost) }
 {
     let mut next = innermost;
     for _ in 0..MOST_OPEN_BLOCKS {
@@ -191,8 +200,10 @@ fn add_dependencies<'t>(
     factors: &mut Vec<Factor<'t>>,
     definition: &'t Definition,
 ) -> Result<(), AllocError>
-    ensures { OnOk result (map judged factors.new.items ≡ map judged factors.old.items
+    ensures judged { OnOk result (map judged factors.new.items ≡ map judged factors.old.items
         ++ judged_factors known.now.tree (given known.now) (dependencies known.now.tree definition.now)) }
+    ensures origins { OnOk result (map (λ f. f.origin) factors.new.items ≡ map (λ f. f.origin) factors.old.items
+        ++ dependencies_at known.now.tree definition.now) }
 {
     add_lines(known, factors, definition.depends(), Lines::Own)?;
     add_around(known, factors, definition.block(), BlockLines::Depends)
@@ -205,8 +216,10 @@ fn add_numbered<'t>(
     factors: &mut Vec<Factor<'t>>,
     number: usize,
 ) -> Result<(), AllocError>
-    ensures { OnOk result (map judged factors.new.items ≡ map judged factors.old.items
+    ensures judged { OnOk result (map judged factors.new.items ≡ map judged factors.old.items
         ++ judged_factors known.now.tree (given known.now) (dependencies_in (slice_get known.now.tree.definitions number))) }
+    ensures origins { OnOk result (map (λ f. f.origin) factors.new.items ≡ map (λ f. f.origin) factors.old.items
+        ++ option_map_or (dependencies_at known.now.tree) (slice_get known.now.tree.definitions number) (Missing ∷ [])) }
 {
     match known.definition(number) {
         Some(definition) => add_dependencies(known, factors, definition),
@@ -228,8 +241,10 @@ fn add_prompt<'t>(
     definition: &'t Definition,
     prompt: &'t Prompt,
 ) -> Result<(), AllocError>
-    ensures { OnOk result (map judged factors.new.items ≡ map judged factors.old.items
+    ensures judged { OnOk result (map judged factors.new.items ≡ map judged factors.old.items
         ++ judged_factors known.now.tree (given known.now) (of_prompt known.now.tree definition.now prompt.now)) }
+    ensures origins { OnOk result (map (λ f. f.origin) factors.new.items ≡ map (λ f. f.origin) factors.old.items
+        ++ origins known.now.tree definition.now.block (of_prompt known.now.tree definition.now prompt.now)) }
 {
     add_condition(known, factors, prompt.condition.as_ref())?;
     add_dependencies(known, factors, definition)?;
@@ -244,8 +259,10 @@ fn add_whole_prompt<'t>(
     definition: &'t Definition,
     prompt: &'t Prompt,
 ) -> Result<(), AllocError>
-    ensures { OnOk result (map judged factors.new.items ≡ map judged factors.old.items
+    ensures judged { OnOk result (map judged factors.new.items ≡ map judged factors.old.items
         ++ judged_factors known.now.tree (given known.now) (also (of_prompt known.now.tree definition.now prompt.now) (mode_of (choice_of known.now.tree definition.now.symbol)))) }
+    ensures origins { OnOk result (map (λ f. f.origin) factors.new.items ≡ map (λ f. f.origin) factors.old.items
+        ++ origins known.now.tree definition.now.block (also (of_prompt known.now.tree definition.now prompt.now) (mode_of (choice_of known.now.tree definition.now.symbol)))) }
 {
     add_prompt(known, factors, definition, prompt)?;
     add_mode(known, factors, known.tree().choice_of(definition.symbol()))
@@ -258,8 +275,10 @@ fn add_menu<'t>(
     menu: BlockId,
     block: &'t Block,
 ) -> Result<(), AllocError>
-    ensures { OnOk result (map judged factors.new.items ≡ map judged factors.old.items
+    ensures judged { OnOk result (map judged factors.new.items ≡ map judged factors.old.items
         ++ judged_factors known.now.tree (given known.now) (of_menu known.now.tree block.now)) }
+    ensures origins { OnOk result (map (λ f. f.origin) factors.new.items ≡ map (λ f. f.origin) factors.old.items
+        ++ menu_origins known.now.tree menu block.now) }
 {
     add_lines(known, factors, block.depends(), Lines::Own)?;
     add_around(known, factors, block.parent(), BlockLines::Depends)?;
@@ -277,8 +296,10 @@ fn add_comment<'t>(
     factors: &mut Vec<Factor<'t>>,
     comment: &'t Comment,
 ) -> Result<(), AllocError>
-    ensures { OnOk result (map judged factors.new.items ≡ map judged factors.old.items
+    ensures judged { OnOk result (map judged factors.new.items ≡ map judged factors.old.items
         ++ judged_factors known.now.tree (given known.now) (of_comment known.now.tree comment.now)) }
+    ensures origins { OnOk result (map (λ f. f.origin) factors.new.items ≡ map (λ f. f.origin) factors.old.items
+        ++ origins known.now.tree comment.now.block (of_comment known.now.tree comment.now)) }
 {
     add_lines(known, factors, comment.depends(), Lines::Own)?;
     add_around(known, factors, comment.block(), BlockLines::Depends)?;
@@ -292,8 +313,10 @@ fn add_choice_prompt<'t>(
     choice: &'t Choice,
     prompt: &'t Prompt,
 ) -> Result<(), AllocError>
-    ensures { OnOk result (map judged factors.new.items ≡ map judged factors.old.items
+    ensures judged { OnOk result (map judged factors.new.items ≡ map judged factors.old.items
         ++ judged_factors known.now.tree (given known.now) (of_choice_prompt known.now.tree choice.now prompt.now)) }
+    ensures origins { OnOk result (map (λ f. f.origin) factors.new.items ≡ map (λ f. f.origin) factors.old.items
+        ++ origins known.now.tree (Some choice.now.block) (of_choice_prompt known.now.tree choice.now prompt.now)) }
 {
     add_condition(known, factors, prompt.condition.as_ref())?;
     add_around(known, factors, Some(choice.block()), BlockLines::Depends)?;
@@ -313,6 +336,8 @@ pub fn dependency_factors<'t>(
 ) -> Result<Vec<Factor<'t>>, AllocError>
     ensures factors { IfOk result (λ v. map judged v.items
         ≡ judged_factors known.now.tree (given known.now) (dependencies_in (slice_get known.now.tree.definitions definition))) }
+    ensures origins { IfOk result (λ v. map (λ f. f.origin) v.items
+        ≡ origins known.now.tree None (dependencies_in (slice_get known.now.tree.definitions definition))) }
     ensures value { IfOk result (λ v. least_of (map (λ f. f.value) v.items)
         ≡ condition_value known.now.tree (given known.now) (dependencies_in (slice_get known.now.tree.definitions definition))) }
 {
@@ -334,6 +359,8 @@ pub fn prompt_factors<'t>(
 ) -> Result<Vec<Factor<'t>>, AllocError>
     ensures factors { IfOk result (λ v. map judged v.items
         ≡ judged_of known.now.tree (given known.now) (prompt_condition known.now.tree number)) }
+    ensures origins { IfOk result (λ v. map (λ f. f.origin) v.items
+        ≡ origins_of known.now.tree (definition_block known.now.tree number) (prompt_condition known.now.tree number)) }
     ensures value { IfOk result (λ v. least_of (map (λ f. f.value) v.items)
         ≡ worth_of known.now.tree (given known.now) (prompt_condition known.now.tree number)) }
 {
@@ -361,6 +388,8 @@ pub fn reverse_factors<'t>(
 ) -> Result<Vec<Factor<'t>>, AllocError>
     ensures factors { IfOk result (λ v. map judged v.items
         ≡ judged_factors known.now.tree (given known.now) (of_reverse known.now.tree reverse.now)) }
+    ensures origins { IfOk result (λ v. map (λ f. f.origin) v.items
+        ≡ origins known.now.tree None (of_reverse known.now.tree reverse.now)) }
     ensures value { IfOk result (λ v. least_of (map (λ f. f.value) v.items)
         ≡ condition_value known.now.tree (given known.now) (of_reverse known.now.tree reverse.now)) }
 {
@@ -382,6 +411,8 @@ pub fn menu_factors<'t>(
 ) -> Result<Vec<Factor<'t>>, AllocError>
     ensures factors { IfOk result (λ v. map judged v.items
         ≡ judged_of known.now.tree (given known.now) (menu_condition_at known.now.tree menu)) }
+    ensures origins { IfOk result (λ v. map (λ f. f.origin) v.items
+        ≡ menu_origins_at known.now.tree menu) }
     ensures value { IfOk result (λ v. least_of (map (λ f. f.value) v.items)
         ≡ worth_of known.now.tree (given known.now) (menu_condition_at known.now.tree menu)) }
 {
@@ -405,6 +436,8 @@ pub fn comment_factors<'t>(
 ) -> Result<Vec<Factor<'t>>, AllocError>
     ensures factors { IfOk result (λ v. map judged v.items
         ≡ judged_of known.now.tree (given known.now) (comment_condition_at known.now.tree comment)) }
+    ensures origins { IfOk result (λ v. map (λ f. f.origin) v.items
+        ≡ origins_of known.now.tree (comment_block known.now.tree comment) (comment_condition_at known.now.tree comment)) }
     ensures value { IfOk result (λ v. least_of (map (λ f. f.value) v.items)
         ≡ worth_of known.now.tree (given known.now) (comment_condition_at known.now.tree comment)) }
 {
@@ -428,6 +461,8 @@ pub fn choice_factors<'t>(
 ) -> Result<Vec<Factor<'t>>, AllocError>
     ensures factors { IfOk result (λ v. map judged v.items
         ≡ judged_of known.now.tree (given known.now) (choice_condition_at known.now.tree choice)) }
+    ensures origins { IfOk result (λ v. map (λ f. f.origin) v.items
+        ≡ origins_of known.now.tree (choice_block known.now.tree choice) (choice_condition_at known.now.tree choice)) }
     ensures value { IfOk result (λ v. least_of (map (λ f. f.value) v.items)
         ≡ worth_of known.now.tree (given known.now) (choice_condition_at known.now.tree choice)) }
 {
