@@ -26,7 +26,7 @@ applied t u zero n = Level No
 applied t u (suc k) n = rule t u (applied t u k) n
 
 -- A name for the only solution of a tree without loop: no value changes any more once the rule was
--- applied as often as there are nodes. That it is the only solution is a clause of `solve`.
+-- applied as often as there are nodes. That it is the only solution is a clause of `Resolver::node`.
 unfoldable pub solution : TreeValue → UserValues → Assignment
 solution t u = applied t u (node_count t)
 

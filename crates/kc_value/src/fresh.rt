@@ -1,38 +1,16 @@
-ghost use Rattle.std.specs.Prelude.{◌≡◌, IfOk};
-ghost use Rattle.kc_tree.specs.Nodes.{IsNodeOf};
+ghost use Rattle.std.specs.Prelude.{◌≡◌};
 ghost use Rattle.kc_value.specs.Kept.{nothing_kept, AreKept};
-ghost use Rattle.kc_value.specs.Solution.{solution, IsOnlySolution};
-ghost use Rattle.kc_value.specs.UserValues.{IsUserFor, UserValues};
+ghost use Rattle.kc_value.specs.UserValues.{IsUserFor};
 
 use crate::kept_values::KeptValues;
 use crate::node_values::NodeValues;
 use crate::resolver::Resolver;
 use crate::solved::Solved;
 use crate::user::User;
-use crate::value::{Value, copy_of};
+use crate::value::Value;
 use kc_tree::{Node, Tree};
 use std::alloc::{AllocError, Global};
 use std::marker::Model;
-
-/// The value of a node in the only solution: the assignment in which each node of the tree has the value
-/// that its rule gives. Only the node and those that it is computed from are evaluated, each once and after
-/// all that it uses, and nothing is kept.
-///
-/// That there is a solution, and no other, holds whatever the call returns. The error comes where memory is refused
-/// for a place for each node, for the path to a node, or for a text.
-pub fn solve(alloc: Global, tree: &Tree, user: &User, node: Node) -> Result<Value, AllocError>
-    requires { IsNodeOf tree.now node }
-    ensures value { IfOk result (λ v. v ≡ solution tree.now user.now node) }
-    ensures solved { IsOnlySolution tree.now user.now (solution tree.now user.now) }
-{
-    let number = tree.number(node);
-    let mut kept = KeptValues::new(alloc, tree)?;
-    kept.fill(alloc, tree, user, node)?;
-    match kept.values().get(number) {
-        Some(value) => copy_of(value),
-        None => unreachable!(),
-    }
-}
 
 /// A resolver over a tree and user values that keeps nothing from one question to the next: each evaluates all that it
 /// needs. What it lends are the values of the last question. Contracts see the tree, the user values, and the values that

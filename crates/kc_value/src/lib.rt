@@ -47,7 +47,7 @@ pub use factors::{
     Factor, FactorPart, Origin, choice_factors, comment_factors, dependency_factors, menu_factors,
     prompt_factors, reverse_factors,
 };
-pub use fresh::{Fresh, solve};
+pub use fresh::Fresh;
 pub use kept_values::{KeptValues, Meter};
 pub use known::Known;
 pub use node_values::NodeValues;
