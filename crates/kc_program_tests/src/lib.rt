@@ -13,8 +13,6 @@ mod files;
 #[cfg(test)]
 mod flushes;
 #[cfg(test)]
-mod refusals;
-#[cfg(test)]
 mod running;
 #[cfg(test)]
 mod system_files;
