@@ -112,7 +112,7 @@ fn show_faults(alloc: Global, faults: &[TreeFault]) -> Result<String, AllocError
     Ok(out)
 }
 
-/// All faults of lines, the first of which is that of `Tree::parse`.
+/// All faults of lines; the first is that of `Tree::parse`.
 fn faults_of_lines(alloc: Global, lines: &[Line<'_>]) -> Result<String, Fail>
     requires { length lines.now ≤ MOST_LINES }
 {

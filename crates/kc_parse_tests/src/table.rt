@@ -20,7 +20,7 @@ pub(crate) enum Shown {
     Lines,
     /// The same of one file K with variables before it, each as `NAME=VALUE & `.
     Pairs,
-    /// All faults of a file K, the first of which is that of `Tree::parse`.
+    /// All faults of a file K; the first is that of `Tree::parse`.
     Faults,
     /// The fault of the lines without the end of the file, or that they have a tree.
     Cut,

@@ -29,7 +29,7 @@ frob\n | refused 1\n | A=n,B=n,
 reset\n | ok\n | -
 "#;
 
-/// Calls of a stream, one of which fails.
+/// The calls of a stream that can fail.
 #[derive(Clone, Copy, Debug)]
 enum Calls {
     /// Reads, each of one byte.
