@@ -17,7 +17,7 @@ use crate::prefix::Prefix;
 use crate::symbols::written_value;
 use crate::titles::{comment_title, menu_title};
 use kc_tree::{BlockId, CommentId, Entry, SymId};
-use kc_value::{Known, Resolver, comment_condition, menu_condition};
+use kc_value::{Known, Resolver, comment_condition, menu_condition, values_of_all};
 use std::alloc::{AllocError, Global};
 
 /// Whether a menu has its lines: its condition is not n.
@@ -175,7 +175,7 @@ pub fn config_text<R: Resolver>(
     ensures user { R.user_of resolver.new ≡ R.user_of resolver.old }
     ensures grew { R.grew resolver.old resolver.new (all_nodes (R.tree_of resolver.old)) }
 {
-    resolver.fill_all()?;
-    let solved = resolver.solved();
-    config_text_over(alloc, solved.known(), prefix, header)
+    let values = values_of_all(alloc, resolver)?;
+    let known = Known::of_nodes(resolver.tree(), &values);
+    config_text_over(alloc, &known, prefix, header)
 }

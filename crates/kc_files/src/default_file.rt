@@ -17,7 +17,7 @@ use crate::prefix::Prefix;
 use crate::symbol_line::push_symbol_line;
 use crate::symbols::selected_member;
 use kc_tree::{ChoiceId, Entry, Node, SymId, Tri, UserVal};
-use kc_value::{Resolver, Solved, Value, changed_value};
+use kc_value::{Resolver, Solved, Value, changed_value, values_of_all};
 use std::alloc::{AllocError, Global};
 
 /// The value of a symbol, where it is another than without the user's own: it is the same where the user gave none.
@@ -215,9 +215,7 @@ pub fn defconfig_text<R: Resolver>(
     ensures user { R.user_of resolver.new ≡ R.user_of resolver.old }
     ensures grew { R.grew resolver.old resolver.new (all_nodes (R.tree_of resolver.old)) }
 {
-    resolver.fill_all()?;
-    let solved = resolver.solved();
-    // That the values are those of the solution is a clause of this call.
-    let _ = solved.values();
+    let values = values_of_all(alloc, resolver)?;
+    let solved = Solved::of_nodes(resolver.tree(), resolver.user(), &values);
     defconfig_text_over(alloc, &solved, prefix)
 }

@@ -15,7 +15,7 @@ use crate::prefix::Prefix;
 use crate::quoting::push_quoted;
 use crate::symbols::written_value;
 use kc_tree::{Entry, SymId, SymbolType, Tri, UserVal};
-use kc_value::{Known, Resolver};
+use kc_value::{Known, Resolver, values_of_all};
 use std::alloc::{AllocError, Global};
 
 /// The byte of an index, 0 past the end.
@@ -229,7 +229,7 @@ pub fn header_text<R: Resolver>(
     ensures user { R.user_of resolver.new ≡ R.user_of resolver.old }
     ensures grew { R.grew resolver.old resolver.new (all_nodes (R.tree_of resolver.old)) }
 {
-    resolver.fill_all()?;
-    let solved = resolver.solved();
-    header_text_over(alloc, solved.known(), prefix)
+    let values = values_of_all(alloc, resolver)?;
+    let known = Known::of_nodes(resolver.tree(), &values);
+    header_text_over(alloc, &known, prefix)
 }

@@ -14,7 +14,7 @@ use crate::prefix::Prefix;
 use crate::symbol_line::push_text_line;
 use crate::symbols::{selected_member, shown_text};
 use kc_tree::{ChoiceId, Entry, Node, SymId};
-use kc_value::{Known, Resolver, Solved, assignable_among};
+use kc_value::{Known, Resolver, Solved, assignable_among, values_of_all};
 use std::alloc::{AllocError, Global};
 
 /// Whether a user can give the symbol another value than it has.
@@ -194,9 +194,7 @@ pub fn new_text<R: Resolver>(
     ensures user { R.user_of resolver.new ≡ R.user_of resolver.old }
     ensures grew { R.grew resolver.old resolver.new (all_nodes (R.tree_of resolver.old)) }
 {
-    resolver.fill_all()?;
-    let solved = resolver.solved();
-    // That the values are those of the solution is a clause of this call.
-    let _ = solved.values();
+    let values = values_of_all(alloc, resolver)?;
+    let solved = Solved::of_nodes(resolver.tree(), resolver.user(), &values);
     new_text_over(alloc, &solved, prefix)
 }

@@ -209,8 +209,6 @@ impl Resolver for Session {
 
     ghost knows = { λ s n. IsKept s.session.tree s.kept.values n };
 
-    ghost lends = { λ s n. IsKept s.session.tree s.kept.values n };
-
     ghost grew_nothing = { λ r. record { session = refl; stays = λ n inside kept. kept; fills = λ laws. laws.nothing r.kept } };
 
     ghost grew_then = { λ r s t p q g h.
@@ -260,21 +258,5 @@ impl Resolver for Session {
         self.facts();
         self.fill_node(node)?;
         Ok(self.value(node))
-    }
-
-    #[tactic(auto, using(crate::proofs::AskedLaws::grew_by_laws))]
-    fn fill_node(&mut self, node: Node) -> Result<(), AllocError> {
-        self.facts();
-        Session::fill_node(self, node)
-    }
-
-    #[tactic(auto, using(crate::proofs::AskedLaws::grew_by_laws))]
-    fn fill_all(&mut self) -> Result<(), AllocError> {
-        self.facts();
-        Session::fill_all(self)
-    }
-
-    fn solved(&self) -> Solved<'_> {
-        Session::solved(self)
     }
 }

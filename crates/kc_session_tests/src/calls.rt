@@ -1,9 +1,10 @@
-//! The calls of kc_value over a fresh resolver and over a session: both give the same answers, which are those
-//! of worked examples. And the rule of a node by itself.
+//! The calls of kc_value over a fresh resolver, over one that is written outside kc_value, and over a session: all give
+//! the same answers, which are those of worked examples. And the rule of a node by itself.
 ghost use Rattle.std.specs.Prelude.{◌≡◌, IsTrue};
 ghost use Rattle.kc_tree.specs.declared.node.Node.TheVariants.{Vis, Sel};
 ghost use Rattle.kc_tree.specs.Nodes.{IsNodeOf};
 
+use crate::listed::Listed;
 use crate::reasons::reason_of_symbol;
 use crate::serving::{in_session, replies_in};
 use crate::table::{rows, three_fields};
@@ -11,7 +12,7 @@ use kc_session::Session;
 use kc_tree::{ChoiceId, Node, SymId, Tree, Tri};
 use kc_value::{
     Fresh, KeptValues, Known, Meter, NodeValues, Resolver, User, Value, assignable, eval,
-    without_user,
+    values_of_all, without_user,
 };
 use std::alloc::Global;
 use std::test::Fail;
@@ -146,8 +147,21 @@ fn fresh_answers(
     answers(alloc, &mut resolver, question, lines)
 }
 
-/// Wants these answers after commands, from a fresh resolver, from the session, and from what it has kept by then.
-/// And wants the rule of each node to give its value.
+/// The same over a list of values.
+fn listed_answers(
+    alloc: Global,
+    session: &mut Session,
+    question: Question,
+    lines: &str,
+) -> Result<String, Fail> {
+    let (_, mut meter) = KeptValues::new(alloc, session.tree())?.into_parts();
+    session.fill_all()?;
+    let mut resolver = Listed::of(alloc, &session.solved(), &mut meter)?;
+    answers(alloc, &mut resolver, question, lines)
+}
+
+/// Wants these answers after commands, from a fresh resolver, from the session, from what it has kept by then, and from
+/// a list of values. And wants the rule of each node to give its value.
 fn compare_answers(
     alloc: Global,
     session: &mut Session,
@@ -159,12 +173,13 @@ fn compare_answers(
     let fresh = fresh_answers(alloc, session, question, want)?;
     let first = answers(alloc, session, question, want)?;
     let second = answers(alloc, session, question, want)?;
+    let listed = listed_answers(alloc, session, question, want)?;
     let rules = show_rules(alloc, session)?;
-    let is_so = fresh.as_str() == want && first.as_str() == want && second.as_str() == want;
-    if is_so && rules.as_str() == "0 true" {
+    let found = [&fresh, &first, &second, &listed];
+    if found.iter().all(|found| found.as_str() == want) && rules.as_str() == "0 true" {
         return Ok(());
     }
-    Err(Fail::new(format!(in alloc; "{fresh}, {first}, {second}, {rules}")?))
+    Err(Fail::new(format!(in alloc; "{fresh}, {first}, {second}, {listed}, {rules}")?))
 }
 
 /// Wants the answers of a table: each row has a Kconfig, commands, and the answers after them.
@@ -215,11 +230,11 @@ fn nodes_at_odds(
 
 /// The nodes at odds over all values of a resolver, and how many evaluations were counted.
 fn show_rules<R: Resolver>(alloc: Global, resolver: &mut R) -> Result<String, Fail> {
-    resolver.fill_all()?;
+    let values = values_of_all(alloc, resolver)?;
     let (_, mut meter) = KeptValues::new(alloc, resolver.tree())?.into_parts();
-    let solved = resolver.solved();
-    let tree = solved.tree();
-    let at_odds = nodes_at_odds(alloc, solved.known(), solved.user(), &mut meter)?;
+    let tree = resolver.tree();
+    let known = Known::of_nodes(tree, &values);
+    let at_odds = nodes_at_odds(alloc, &known, resolver.user(), &mut meter)?;
     let counted = meter.count() == tree.node_count() as u64;
     Ok(format!(in alloc; "{at_odds} {counted}")?)
 }

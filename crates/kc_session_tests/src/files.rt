@@ -2,6 +2,7 @@
 //! how much memory a `.config` takes.
 ghost use Rattle.kc_value.specs.UserValues.{IsUserFor};
 
+use crate::listed::Listed;
 use crate::serving::{in_session, prefix, replies_in};
 use crate::table::{rows, three_fields};
 use kc_files::{
@@ -10,7 +11,7 @@ use kc_files::{
 };
 use kc_session::Session;
 use kc_tree::Tree;
-use kc_value::{Fresh, Resolver, User};
+use kc_value::{Fresh, KeptValues, Resolver, User};
 use std::alloc::{AllocError, Global};
 use std::test::Fail;
 
@@ -99,7 +100,20 @@ fn fresh_texts(
     texts(alloc, &mut resolver, prefix, header)
 }
 
-/// Wants these texts of a fresh resolver and of the session, in a form.
+/// The same over a list of values.
+fn listed_texts(
+    alloc: Global,
+    session: &mut Session,
+    prefix: &Prefix,
+    header: &str,
+) -> Result<String, AllocError> {
+    let (_, mut meter) = KeptValues::new(alloc, session.tree())?.into_parts();
+    session.fill_all()?;
+    let mut resolver = Listed::of(alloc, &session.solved(), &mut meter)?;
+    texts(alloc, &mut resolver, prefix, header)
+}
+
+/// Wants these texts of a fresh resolver, of the session and of a list of values, in a form.
 fn compare_texts(
     alloc: Global,
     session: &mut Session,
@@ -112,7 +126,8 @@ fn compare_texts(
     let prefix = Prefix::new(alloc, prefix)?;
     let fresh = fresh_texts(alloc, session, &prefix, header)?;
     let kept = texts(alloc, session, &prefix, header)?;
-    for found in [fresh, kept] {
+    let listed = listed_texts(alloc, session, &prefix, header)?;
+    for found in [fresh, kept, listed] {
         if found.as_str().strip_prefix(".config\n") != Some(want.as_str()) {
             return Err(Fail::new(format!(in alloc; "{found}, not {want}")?));
         }

@@ -14,6 +14,7 @@ mod failures;
 mod files;
 #[cfg(test)]
 mod kept;
+pub mod listed;
 #[cfg(test)]
 mod reasons;
 #[cfg(test)]

@@ -96,7 +96,7 @@ pub(crate) fn reason_of_symbol<R: Resolver>(
 ) -> Result<String, AllocError>
     requires { IsNodeOf (R.tree_of resolver.old) (Val symbol) }
 {
-    let reason = reason_of(resolver, symbol)?;
+    let reason = reason_of(alloc, resolver, symbol)?;
     reason_words(alloc, resolver.tree(), reason)
 }
 

@@ -1,5 +1,5 @@
 -- The laws of what is kept hold of each tree.
-use Rattle.std.proofs.Common.{◌≡◌, ℕ, ◌+◌, ◌<◌, ◌≤◌, Bool, true, false, true≢false, not, ◌&&◌, List, length, map, take, get_or, Option, None, is_some, refl, sym, ap, ◌∙◌, subst, inl, inr, arith}
+use Rattle.std.proofs.Common.{◌≡◌, ℕ, ◌+◌, ◌<◌, ◌≤◌, true≢false, List, length, map, take, get_or, Option, None, is_some, sym, ap, ◌∙◌, subst, inl, inr, arith}
 use Rattle.std.specs.List.{Contains}
 use Rattle.std.proofs.lemmas.List.{get_or-take, length-map, length-replicate, length-take, length-take-le}
 use Rattle.kc_outline.specs.TreeValue.{TreeValue}

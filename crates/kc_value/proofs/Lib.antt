@@ -1,5 +1,6 @@
 pub mod Agreement
 pub mod AllValueLaws
+pub mod AskedLemmas
 pub mod AssignableLemmas
 pub mod BlockLemmas
 pub mod BoundsLemmas
@@ -19,7 +20,6 @@ pub mod FillLaws
 pub mod FillSteps
 pub mod FirstLemmas
 pub mod FittingLaws
-pub mod FreshLaws
 pub mod GivenLemmas
 pub mod KeptCounts
 pub mod KeptLaws

@@ -1,12 +1,13 @@
 -- What is kept of a tree: the values of nodes are the solution's, and so are those that they
 -- are computed from; and conditions are what the nodes give them.
-use Rattle.std.proofs.Common.{◌≡◌, true, true≢false, List, [], Option, Some, None, unwrap_or, is_some, refl, sym, ap, ◌∙◌, subst}
+use Rattle.std.proofs.Common.{◌≡◌, true, true≢false, List, Option, Some, None, unwrap_or, is_some, refl, sym, ap, ◌∙◌}
 use Rattle.std.specs.Prelude.{Contains}
 use Rattle.kc_statement.specs.declared.tri.Tri.TheVariants.{No}
 use Rattle.kc_outline.specs.TreeValue.{TreeValue}
 use Rattle.kc_tree.specs.declared.node.Node.{Node}
 use Rattle.kc_tree.specs.declared.cell.Cell.{Cell}
 use Rattle.kc_tree.specs.declared.cell.Cell.TheVariants.{Node as OfNode, Definition, Depends, Visible}
+use Rattle.kc_tree.specs.Accepted.{IsAccepted}
 use Rattle.kc_tree.specs.CellLaws.{CellLaws, Reads, itself, through}
 use Rattle.kc_tree.specs.Cells.{IsCellOf, IsCondition, condition_of}
 use Rattle.kc_tree.specs.ConditionTable.{Condition}
@@ -17,9 +18,9 @@ use Rattle.kc_value.specs.declared.value.Value.TheVariants.{Tri as Level}
 use Rattle.kc_value.specs.Assignment.{Assignment, assignment_of, value_at}
 use Rattle.kc_value.specs.Conditions.{condition_value}
 use Rattle.kc_value.specs.Kept.{AreKept, IsClosed, IsHeld, IsKept, cell_worth}
-use Rattle.kc_value.specs.Known.{AreRight, KnownValue, given}
-use Rattle.kc_value.specs.Solution.{solution}
-use Rattle.kc_value.specs.Solved.{IsSolved, SolvedValue}
+use Rattle.kc_value.specs.Known.{AreRight}
+use Rattle.kc_value.specs.Solution.{solution, AreSolved}
+use Rattle.kc_value.specs.Solved.{IsSolved}
 use Rattle.kc_value.specs.UserValues.{UserValues}
 use Rattle.kc_value.proofs.Agreement.{Agree-from_contains, condition_agrees}
 
@@ -74,18 +75,9 @@ module _ (t : TreeValue) (laws : CellLaws t) where
         let there = reads_kept kept are.closed c m inside held reads in
         sym (node_right m there.0 there.1))
 
--- where there are no values
-pub none_solved : (t : TreeValue) (u : UserValues) (values : List (Option Value)) → values ≡ [] → IsSolved t u values
-none_solved t u values none =
-    subst (IsSolved t u) (sym none)
-    (record { right = λ n inside is. absurd (true≢false (sym is)); used = λ n m inside is uses. absurd (true≢false (sym is)) })
-
--- what a node that was asked for is computed from has the solution's values, by other names of the tree, the user values and
--- the list
-pub asked_right : (t : TreeValue) (u : UserValues) (s : SolvedValue) (k : KnownValue) (n : Node) → s.tree ≡ t → s.user ≡ u → k.tree ≡ s.tree → k.values ≡ s.values
-    → IsSolved s.tree s.user s.values → IsNodeOf t n → IsKept t s.values n → (m : Node) → Uses k.tree n m → given k m ≡ solution k.tree u m
-asked_right t u s k n tree user same_tree same_values is inside kept =
-    subst (λ (x : TreeValue). (m : Node) → Uses x n m → assignment_of x k.values m ≡ solution x u m) (sym (same_tree ∙ tree))
-    (subst (λ (vs : List (Option Value)). (m : Node) → Uses t n m → assignment_of t vs m ≡ solution t u m) (sym same_values)
-    (subst (λ (p : TreeValue × UserValues). IsNodeOf p.0 n → IsKept p.0 s.values n → (m : Node) → Uses p.0 n m → assignment_of p.0 s.values m ≡ solution p.0 p.1 m)
-    (λ i. (tree i, user i)) (λ inside is-kept m uses. is.used n m inside is-kept uses) inside kept))
+-- where each node has the solution's value
+pub all_solved : (t : TreeValue) (u : UserValues) (values : List (Option Value)) → IsAccepted t → AreSolved t u values → IsSolved t u values
+all_solved t u values accepted solved = record {
+  right = λ n inside is. solved n inside;
+  used = λ n m inside is uses. solved m (accepted.within n m inside uses);
+}

@@ -1,5 +1,5 @@
 -- One edit of the user values: this project's own.
-use Rattle.std.specs.Prelude.{◌≡◌, true, Option, Some, ⊤}
+use Rattle.std.specs.Prelude.{◌≡◌, true, Some, ⊤}
 use Rattle.kc_outline.specs.TreeValue.{TreeValue}
 use Rattle.kc_tree.specs.declared.node.Node.TheVariants.{Val, Sel}
 use Rattle.kc_tree.specs.declared.user_value.UserVal.{UserVal}

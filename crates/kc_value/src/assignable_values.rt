@@ -19,6 +19,7 @@ ghost use Rattle.kc_value.specs.Rule.{in_type, user_part};
 ghost use Rattle.kc_value.specs.Solution.{solution, AreSolved, IsOnlySolution};
 ghost use Rattle.kc_value.specs.UserValues.{UserValues, IsUserFor};
 
+use crate::asked_values::values_of_used;
 use crate::known::Known;
 use crate::resolver::Resolver;
 use crate::symbol_value::{LineValues, line_values, shown_tri};
@@ -134,9 +135,8 @@ pub fn assignable<R: Resolver>(
     ensures user { R.user_of resolver.new ≡ R.user_of resolver.old }
     ensures grew { R.grew resolver.old resolver.new (Vis symbol ∷ Val symbol ∷ []) }
 {
-    resolver.fill_node(Node::Val(symbol))?;
-    let solved = resolver.solved();
-    assignable_among(alloc, solved.known(), symbol)
+    let used = values_of_used(alloc, resolver, Node::Val(symbol))?;
+    assignable_among(alloc, &Known::of_nodes(resolver.tree(), &used), symbol)
 }
 
 /// The values that a user can give a symbol with an effect, as [`assignable`] has them, over the values of all nodes, or

@@ -2,6 +2,7 @@
 #![tactic(auto)]
 
 mod all_values;
+mod asked_values;
 mod assignable_values;
 mod bounds;
 mod change;
@@ -36,6 +37,7 @@ mod value;
 mod without;
 
 pub use all_values::AllValue;
+pub use asked_values::values_of_all;
 pub use assignable_values::{assignable, assignable_among};
 pub use bounds::spelled;
 pub use change::{Change, NewUser};

@@ -84,18 +84,6 @@ fn summary_stored(
 }
 
 impl NodeValues {
-    /// No places.
-    #[tactic(auto, unfolding(crate::specs::NodeValues::held))]
-    pub(crate) fn none(alloc: Global) -> NodeValues
-        ensures { result ≡ [] }
-    {
-        NodeValues {
-            summaries: Vec::new(alloc),
-            stored: IndexMap::new(alloc),
-            said: SaidValues::new(),
-        }
-    }
-
     /// As many nodes without a value. The error comes where memory is refused.
     #[tactic(auto, using(crate::proofs::NodeValueLemmas::nothing_held, crate::proofs::NodeValueLemmas::nothing_said))]
     pub fn empty(alloc: Global, count: usize) -> Result<NodeValues, AllocError>

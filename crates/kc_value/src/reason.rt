@@ -10,13 +10,14 @@ ghost use Rattle.kc_value.specs.Replay.{shown_in};
 ghost use Rattle.kc_value.specs.Known.{given};
 ghost use Rattle.kc_value.specs.Solution.{solution, AreSolved, IsOnlySolution};
 
+use crate::asked_values::values_of_used;
 use crate::known::Known;
 use crate::places::{DefaultPlace, RangePlace};
 use crate::reason_branches::{member_reason, text_reason, tri_reason};
 use crate::resolver::Resolver;
 use crate::user::User;
 use kc_tree::{Node, SymId, SymbolType};
-use std::alloc::AllocError;
+use std::alloc::{AllocError, Global};
 
 /// The branch of the rule that gives a symbol its value (this project's own names for what docs/VALUES.md describes).
 /// What a symbol shows has its type, so an m that a bool shows as y is no branch of its own.
@@ -101,7 +102,11 @@ pub fn reason_over(known: &Known<'_>, user: &User, symbol: SymId) -> Reason
 /// # Errors
 ///
 /// The error comes where memory is refused.
-pub fn reason_of<R: Resolver>(resolver: &mut R, symbol: SymId) -> Result<Reason, AllocError>
+pub fn reason_of<R: Resolver>(
+    alloc: Global,
+    resolver: &mut R,
+    symbol: SymId,
+) -> Result<Reason, AllocError>
     requires { IsNodeOf (R.tree_of resolver.old) (Val symbol) }
     ensures reason { IfOk result (λ r. IsReason (R.tree_of resolver.old) (R.user_of resolver.old)
         (solution (R.tree_of resolver.old) (R.user_of resolver.old)) symbol r) }
@@ -114,7 +119,7 @@ pub fn reason_of<R: Resolver>(resolver: &mut R, symbol: SymId) -> Result<Reason,
     ensures user { R.user_of resolver.new ≡ R.user_of resolver.old }
     ensures grew { R.grew resolver.old resolver.new (Val symbol ∷ []) }
 {
-    resolver.fill_node(Node::Val(symbol))?;
-    let solved = resolver.solved();
-    Ok(reason_among(solved.known(), solved.user(), symbol))
+    let used = values_of_used(alloc, resolver, Node::Val(symbol))?;
+    let known = Known::of_nodes(resolver.tree(), &used);
+    Ok(reason_among(&known, resolver.user(), symbol))
 }

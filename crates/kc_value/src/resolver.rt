@@ -3,17 +3,17 @@ ghost use Rattle.std.specs.Borrow.{sem};
 ghost use Rattle.std.specs.Io.BufRead.{Rests};
 ghost use Rattle.kc_tree.specs.declared.node.Node.{Node};
 ghost use Rattle.kc_outline.specs.TreeValue.{TreeValue};
-ghost use Rattle.kc_tree.specs.Nodes.{IsNodeOf, all_nodes};
+ghost use Rattle.kc_tree.specs.Nodes.{IsNodeOf};
 ghost use Rattle.kc_tree.specs.Reached.{Reached};
-ghost use Rattle.kc_value.specs.Kept.{IsKept};
+ghost use Rattle.kc_value.specs.NodeLists.{AreNodesOf, AreValuesOf};
 ghost use Rattle.kc_value.specs.UserValues.{UserValues, IsUserFor};
 ghost use Rattle.kc_value.specs.Solution.{solution, IsOnlySolution};
 
-use crate::solved::Solved;
+use crate::node_values::NodeValues;
 use crate::user::User;
-use crate::value::Value;
+use crate::value::{Value, copy_of};
 use kc_tree::{Node, Tree};
-use std::alloc::AllocError;
+use std::alloc::{AllocError, Global};
 
 /// What answers with the values of a tree for the values of a user. What a resolver keeps between calls is
 /// its own; `grew` and `knows` are what callers may say of it.
@@ -32,10 +32,6 @@ pub trait Resolver {
 
     /// That the value of the node is at hand: of a resolver that keeps values, that it is kept.
     ghost knows: { Self → Node → Type 0 };
-
-    /// That the value of the node is among those that [`solved`](Resolver::solved) lends. It need not stay so past the
-    /// next question.
-    ghost lends: { Self → Node → Type 0 };
 
     /// The tree that is answered for.
     fn tree(&self) -> &Tree
@@ -57,39 +53,31 @@ pub trait Resolver {
             (tree_of new ≡ tree_of self.old) × (user_of new ≡ user_of self.old)
             × grew self.old new (node ∷ []) × OnOk result (knows new node))) };
 
-    /// Evaluates a node, and all that it is computed from, as far as their values are not at hand, so that they can be
-    /// lent. That there is one solution, and no other, for these user values and for any others, holds whatever the call
-    /// returns; tree and user values stay.
+    /// Copies the values of nodes of the tree into a list by number, by asking for one node after another. That there is
+    /// one solution, and no other, for these user values and for any others, holds whatever the call returns; tree and user
+    /// values stay.
     ///
     /// # Errors
     ///
     /// The error comes where memory is refused.
-    fn fill_node(&mut self, node: Node) -> Result<(), AllocError>
-        requires { IsNodeOf (tree_of self.old) node }
+    fn values_of(&mut self, alloc: Global, nodes: &[Node]) -> Result<NodeValues, AllocError>
+        requires { AreNodesOf (tree_of self.old) nodes.now }
+        ensures values { IfOk result (λ v. AreValuesOf (tree_of self.old) (solution (tree_of self.old) (user_of self.old)) nodes.now v) }
         ensures tree { tree_of self.new ≡ tree_of self.old }
         ensures user { user_of self.new ≡ user_of self.old }
-        ensures grew { grew self.old self.new (node ∷ []) }
-        ensures lent { OnOk result (lends self.new node) }
-        ensures solved { (u : UserValues) → IsOnlySolution (tree_of self.old) u (solution (tree_of self.old) u) };
-
-    /// Evaluates all nodes, as far as their values are not at hand, with what is said at [`fill_node`](Resolver::fill_node).
-    ///
-    /// # Errors
-    ///
-    /// The error comes where memory is refused.
-    fn fill_all(&mut self) -> Result<(), AllocError>
-        ensures tree { tree_of self.new ≡ tree_of self.old }
-        ensures user { user_of self.new ≡ user_of self.old }
-        ensures grew { grew self.old self.new (all_nodes (tree_of self.old)) }
-        ensures lent { OnOk result ((n : Node) → IsNodeOf (tree_of self.old) n → lends self.new n) }
-        ensures solved { (u : UserValues) → IsOnlySolution (tree_of self.old) u (solution (tree_of self.old) u) };
-
-    /// The tree with the user values and values of its nodes, those of the last question among them: texts and answers are
-    /// made from these.
-    fn solved(&self) -> Solved<'_>
-        ensures tree { result.tree ≡ tree_of self.now }
-        ensures user { result.user ≡ user_of self.now }
-        ensures lent { (n : Node) → IsNodeOf (tree_of self.now) n → lends self.now n → IsKept (tree_of self.now) result.values n };
+        ensures grew { grew self.old self.new nodes.now }
+        ensures solved { (u : UserValues) → IsOnlySolution (tree_of self.old) u (solution (tree_of self.old) u) }
+        ensures fitting { IsUserFor (tree_of self.old) (user_of self.old) }
+    {
+        // That the user values are those of a user of the tree is a clause of this call.
+        let _ = self.user();
+        let mut values = NodeValues::empty(alloc, self.tree().node_count())?;
+        for node in nodes {
+            let value = copy_of(self.node(*node)?)?;
+            values.put(self.tree().number(*node), value)?;
+        }
+        Ok(values)
+    }
 
     /// A resolver that was left alone was asked no node.
     ghost grew_nothing: { (r : Self) → grew r r [] };

@@ -1,11 +1,11 @@
 //! A tree with user values, and values of its nodes that are those of the solution.
 
-ghost use Rattle.std.specs.Prelude.{◌≡◌, []};
+ghost use Rattle.std.specs.Prelude.{◌≡◌};
 ghost use Rattle.kc_tree.specs.Accepted.{IsAccepted};
 ghost use Rattle.kc_tree.specs.Nodes.{IsNodeOf};
 ghost use Rattle.kc_value.specs.ChangedValue.{ChangesAreJustEnough};
 ghost use Rattle.kc_value.specs.Kept.{AreKept, IsKept};
-ghost use Rattle.kc_value.specs.Solution.{solution};
+ghost use Rattle.kc_value.specs.Solution.{solution, AreSolved};
 ghost use Rattle.kc_value.specs.Solved.{IsSolved};
 ghost use Rattle.kc_value.specs.UserValues.{IsUserFor};
 
@@ -55,11 +55,11 @@ impl<'a> Solved<'a> {
         }
     }
 
-    /// No values of a tree yet: the list has no places.
-    #[tactic(auto, using(crate::proofs::SolvedLaws::none_solved))]
-    pub(crate) fn of_none(tree: &'a Tree, user: &'a User, values: &'a NodeValues) -> Solved<'a>
+    /// The values of all nodes of a tree.
+    #[tactic(auto, using(crate::proofs::SolvedLaws::all_solved))]
+    pub fn of_nodes(tree: &'a Tree, user: &'a User, values: &'a NodeValues) -> Solved<'a>
         requires user { IsUserFor tree.now user.now }
-        requires none { values.now ≡ [] }
+        requires solved { AreSolved tree.now user.now values.now }
         ensures { result ≡ record { tree = tree.entry.now; user = user.entry.now; values = values.entry.now } }
     {
         Solved {

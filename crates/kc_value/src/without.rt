@@ -12,6 +12,7 @@ ghost use Rattle.kc_value.specs.Solution.{solution, IsOnlySolution};
 ghost use Rattle.kc_value.specs.UserValues.{UserValues};
 ghost use Rattle.kc_value.specs.Without.{user_without, value_without, selects_none, IsOwned};
 
+use crate::asked_values::values_of_used;
 use crate::choice_value::selection_value;
 use crate::known::Known;
 use crate::resolver::Resolver;
@@ -104,9 +105,6 @@ pub fn without_user<R: Resolver>(
     ensures user { R.user_of resolver.new ≡ R.user_of resolver.old }
     ensures grew { R.grew resolver.old resolver.new (node ∷ []) }
 {
-    // That the tree is accepted is a clause of this call.
-    let _ = resolver.tree().node_count();
-    resolver.fill_node(node)?;
-    let solved = resolver.solved();
-    value_without(alloc, solved.known(), node)
+    let used = values_of_used(alloc, resolver, node)?;
+    value_without(alloc, &Known::of_nodes(resolver.tree(), &used), node)
 }

@@ -1,34 +1,49 @@
-use Rattle.std.proofs.Common.{◌≡◌, ◌∙◌, subst}
+use Rattle.std.proofs.Common.{◌≡◌, ap, ◌∙◌, sym, subst}
 use Rattle.std.specs.Result.{IfOk}
 use Rattle.std.specs.String.{string_bytes}
 use Rattle.kc_outline.specs.TreeValue.{TreeValue}
-use Rattle.kc_tree.specs.Nodes.{IsNodeOf}
-use Rattle.kc_value.specs.UserValues.{UserValues}
+use Rattle.kc_value.specs.Solution.{AreSolved}
+use Rattle.kc_value.specs.Solved.{SolvedValue}
+use Rattle.kc_value.specs.UserValues.{UserValues, IsUserFor}
 use Rattle.kc_files.specs.DefaultLoading.{HasNoFeeds, KeepsChanges}
 use Rattle.kc_files.specs.DefaultText.{default_text_of}
-use Rattle.kc_files.proofs.AllSolved.{all_solved}
+use Rattle.kc_files.proofs.AllSolved.{solved_by}
 use Rattle.kc_files.proofs.default_file.defconfig_text.Goals as goal
+
+pub of_nodes-solved-requires : goal.of_nodes-solved-requires
+of_nodes-solved-requires g c =
+    let t = g.R.Resolver.tree_of c.args.resolver.now in
+    let u = g.R.Resolver.user_of c.args.resolver.now in
+    let tree : c.tree.result.now ≡ t = c.tree.ensures ∙ c.values_of_all.ensures.tree in
+    let user : c.user.result.now ≡ u = c.user.ensures.user ∙ c.values_of_all.ensures.user in
+    record {
+      user = subst (λ (p : TreeValue × UserValues). IsUserFor p.0 p.1) (λ i. (sym tree i, sym user i)) c.values_of_all.ensures.fitting;
+      solved = solved_by t u c.in_ok-values.values c.in_ok-values.ensures.values c.tree.result.now c.user.result.now tree user;
+    }
+
+pub defconfig_text_over-requires : goal.defconfig_text_over-requires
+defconfig_text_over-requires g c =
+    let t = g.R.Resolver.tree_of c.args.resolver.now in
+    let u = g.R.Resolver.user_of c.args.resolver.now in
+    let tree : c.tree.result.now ≡ t = c.tree.ensures ∙ c.values_of_all.ensures.tree in
+    let user : c.user.result.now ≡ u = c.user.ensures.user ∙ c.values_of_all.ensures.user in
+    subst (λ (s : SolvedValue). AreSolved s.tree s.user s.values) (sym c.of_nodes-solved.ensures)
+    (solved_by t u c.in_ok-values.values c.in_ok-values.ensures.values c.tree.result.now c.user.result.now tree user)
 
 pub returns-clause-keeps : goal.returns-clause-keeps
 returns-clause-keeps g c =
     let r = g.R.Resolver in
-    let s = c.solved-solved.result in
-    let same_tree : s.tree ≡ r.tree_of c.args.resolver.now = c.solved-solved.ensures.tree ∙ c.fill_all.ensures.tree in
-    let same_user : s.user ≡ r.user_of c.args.resolver.now = c.solved-solved.ensures.user ∙ c.fill_all.ensures.user in
+    let s = c.of_nodes-solved.result in
+    let same_tree : s.tree ≡ r.tree_of c.args.resolver.now = ap (λ (x : SolvedValue). x.tree) c.of_nodes-solved.ensures ∙ c.tree.ensures ∙ c.values_of_all.ensures.tree in
+    let same_user : s.user ≡ r.user_of c.args.resolver.now = ap (λ (x : SolvedValue). x.user) c.of_nodes-solved.ensures ∙ c.user.ensures.user ∙ c.values_of_all.ensures.user in
     subst (λ (p : TreeValue × UserValues). HasNoFeeds p.1 → IfOk c.defconfig_text_over.result (λ text. KeepsChanges p.0 p.1 c.args.prefix.now (string_bytes text)))
     (λ i. (same_tree i, same_user i)) c.defconfig_text_over.ensures.keeps
 
 pub returns-clause-text : goal.returns-clause-text
 returns-clause-text g c =
     let r = g.R.Resolver in
-    let s = c.solved-solved.result in
-    let same_tree : s.tree ≡ r.tree_of c.args.resolver.now = c.solved-solved.ensures.tree ∙ c.fill_all.ensures.tree in
-    let same_user : s.user ≡ r.user_of c.args.resolver.now = c.solved-solved.ensures.user ∙ c.fill_all.ensures.user in
+    let s = c.of_nodes-solved.result in
+    let same_tree : s.tree ≡ r.tree_of c.args.resolver.now = ap (λ (x : SolvedValue). x.tree) c.of_nodes-solved.ensures ∙ c.tree.ensures ∙ c.values_of_all.ensures.tree in
+    let same_user : s.user ≡ r.user_of c.args.resolver.now = ap (λ (x : SolvedValue). x.user) c.of_nodes-solved.ensures ∙ c.user.ensures.user ∙ c.values_of_all.ensures.user in
     subst (λ (p : TreeValue × UserValues). IfOk c.defconfig_text_over.result (λ text. string_bytes text ≡ default_text_of p.0 p.1 c.args.prefix.now))
     (λ i. (same_tree i, same_user i)) c.defconfig_text_over.ensures.text
-
-pub defconfig_text_over-requires : goal.defconfig_text_over-requires
-defconfig_text_over-requires g c =
-    let same = c.fill_all.ensures.tree in
-    all_solved (g.R.Resolver.tree_of c.args.resolver.now) _ c.solved-solved.result same c.solved-solved.ensures.tree c.values.ensures.solved
-    (λ n inside. c.solved-solved.ensures.lent n inside (c.in_ok-fill_all.ensures.lent n (subst (λ (x : TreeValue). IsNodeOf x n) same inside)))

@@ -1,4 +1,4 @@
-use Rattle.std.proofs.Common.{◌&&◌, not, is_some, length, subst, sym, ap, ◌∙◌}
+use Rattle.std.proofs.Common.{◌&&◌, not, is_some, subst, sym, ap, ◌∙◌}
 use Rattle.std.specs.Option.{option_copied}
 use Rattle.kc_outline.specs.TreeValue.{choice_of}
 use Rattle.kc_value.specs.Changes.{changed, new_user, IsChangeFor}
