@@ -119,6 +119,48 @@ fn references_in_paths_are_followed(rt: HostRuntime) -> Result<(), Fail> {
     Ok(())
 }
 
+/// How many files are in a chain beside the top file.
+const LINKS: usize = 20;
+
+/// A top file that sources the file 1, and files 1, 2, .. of which each sources the next. Counts the reads of wanted files.
+#[derive(Drop)]
+struct Chain {
+    wanted: Cell<usize>,
+}
+
+impl Folder for Chain {
+    fn read_bytes(&self, alloc: Global, path: &str) -> Result<Vec<u8>, FolderFault> {
+        self.wanted.set(self.wanted.get().wrapping_add(1));
+        self.read_plain(alloc, path)
+    }
+
+    fn read_plain(&self, alloc: Global, path: &str) -> Result<Vec<u8>, FolderFault> {
+        let number = path.parse::<usize>().unwrap_or(0);
+        let next = number.wrapping_add(1);
+        let text = if number < LINKS {
+            format!(in alloc; "source \"{next}\"\n")
+        } else {
+            String::from_str(alloc, "config A\nbool \"a\"\n")
+        };
+        let text = text.map_err(|_| FolderFault::NoMemory)?;
+        Ok(text.into_bytes())
+    }
+}
+
+#[test]
+fn files_that_are_read_ahead_name_further_ones(rt: HostRuntime) {
+    let folder = Chain {
+        wanted: Cell::new(0),
+    };
+    let words = ["kconf", "olddefconfig", "Kconfig", "-"];
+    let outcome = run_in(rt.alloc(), words.as_slice(), &folder, b"");
+    assert_eq!(rt;
+        outcome.output.as_slice(),
+        b"# CONFIG_A is not set\n".as_slice()
+    );
+    assert_eq!(rt; folder.wanted.get(), 1);
+}
+
 #[test]
 fn too_many_files_are_a_limit_however_they_are_named(rt: HostRuntime) -> Result<(), Fail> {
     let rows = [

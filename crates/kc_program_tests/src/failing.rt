@@ -84,6 +84,16 @@ fn a_failing_output_is_reported(rt: HostRuntime) {
         (["kconf", "olddefconfig", "Kconfig", "-"].as_slice(), cannot),
         (["kconf", "allyesconfig", "Kconfig"].as_slice(), cannot),
         (["kconf", "files", "Kconfig"].as_slice(), cannot),
+        (["kconf", "why", "Kconfig", "-", "A"].as_slice(), cannot),
+        (["kconf", "check", "Kconfig"].as_slice(), cannot),
+        (["kconf", "menu", "Kconfig", "-"].as_slice(), cannot),
+        (
+            ["kconf", "merge", "Kconfig", ".config", ".config"].as_slice(),
+            ".config:1: no line of a .config
+1 asked: 0 got, 0 got another value, 1 unusable, 0 replaced; 0 lines of .config lost
+kconf: cannot write
+",
+        ),
         (
             ["kconf", "olddefconfig", "Kconfig", ".config"].as_slice(),
             "kconf: .config:1: warning 4\nkconf: cannot write\n",

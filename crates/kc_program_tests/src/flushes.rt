@@ -5,6 +5,7 @@ use kc_program::program;
 use std::alloc::{AllocError, Global};
 use std::cell::Cell;
 use std::io::{self, Read, Write};
+use std::process::Abort;
 use std::test::Fail;
 
 /// How many symbols the Kconfig has: enough that a list of them has more than 512 bytes.
@@ -171,10 +172,32 @@ fn a_reply_is_flushed_before_the_next_line_is_read(rt: HostRuntime) -> Result<()
         ("set A0 n\n", 1),
         ("header\n", 1),
     ];
+    wants_replies_flushed(&rt, rt.alloc(), words.as_slice(), commands.as_slice(), 88)
+}
+
+#[test]
+fn a_reply_is_flushed_where_refusals_are_explained(rt: HostRuntime) -> Result<(), Fail> {
+    let words = ["kconf", "session", "Kconfig", ".config", "--explain"];
+    let commands = [
+        ("set A0 y\n", 1),
+        ("list\n", SYMBOLS + 1),
+        ("set A0 n\n", 1),
+    ];
+    wants_replies_flushed(&rt, rt.alloc(), words.as_slice(), commands.as_slice(), 43)
+}
+
+/// Wants so many lines as the replies to commands, each flushed before the next command is read.
+fn wants_replies_flushed(
+    rt: &impl Abort,
+    alloc: Global,
+    words: &[&str],
+    commands: &[(&str, usize)],
+    lines: usize,
+) -> Result<(), Fail> {
     let watch = Watch::new(2);
-    let status = run_watched(rt.alloc(), words.as_slice(), &watch, commands.as_slice())?;
+    let status = run_watched(alloc, words, &watch, commands)?;
     assert_eq!(rt; status, 0);
-    assert_eq!(rt; watch.flushed.get(), 88);
+    assert_eq!(rt; watch.flushed.get(), lines);
     assert_eq!(rt; watch.early.get(), 0);
     Ok(())
 }
@@ -195,6 +218,15 @@ fn each_text_is_flushed(rt: HostRuntime) -> Result<(), Fail> {
             2,
         ),
         (["kconf", "genheader", "Kconfig", ".config"].as_slice(), 2),
+        (["kconf", "why", "Kconfig", ".config", "A0"].as_slice(), 2),
+        (["kconf", "menu", "Kconfig", ".config"].as_slice(), 2),
+        // The lines of the report: two that can't be used, and the counts.
+        (
+            ["kconf", "merge", "Kconfig", ".config", ".config"].as_slice(),
+            3,
+        ),
+        (["kconf", "check", "Kconfig", ".config"].as_slice(), 0),
+        (["kconf", "files", "Kconfig"].as_slice(), 0),
         (["kconf", "allnoconfig", "Kconfig"].as_slice(), 0),
         (["kconf", "allyesconfig", "Kconfig"].as_slice(), 0),
         (["kconf", "--help"].as_slice(), 0),

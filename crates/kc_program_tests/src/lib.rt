@@ -13,6 +13,8 @@ mod files;
 #[cfg(test)]
 mod flushes;
 #[cfg(test)]
+mod refusals;
+#[cfg(test)]
 mod running;
 #[cfg(test)]
 mod system_files;
