@@ -38,8 +38,9 @@ check_words() {
 }
 
 check_words "$page" "$(groff -man -Tascii -P-c "$page" | col -b)"
-for completion in "$root/tools/completions/kconf.bash" "$root/tools/completions/_kconf"; do
-    check_words "$completion" "$(cat "$completion")"
+for completion in "$root"/tools/completions/*; do
+    # fish has the options as `-l NAME` and `-s C`.
+    check_words "$completion" "$(sed 's/ -l \([a-z]\)/ --\1/g; s/ -s \(.\) / -\1 /g' "$completion")"
 done
 
 version=$(sed -n 's/^pub(crate) const VERSION: &str = "\(.*\)";$/\1/p' "$sources/version.rt")
