@@ -1,11 +1,12 @@
 #!/usr/bin/env bash
-# Runs the command lines of docs/COMMANDS.md, of the help and of the make fragment, the completion of bash and the
-# installer on small trees, and compares what they print. GNU make reads what genmake writes.
+# Runs the command lines of docs/COMMANDS.md, of the help and of the make fragment, and the completions of bash and fish
+# on small trees, and compares what they print. GNU make reads what genmake writes.
 #
 #     tools/test_program.sh [PROGRAM]
 #
-# PROGRAM is a built kconf, and otherwise what `rt run` leaves in crates/kconf/out. It needs bash and GNU make. A line is
-# written for each part, with the difference where there is one, and the status is 1 then.
+# PROGRAM is a built kconf, and otherwise what `rt run` leaves in crates/kconf/out. It needs bash and GNU make; without
+# fish its completion is not tested. A line is written for each part, with the difference where there is one, and the
+# status is 1 then.
 set -uo pipefail
 
 root=$(cd "$(dirname "${BASH_SOURCE[0]}")/.." && pwd)
@@ -317,24 +318,6 @@ CONFIG_NET=y
 .config .config.d Kconfig Makefile arch auto.conf autoconf.h defconfig kconf.mk words status 0
 END
 
-part 'the installer' install
-wants shell "$root/tools/install.sh $work/install/prefix $program | sed 's|$work/install/||'" <<'END'
-prefix/bin/kconf
-prefix/share/man/man1/kconf.1
-prefix/share/bash-completion/completions/kconf
-prefix/share/zsh/site-functions/_kconf
-prefix/share/kconf/kconf.mk
-status 0
-END
-wants prefix/bin/kconf --version <<'END'
-kconf 1.1.0
-status 0
-END
-wants shell "$root/tools/install.sh $work/install/none $work/missing 2> /dev/null; ls" <<'END'
-prefix
-status 0
-END
-
 # Prints what bash completes the last of some words to.
 completed() {
     COMP_WORDS=("$@")
@@ -369,5 +352,47 @@ wants completed kconf help se <<'END'
 session
 status 0
 END
+
+# Prints what fish completes some words to, without the descriptions.
+completed_by_fish() {
+    HOME=$work fish --no-config -c "source '$root/tools/completions/kconf.fish'; complete -C '$1'" | cut -f 1
+}
+
+if command -v fish > /dev/null; then
+    part 'completion of fish' fish
+    mkdir linux
+    touch Kconfig .config
+    wants completed_by_fish 'kconf gen' <<'END'
+genheader
+genmake
+status 0
+END
+    wants completed_by_fish 'kconf files K' <<'END'
+Kconfig
+status 0
+END
+    wants completed_by_fish 'kconf check Kconfig --' <<'END'
+--explain
+--help
+--prefix
+--strict
+--undefined
+--variables
+status 0
+END
+    wants completed_by_fish 'kconf files -C ' <<'END'
+linux/
+status 0
+END
+    wants completed_by_fish 'kconf help se' <<'END'
+session
+status 0
+END
+    wants completed_by_fish 'kconf help session ' <<'END'
+status 0
+END
+else
+    echo 'not tested: the completion of fish, which is not there'
+fi
 
 exit $failed
