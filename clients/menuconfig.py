@@ -5,7 +5,8 @@
 
 An example of a front end. Nothing in it is proved: each value, visibility and range that it shows is what kconf gave.
 It reads `kconf menu` for the menus, prompts and help texts, and keeps a `kconf session` open for the edits. After an
-edit it asks the session for all values, and runs `kconf menu` on the .config of now for what is shown and for ranges.
+edit it asks the session for all values, and runs `kconf menu` on the default file of now for what is shown and for
+ranges.
 clients/README.md has the keys. It needs Python 3.8 with curses, and no other package.
 """
 
@@ -73,11 +74,14 @@ class Session:
         raise Refused(f"kconf session ended with the status {self.process.wait()}")
 
     def refresh(self) -> None:
-        """Asks for the values and the .config anew, and writes the latter to a file for `kconf menu`."""
+        """Asks for the values and the .config anew, and writes the default file to a file for `kconf menu`.
+
+        The default file gives the same values when it is read. The whole .config need not (docs/FILES.md).
+        """
         self.lines = {line.split(" ", 1)[0]: line for line in self.ask("list")}
         self.config = "".join(line + "\n" for line in self.ask("config"))
         with open(self.present, "w", encoding="utf-8", errors="surrogateescape", newline="\n") as file:
-            file.write(self.config)
+            file.writelines(line + "\n" for line in self.ask("defconfig"))
 
     def symbol(self, name: str) -> Symbol:
         """A symbol as of the last `refresh`."""

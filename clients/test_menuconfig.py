@@ -75,6 +75,31 @@ config MODULES
 	option modules
 """
 
+# A tree in which the whole .config, read again, gives RADIO another value: m in place of the default y.
+CHANGED_BY_ITS_CONFIG = """\
+config MODULES
+	def_bool y
+	option modules
+
+config BUS
+	def_tristate m
+
+config RADIO
+	tristate "Radio" if BUS
+	default y
+
+config QUIET
+	bool "Quiet"
+
+menu "Antennas"
+	depends on RADIO = y
+
+config LONG
+	bool "Long"
+
+endmenu
+"""
+
 # Lines of a .config that is saved: those of the one that was loaded, and the edits.
 SAVED = {
     "CONFIG_NET=y", "CONFIG_WIFI=y", "CONFIG_BUFFERS=9", 'CONFIG_HOST="a \\"b\\" \\\\ c"',
@@ -233,6 +258,14 @@ class Menus(unittest.TestCase):
         self.sees("CRC can't be n now", "-*- Checksums", without="(not saved)")
         self.terminal.press("Space")
         self.sees("CRC can't be changed now")
+
+    def test_what_is_shown_is_by_the_values_of_the_session(self) -> None:
+        (self.folder / "Kconfig").write_text(CHANGED_BY_ITS_CONFIG, encoding="utf-8")
+        self.start(None)
+        self.sees("<*> Radio", "Antennas  --->")
+        self.terminal.press("j", "y")
+        self.sees("<*> Radio", "[*] Quiet", "QUIET=y")
+        self.sees("Antennas  --->")
 
     def test_search_goes_to_what_it_finds(self) -> None:
         self.start("CONFIG_NET=y\n")
