@@ -36,6 +36,7 @@ keep_program() {
 
 command -v rt > /dev/null || fail 'rt is not on the path: the Rattle toolchain has it'
 [ ! -d "$out" ] || fail "$1 is a folder"
+[ -w "$(dirname "$out")" ] || fail "$1 can't be written"
 mkfifo "$work/Kconfig"
 keep_program &
 cd "$root/crates/kconf"
