@@ -112,7 +112,7 @@ class Terminal:
 
     def __init__(self, command: list[str], folder: Path) -> None:
         self.room = tempfile.TemporaryDirectory()
-        environment = ["env", "LC_ALL=C.UTF-8", *command]
+        environment = ["env", "LC_ALL=C.UTF-8", f"TMPDIR={self.room.name}", *command]
         line = f"cd {shlex.quote(str(folder))} && {shlex.join(environment)}; echo \"status $?\"; exec sleep 60"
         self.tmux("new-session", "-d", "-x", "80", "-y", "24", line)
 
