@@ -13,7 +13,8 @@ which is no mistake.
 A public contract is what users of a crate see: the clauses of the functions that src/lib.rt exports, and those of the
 methods and traits, the fields and the `ghost` items of the types that it exports. Of kc_program, which nothing calls
 but kconf, every contract counts. Names are found by imports, so a bound variable that is called like an imported
-definition counts as that definition: what is said not to be reached is not.
+definition counts as that definition: what is said not to be reached is not. A name that a file of specs/ passes on by
+`pub use` counts as the definition that it passes on.
 """
 
 import re
@@ -57,7 +58,7 @@ class Imports:
 
     def add(self, line: str) -> None:
         """Adds what a `use` line imports from a file of specs/."""
-        several = re.match(r"\s*(?:ghost )?use Rattle\.(\w+)\.specs\.(\w+)\.\{(.*)\}", line)
+        several = re.match(r"\s*(?:ghost |pub )?use Rattle\.(\w+)\.specs\.(\w+)\.\{(.*)\}", line)
         whole = re.match(r"\s*(?:ghost )?use Rattle\.(\w+)\.specs\.(\w+) as (\w+)", line)
         if several:
             for item in several[3].split(","):
@@ -100,7 +101,7 @@ def without_comments(text: str, mark: str) -> List[str]:
 def read_definitions(crate: str, path: Path) -> DefinitionFile:
     found, name = DefinitionFile(Imports()), ""
     for line in without_comments(text_of(path), "--"):
-        if line.startswith("use "):
+        if line.startswith(("use ", "pub use ")):
             found.imports.add(line)
             continue
         begun, first = BEGUN.match(line), line.split(" ")[0]
@@ -199,7 +200,9 @@ def reached_from(begun: Set[Definition], files: Dict[Tuple[str, str], Definition
         if found is None:
             continue
         name = name if name in found.texts else found.owners.get(name, name)
-        if name in found.texts and (crate, place, name) not in reached:
+        if name not in found.texts:
+            left += [found.imports.names[name]] if name in found.imports.names else []
+        elif (crate, place, name) not in reached:
             reached.add((crate, place, name))
             left += found.imports.named_in(found.texts[name])
     return reached

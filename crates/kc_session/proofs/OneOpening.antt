@@ -2,8 +2,8 @@
 use Rattle.std.proofs.Common.{◌≡◌, ℕ, List, Ok, Err, true, false, refl, sym, ap, subst, ◌∙◌}
 use Rattle.kc_text.specs.LineValue.{LineValue}
 use Rattle.kc_text.specs.FileList.{File}
-use Rattle.kc_text.specs.Expansion.{texts_in}
-use Rattle.kc_text.specs.Reading.{logical_lines_of}
+use Rattle.kc_text.specs.Names.{texts_in}
+use Rattle.kc_text.specs.Entries.{AreLines, HasOneReading, IsFirstTextFault}
 use Rattle.kc_text.specs.declared.fault.TextFault.{TextFault}
 use Rattle.kc_tree.specs.declared.fault.TreeFault.{TreeFault}
 use Rattle.kc_tree.specs.declared.fault.TreeFault.TheVariants as tree_fault
@@ -87,26 +87,21 @@ module _ (lines : List LineValue) (prefix config : List ℕ) where
     }
 
 -- ---- texts
-module _ (files vars : List File) (top prefix config : List ℕ) where
+module _ (files vars : List File) (top prefix config : List ℕ) (reading : HasOneReading files (texts_in vars) top) where
   -- ---- a fault of the texts
-  not_both : (lines : List LineValue) (fault : TextFault) → logical_lines_of files (texts_in vars) top ≡ Ok lines → logical_lines_of files (texts_in vars) top ≡ Err fault → ⊥
-  not_both lines fault are is =
-      let both : Ok lines ≡ Err fault = sym are ∙ is in
-      cc
+  not_both : (lines : List LineValue) (fault : TextFault) → AreLines files (texts_in vars) top lines → IsFirstTextFault files (texts_in vars) top fault → ⊥
+  not_both lines fault are is = reading.never_both lines fault are is
 
-  same_text_fault : (fault other : TextFault) → logical_lines_of files (texts_in vars) top ≡ Err fault → logical_lines_of files (texts_in vars) top ≡ Err other → Text other ≡ Text fault
-  same_text_fault fault other is also =
-      let both : Err other ≡ Err fault = sym also ∙ is in
-      let same : other ≡ fault = cc in
-      ap Text same
+  same_text_fault : (fault other : TextFault) → IsFirstTextFault files (texts_in vars) top fault → IsFirstTextFault files (texts_in vars) top other → Text other ≡ Text fault
+  same_text_fault fault other is also = ap Text (reading.one_fault other fault also is)
 
-  one_text_fault : (fault : TextFault) → logical_lines_of files (texts_in vars) top ≡ Err fault → (g : OpenFault) → IsOfTexts g → IsOpenFault files vars top config g → AreOneOpenFault g (Text fault)
+  one_text_fault : (fault : TextFault) → IsFirstTextFault files (texts_in vars) top fault → (g : OpenFault) → IsOfTexts g → IsOpenFault files vars top config g → AreOneOpenFault g (Text fault)
   one_text_fault fault is (Text other) real h = same_text_fault fault other is h
   one_text_fault fault is (Tree other) real h = absurd (not_both h.lines fault h.lines_are is)
   one_text_fault fault is Limit real h = absurd (not_both h.lines fault h.lines_are is)
   one_text_fault fault is NoMemory real h = absurd real
 
-  only_text_fault : (fault : TextFault) → logical_lines_of files (texts_in vars) top ≡ Err fault → IsOnlyOpenFault files vars top prefix config (Text fault)
+  only_text_fault : (fault : TextFault) → IsFirstTextFault files (texts_in vars) top fault → IsOnlyOpenFault files vars top prefix config (Text fault)
   only_text_fault fault is = record {
     one = one_text_fault fault is;
     sessionless = λ s h. not_both h.lines fault h.lines_are is;
@@ -119,16 +114,14 @@ module _ (files vars : List File) (top prefix config : List ℕ) where
   first_text_fault NoMemory h = tt
 
   -- ---- what the lines of the texts say
-  module _ (lines : List LineValue) (are : logical_lines_of files (texts_in vars) top ≡ Ok lines) where
-    same_lines : (others : List LineValue) → logical_lines_of files (texts_in vars) top ≡ Ok others → others ≡ lines
-    same_lines others also =
-        let both : Ok others ≡ Ok lines = sym also ∙ are in
-        cc
+  module _ (lines : List LineValue) (are : AreLines files (texts_in vars) top lines) where
+    same_lines : (others : List LineValue) → AreLines files (texts_in vars) top others → others ≡ lines
+    same_lines others also = reading.one_list others lines also are
 
-    tree_of_lines : (others : List LineValue) (t : TreeValue) → logical_lines_of files (texts_in vars) top ≡ Ok others → IsTreeOf others t → IsTreeOf lines t
+    tree_of_lines : (others : List LineValue) (t : TreeValue) → AreLines files (texts_in vars) top others → IsTreeOf others t → IsTreeOf lines t
     tree_of_lines others t also h = subst (λ (ls : List LineValue). IsTreeOf ls t) (same_lines others also) h
 
-    fault_of_lines : (others : List LineValue) (f : TreeFault) → logical_lines_of files (texts_in vars) top ≡ Ok others → IsFaultOf others f → IsFaultOf lines f
+    fault_of_lines : (others : List LineValue) (f : TreeFault) → AreLines files (texts_in vars) top others → IsFaultOf others f → IsFaultOf lines f
     fault_of_lines others f also h = subst (λ (ls : List LineValue). IsFaultOf ls f) (same_lines others also) h
 
     from_texts : (s : SessionValue) → IsOpened files vars top prefix config s → IsOpenedFrom lines prefix config s

@@ -1,9 +1,9 @@
 -- Why texts give no session, by the step that failed.
-use Rattle.std.proofs.Common.{◌≡◌, ℕ, List, Ok}
+use Rattle.std.proofs.Common.{◌≡◌, ℕ, List}
 use Rattle.kc_text.specs.LineValue.{LineValue}
 use Rattle.kc_text.specs.FileList.{File}
-use Rattle.kc_text.specs.Expansion.{texts_in}
-use Rattle.kc_text.specs.Reading.{logical_lines_of}
+use Rattle.kc_text.specs.Names.{texts_in}
+use Rattle.kc_text.specs.Entries.{AreLines}
 use Rattle.kc_tree.specs.Parsed.{IsTreeOf}
 use Rattle.kc_outline.specs.TreeValue.{TreeValue}
 use Rattle.kc_session.specs.declared.opening.OpenFault.{OpenFault}
@@ -31,7 +31,7 @@ config_fault_from lines config t Limit tree h = record { tree = t; tree_is = tre
 config_fault_from lines config t NoMemory tree h = tt
 
 -- ---- of the texts that have these lines
-module _ (files vars : List File) (top config : List ℕ) (lines : List LineValue) (are : logical_lines_of files (texts_in vars) top ≡ Ok lines) where
+module _ (files vars : List File) (top config : List ℕ) (lines : List LineValue) (are : AreLines files (texts_in vars) top lines) where
   pub opened_of : (prefix : List ℕ) (s : SessionValue) → IsOpenedFrom lines prefix config s → IsOpened files vars top prefix config s
   opened_of prefix s h = record { lines = lines; lines_are = are; tree = h.tree; session = h.session; fits = h.fits }
 

@@ -1,9 +1,9 @@
 -- This project's own: the session of the texts of a Kconfig, or why there is none.
-use Rattle.std.specs.Prelude.{◌≡◌, ℕ, ◌≤◌, true, false, List, Ok, Err, length}
+use Rattle.std.specs.Prelude.{◌≡◌, ℕ, ◌≤◌, true, false, List, length}
 use Rattle.kc_text.specs.LineValue.{LineValue}
 use Rattle.kc_text.specs.FileList.{File}
-use Rattle.kc_text.specs.Expansion.{texts_in}
-use Rattle.kc_text.specs.Reading.{logical_lines_of}
+use Rattle.kc_text.specs.Names.{texts_in}
+use Rattle.kc_text.specs.Entries.{AreLines, IsFirstTextFault}
 use Rattle.kc_tree.specs.declared.fault.TreeFault.{TreeFault}
 use Rattle.kc_tree.specs.Parsed.{IsTreeOf, IsFaultOf, IsOfLines, AreOneFault, IsFirstFault}
 use Rattle.kc_session.specs.declared.opening.OpenFault.{OpenFault}
@@ -25,7 +25,7 @@ user_of_config t prefix config = user_after t (no_values t) Replace (assigns_in 
 -- values are those of the `.config`, which is not too long.
 pub record IsOpened (files vars : List File) (top prefix config : List ℕ) (s : SessionValue) : Type 0 where
   pub lines : List LineValue
-  pub lines_are : logical_lines_of files (texts_in vars) top ≡ Ok lines
+  pub lines_are : AreLines files (texts_in vars) top lines
   pub tree : IsTreeOf lines s.tree
   pub session : s ≡ record { tree = s.tree; user = user_of_config s.tree prefix config; prefix = prefix }
   pub fits : fits_body config ≡ true
@@ -38,18 +38,18 @@ pub record AreEnclosed (lines : List LineValue) (t : TreeValue) : Type 0 where
 
 -- the same of the logical lines of the texts
 abbrev pub AreTextsEnclosed : List File → List File → List ℕ → TreeValue → Type 0
-AreTextsEnclosed files vars top t = (lines : List LineValue) → logical_lines_of files (texts_in vars) top ≡ Ok lines → AreEnclosed lines t
+AreTextsEnclosed files vars top t = (lines : List LineValue) → AreLines files (texts_in vars) top lines → AreEnclosed lines t
 
 -- the first fault of the lines
 pub record HasTreeFault (files vars : List File) (top : List ℕ) (fault : TreeFault) : Type 0 where
   pub lines : List LineValue
-  pub lines_are : logical_lines_of files (texts_in vars) top ≡ Ok lines
+  pub lines_are : AreLines files (texts_in vars) top lines
   pub fault_is : IsFaultOf lines fault
   pub of_lines : IsOfLines fault
 
 -- the first fault of the texts
 abbrev pub IsTextFaultOf : List File → List File → List ℕ → OpenFault → Type 0
-IsTextFaultOf files vars top (Text fault) = logical_lines_of files (texts_in vars) top ≡ Err fault
+IsTextFaultOf files vars top (Text fault) = IsFirstTextFault files (texts_in vars) top fault
 IsTextFaultOf files vars top (Tree fault) = ⊥
 IsTextFaultOf files vars top Limit = ⊥
 IsTextFaultOf files vars top NoMemory = Unit {0}
@@ -71,14 +71,14 @@ IsConfigFault config NoMemory = Unit {0}
 -- the texts have a tree, and the `.config` is too long
 pub record HasLongConfig (files vars : List File) (top config : List ℕ) : Type 0 where
   pub lines : List LineValue
-  pub lines_are : logical_lines_of files (texts_in vars) top ≡ Ok lines
+  pub lines_are : AreLines files (texts_in vars) top lines
   pub tree : TreeValue
   pub tree_is : IsTreeOf lines tree
   pub is_long : fits_body config ≡ false
 
 -- the first fault of the texts, or else of their lines, or else that the `.config` is too long; out of memory says nothing
 abbrev pub IsOpenFault : List File → List File → List ℕ → List ℕ → OpenFault → Type 0
-IsOpenFault files vars top config (Text fault) = logical_lines_of files (texts_in vars) top ≡ Err fault
+IsOpenFault files vars top config (Text fault) = IsFirstTextFault files (texts_in vars) top fault
 IsOpenFault files vars top config (Tree fault) = HasTreeFault files vars top fault
 IsOpenFault files vars top config Limit = HasLongConfig files vars top config
 IsOpenFault files vars top config NoMemory = Unit {0}

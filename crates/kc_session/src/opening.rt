@@ -1,8 +1,8 @@
 //! From the texts of a Kconfig to a session.
 ghost use Rattle.std.specs.Prelude.{◌≡◌, ◌≤◌, ℕ, List, length, All, IfOk, IfErr, OnOk, Ok, Err, true};
 ghost use Rattle.kc_text.specs.declared.reading.TheConstants.{MOST_LINES};
-ghost use Rattle.kc_text.specs.Expansion.{texts_in};
-ghost use Rattle.kc_text.specs.Reading.{logical_lines_of};
+ghost use Rattle.kc_text.specs.Entries.{AreLines, HasOneReading};
+ghost use Rattle.kc_text.specs.Names.{texts_in};
 ghost use Rattle.kc_tree.specs.Parsed.{IsTreeOf, IsFaultOf, IsOnlyTree};
 ghost use Rattle.kc_value.specs.Solution.{solution, IsOnlySolution};
 ghost use Rattle.kc_value.specs.Kept.{nothing_kept};
@@ -54,8 +54,9 @@ fn read_lines<'a>(
     top: &str,
 ) -> Result<Vec<Line<'a>>, OpenFault>
     ensures few { IfOk result (λ lines. length lines.items ≤ MOST_LINES) }
-    ensures lines { IfOk result (λ lines. logical_lines_of sources.now (texts_in vars.now) top.now ≡ Ok lines.items) }
+    ensures lines { IfOk result (λ lines. AreLines sources.now (texts_in vars.now) top.now lines.items) }
     ensures fault { IfErr result (IsTextFaultOf sources.now vars.now top.now) }
+    ensures one { HasOneReading sources.now (texts_in vars.now) top.now }
 {
     match logical_lines(alloc, arena, sources, vars, top) {
         Ok(lines) => Ok(lines),

@@ -10,7 +10,7 @@ joined_more-within l [] = omega arith
 joined_more-within l (k ∷ ls) =
     elim (ends_in_backslash l) as (λ b. (if b then suc (joined_more (k ∷ ls)) else 0) ≤ suc (length ls)) [ true ↦ omega (arith, joined_more-within k ls) | false ↦ omega arith ]
 
-help_len-within : (ls : List (List ℕ)) → help_len ls ≤ length ls
+pub help_len-within : (ls : List (List ℕ)) → help_len ls ≤ length ls
 help_len-within ls =
     let behind = behind_passed ls in
     omega (arith, prefix_len-le-length is_blank_line ls, len_inside-le (first_indentation behind) behind, length-drop (passed_lines ls) ls)

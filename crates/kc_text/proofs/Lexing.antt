@@ -48,14 +48,14 @@ module _ (mode : List Piece → Mode) (test : ℕ → Bool) (takes : (ps : List 
       ] refl
 
 -- blanks show nothing
-blank_takes : (ps : List Piece) (b : ℕ) (bs : List ℕ) → is_blank b ≡ true → step between b bs ≡ on [] 0 between
+pub blank_takes : (ps : List Piece) (b : ℕ) (bs : List ℕ) → is_blank b ≡ true → step between b bs ≡ on [] 0 between
 blank_takes ps b bs e = rw e
 
 pub raw_tokens-blanks : (bs : List ℕ) → raw_tokens (drop (prefix_len is_blank bs) bs) ≡ raw_tokens bs
 raw_tokens-blanks bs = sym (run (λ _. between) is_blank blank_takes [] bs)
 
 -- the bytes of a word
-word_takes : (ps : List Piece) (b : ℕ) (bs : List ℕ) → is_word b ≡ true → step (in_word ps) b bs ≡ on [] 0 (in_word (ps ++ byte b ∷ []))
+pub word_takes : (ps : List Piece) (b : ℕ) (bs : List ℕ) → is_word b ≡ true → step (in_word ps) b bs ≡ on [] 0 (in_word (ps ++ byte b ∷ []))
 word_takes ps b bs e = rw e
 
 pub lexed-word_run : (ps : List Piece) (bs : List ℕ) → lexed 0 (in_word ps) bs ≡ lexed 0 (in_word (ps ++ bytes_of (take (prefix_len is_word bs) bs))) (drop (prefix_len is_word bs) bs)
@@ -79,7 +79,7 @@ pub lexed-word_malformed : (ps : List Piece) (bs : List ℕ) → reference_after
 lexed-word_malformed ps bs e = lexed_step (in_word ps) 36 bs (stop (word (ps ++ malformed ∷ []) ∷ [])) (ap (after_word_dollar ps bs) e)
 
 -- a word begins as it goes on
-abbrev between_by : Bool → Bool → Bool → ℕ → List ℕ → Step
+abbrev pub between_by : Bool → Bool → Bool → ℕ → List ℕ → Step
 between_by blank in_word_too dollar b bs = cond blank (on [] 0 between) (cond in_word_too (on [] 0 (in_word (byte b ∷ []))) (cond dollar (word_dollar [] bs) (sign_step b bs)))
 
 abbrev word_by : List Piece → Bool → Bool → ℕ → List ℕ → Step
@@ -117,7 +117,7 @@ word_ends ps (b ∷ bs) h =
     ap (λ s. after_step s bs) (λ i. word_by ps (parts.0 i) (parts.1 i) b bs) ∙ after_step-showing (word ps) (between_step b bs) bs
 
 -- the bytes in quotes that stand for themselves
-plain_takes : (q : ℕ) (ps : List Piece) (b : ℕ) (bs : List ℕ) → is_plain q b ≡ true → step (in_quotes q ps) b bs ≡ on [] 0 (in_quotes q (ps ++ byte b ∷ []))
+pub plain_takes : (q : ℕ) (ps : List Piece) (b : ℕ) (bs : List ℕ) → is_plain q b ≡ true → step (in_quotes q ps) b bs ≡ on [] 0 (in_quotes q (ps ++ byte b ∷ []))
 plain_takes q ps b bs e = rw e
 
 pub lexed-plain_run : (q : ℕ) (ps : List Piece) (bs : List ℕ) → lexed 0 (in_quotes q ps) bs ≡ lexed 0 (in_quotes q (ps ++ bytes_of (take (prefix_len (is_plain q) bs) bs))) (drop (prefix_len (is_plain q) bs) bs)

@@ -10,13 +10,13 @@ pub dollar_is_ascii : (b : ℕ) → is_no_dollar b ≡ false → b < 128
 dollar_is_ascii b e = grind (arith, nat_tests)
 
 -- bytes that belong to the part before are passed
-value_pieces_from-drop : (n : ℕ) (bs : List ℕ) → value_pieces_from n bs ≡ value_pieces (drop n bs)
+pub value_pieces_from-drop : (n : ℕ) (bs : List ℕ) → value_pieces_from n bs ≡ value_pieces (drop n bs)
 value_pieces_from-drop zero bs = refl
 value_pieces_from-drop (suc n) [] = refl
 value_pieces_from-drop (suc n) (b ∷ bs) = value_pieces_from-drop n bs
 
 -- what a byte and those after it give, by whether it is a dollar
-abbrev value_pieces_by : Bool → ℕ → List ℕ → List Piece
+abbrev pub value_pieces_by : Bool → ℕ → List ℕ → List Piece
 value_pieces_by v b bs =
     cond v (elim (reference_after_dollar bs) [
       | Some name ↦ reference name ∷ value_pieces_from (reference_len name) bs
@@ -49,7 +49,7 @@ value_pieces-plain (b ∷ bs) all =
           ∙ ap (λ ps. byte b ∷ ps) (value_pieces-plain bs (omega (arith, all, prefix_len-yes is_no_dollar b bs (ap not e))))
     ] refl
 
-abbrev after_value_dollar : Option (List ℕ) → List ℕ → List Piece
+abbrev pub after_value_dollar : Option (List ℕ) → List ℕ → List Piece
 after_value_dollar found bs = elim found [
   | Some name ↦ reference name ∷ value_pieces_from (reference_len name) bs
   | None ↦ malformed ∷ []

@@ -1,7 +1,5 @@
--- Lines that define variables: kconfig-macro-language.rst, "Variables". The lines are this project's own: blanks, a
--- name, blanks, one of = := +=, and the value up to the end of the line.
-use Rattle.std.specs.Prelude.{ℕ, Bool, false, List, [], ◌∷◌, ◌++◌, Option, Some, None, Result, Ok, if◌then◌else◌, ◌==◌, ◌||◌, ◌&&◌, drop}
-use Rattle.std.specs.List.{prefix_len}
+-- Steps: what names mean after one definition more: kconfig-macro-language.rst, "Variables".
+use Rattle.std.specs.Prelude.{ℕ, Bool, false, List, [], ◌∷◌, ◌++◌, Option, Some, None, Result, Ok, if◌then◌else◌, ◌==◌, ◌||◌}
 use Rattle.std.specs.Str.{bytes_eq}
 use Rattle.kc_text.specs.declared.fault.TextProblem.{TextProblem}
 use Rattle.kc_text.specs.declared.definition.Assignment.{Assignment}
@@ -9,32 +7,14 @@ use Rattle.kc_text.specs.declared.definition.Assignment.TheVariants.{Later, AtOn
 use Rattle.kc_text.specs.declared.definition.Definition.{Definition}
 use Rattle.kc_text.specs.declared.variables.Value.{Value}
 use Rattle.kc_text.specs.declared.variables.Value.TheVariants.{Recursive, Simple}
-use Rattle.kc_text.specs.Bytes.{is_name, begins_with, behind_blanks, trimmed}
-use Rattle.kc_text.specs.References.{leading_name, value_pieces}
+use Rattle.kc_text.specs.References.{value_pieces}
 use Rattle.kc_text.specs.Expansion.{Names, Environment, Progress, then_on, put, expansion, start}
-
--- what the name is given, from the bytes behind it and its blanks
-abbrev pub assignment_in : List ℕ → List ℕ → Option Definition
-assignment_in name [] = None
-assignment_in name (b ∷ bs) =
-    if b == 61 then Some (record { name = name; assignment = Later; value = trimmed bs })
-    else (if b == 58 && begins_with 61 bs then Some (record { name = name; assignment = AtOnce; value = trimmed (drop 1 bs) })
-    else (if b == 43 && begins_with 61 bs then Some (record { name = name; assignment = Append; value = trimmed (drop 1 bs) })
-    else None))
+pub use Rattle.kc_text.specs.Defining.{assignment_in, definition_after_blanks, definition_of}
 
 -- whether the bytes after a name and its blanks may begin what the name is given
 abbrev pub may_assign : List ℕ → Bool
 may_assign [] = false
 may_assign (b ∷ bs) = b == 61 || (b == 58 || b == 43)
-
--- the definition that a line from its first word on makes, if it makes one
-abbrev pub definition_after_blanks : List ℕ → Option Definition
-definition_after_blanks bs =
-    if prefix_len is_name bs == 0 then None
-    else assignment_in (leading_name bs) (behind_blanks (drop (prefix_len is_name bs) bs))
-
-abbrev pub definition_of : List ℕ → Option Definition
-definition_of line = definition_after_blanks (behind_blanks line)
 
 -- the names with a value for one of them
 abbrev pub with : List ℕ → Value → Names → Names

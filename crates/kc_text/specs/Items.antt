@@ -1,14 +1,7 @@
--- How the lines of a file are taken together: this project's own rules. A line that ends in a backslash is joined with
--- the next one, and a line `help` takes the lines of its text.
-use Rattle.std.specs.Prelude.{ℕ, suc, ◌+◌, ◌-◌, Bool, List, [], ◌∷◌, ◌++◌, length, take, drop, if◌then◌else◌, ◌==◌, Option, Some, None, slice_index}
+-- Steps: how the lines of a file are taken together, one after another: this project's own rules.
+use Rattle.std.specs.Prelude.{ℕ, suc, ◌+◌, ◌-◌, List, [], ◌∷◌, ◌++◌, length, take, drop, if◌then◌else◌, Some, None}
 use Rattle.kc_text.specs.Help.{is_help, help_len, help_text}
-
-abbrev pub ends_in_backslash : List ℕ → Bool
-ends_in_backslash line = slice_index line (length line - 1) == 92
-
--- a line without the backslash at its end
-abbrev pub before_backslash : List ℕ → List ℕ
-before_backslash line = if ends_in_backslash line then take (length line - 1) line else line
+pub use Rattle.kc_text.specs.ItemLists.{ItemValue, ends_in_backslash, before_backslash}
 
 -- the first line with those that are joined to it, each without its backslash
 abbrev pub joined : List (List ℕ) → List ℕ
@@ -24,12 +17,6 @@ joined_more (l ∷ k ∷ ls) = if ends_in_backslash l then suc (joined_more (k �
 -- the lines behind the first one and those that are joined to it
 abbrev pub behind_joined : List (List ℕ) → List (List ℕ)
 behind_joined lines = drop (joined_more lines + 1) lines
-
--- an item: its text, the text of its help, and how many lines it takes beside the first
-pub record ItemValue : Type 0 where
-  pub text : List ℕ
-  pub help : Option (List ℕ)
-  pub more : ℕ
 
 abbrev pub item_with : List ℕ → ℕ → List (List ℕ) → ItemValue
 item_with text more behind =

@@ -1,20 +1,11 @@
--- The tokens of a line before references are followed, by the rules that this project takes from the line format of
+-- Steps: what a line shows, one byte at a time, by the rules that this project takes from the line format of
 -- kconfig-language.rst.
-use Rattle.std.specs.Prelude.{ℕ, zero, suc, Bool, false, not, List, [], ◌∷◌, ◌++◌, if◌then◌else◌, ◌==◌, ◌||◌, ◌&&◌, Some, None}
+use Rattle.std.specs.Prelude.{ℕ, zero, suc, List, [], ◌∷◌, ◌++◌, if◌then◌else◌, ◌==◌, ◌&&◌, Some, None}
 use Rattle.kc_text.specs.declared.line.Operator.{Operator}
 use Rattle.kc_text.specs.declared.line.Operator.TheVariants.{And, Or, Equal, NotEqual, Less, LessOrEqual, Greater, GreaterOrEqual, Not, Open, Close}
 use Rattle.kc_text.specs.Bytes.{is_blank, is_word, begins_with}
 use Rattle.kc_text.specs.References.{Piece, byte, reference, malformed, reference_after_dollar, reference_len}
-
--- what a line shows from left to right: its tokens, and the fault at which reading stops
-pub data Raw : Type 0 where
-  word : List Piece → Raw
-  quoted : List Piece → Raw
-  operator : Operator → Raw
-  -- a quote that the line does not close, after what stands in it
-  unclosed : List Piece → Raw
-  -- a byte that may not stand where it does
-  not_allowed : Raw
+pub use Rattle.kc_text.specs.Shown.{Raw, word, quoted, operator, unclosed, not_allowed, is_quote, begins_word, is_plain}
 
 -- where a byte stands: between tokens, or in a word or in quotes of a kind, after what was read there
 pub data Mode : Type 0 where
@@ -38,10 +29,6 @@ word_dollar ps bs = elim (reference_after_dollar bs) [
   | None ↦ stop (word (ps ++ malformed ∷ []) ∷ [])
 ]
 
--- the kinds of quotes
-abbrev pub is_quote : ℕ → Bool
-is_quote b = b == 34 || b == 39
-
 -- a byte that is no blank and in no word, with the bytes after it: a quote, a comment or an operator
 abbrev pub sign_step : ℕ → List ℕ → Step
 sign_step b bs =
@@ -56,11 +43,6 @@ sign_step b bs =
     else (if b == 40 then on (operator Open ∷ []) 0 between
     else (if b == 41 then on (operator Close ∷ []) 0 between
     else stop (not_allowed ∷ []))))))))))
-
--- whether the bytes begin with a byte of a word, or a dollar
-abbrev pub begins_word : List ℕ → Bool
-begins_word [] = false
-begins_word (b ∷ bs) = is_word b || b == 36
 
 -- a byte between tokens, with the bytes after it
 abbrev pub between_step : ℕ → List ℕ → Step
@@ -86,10 +68,7 @@ abbrev pub quotes_backslash : ℕ → List Piece → List ℕ → Step
 quotes_backslash q ps [] = on [] 0 (in_quotes q ps)
 quotes_backslash q ps (c ∷ bs) = on [] 1 (in_quotes q (ps ++ byte c ∷ []))
 
--- a byte in quotes that stands for itself
-abbrev pub is_plain : ℕ → ℕ → Bool
-is_plain q b = not (b == q || (b == 92 || b == 36))
-
+-- a byte in quotes
 abbrev pub quotes_step : ℕ → List Piece → ℕ → List ℕ → Step
 quotes_step q ps b bs =
     if is_plain q b then on [] 0 (in_quotes q (ps ++ byte b ∷ []))

@@ -1,11 +1,8 @@
--- The logical lines of a top file and all that it sources, or the first fault: this project's own rules for the lines
--- of kconfig-language.rst and the sources and variables of kconfig-macro-language.rst.
-use Rattle.std.specs.Prelude.{ℕ, zero, suc, ◌+◌, List, [], ◌∷◌, ◌++◌, length, Option, Some, None, Result, Ok, Err, if◌then◌else◌, nat_le, nat_lt, codes}
-use Rattle.std.specs.Str.{bytes_eq}
+-- Steps: the logical lines of a top file and all that it sources, read one after another, or the first fault: this
+-- project's own rules for the lines of kconfig-language.rst and the sources and variables of kconfig-macro-language.rst.
+use Rattle.std.specs.Prelude.{ℕ, zero, suc, ◌+◌, List, [], ◌∷◌, ◌++◌, length, Option, Some, None, Result, Ok, Err, if◌then◌else◌, nat_le, nat_lt}
 use Rattle.std.specs.Str.Lines.{lines}
 use Rattle.kc_text.specs.declared.line.Token.{Token}
-use Rattle.kc_text.specs.declared.line.Token.TheVariants.{Word, Quoted}
-use Rattle.kc_text.specs.declared.line.LineKind.TheVariants.{Statement, EndOfFile}
 use Rattle.kc_text.specs.declared.fault.TextProblem.{TextProblem}
 use Rattle.kc_text.specs.declared.fault.TextProblem.TheVariants.{Limit, MissingSource, RecursiveSource}
 use Rattle.kc_text.specs.declared.fault.TextFault.{TextFault}
@@ -17,6 +14,7 @@ use Rattle.kc_text.specs.Expansion.{Names, Environment, then_on, is_among}
 use Rattle.kc_text.specs.Tokens.{line_tokens}
 use Rattle.kc_text.specs.Definitions.{definition_of, defined}
 use Rattle.kc_text.specs.Items.{ItemValue, first_item}
+pub use Rattle.kc_text.specs.Entries.{Place, statement, end_of_file, source_path}
 
 -- what was read so far: the lines, what names stand for, how many `source` lines were followed, and how many bytes they
 -- put in place
@@ -39,12 +37,6 @@ with_names names s = record { lines = s.lines; names = names; followed = s.follo
 abbrev pub entered : List ℕ → ReadState → ReadState
 entered text s = record { lines = s.lines; names = s.names; followed = s.followed + 1; placed = s.placed + length text }
 
--- where a line stands: the path of its file, the file's run and the line's number
-pub record Place : Type 0 where
-  pub path : List ℕ
-  pub run : ℕ
-  pub number : ℕ
-
 -- a problem at a place is its fault
 abbrev pub fault_at : Place → TextProblem → TextFault
 fault_at at problem = At problem at.path at.number
@@ -52,20 +44,6 @@ fault_at at problem = At problem at.path at.number
 abbrev pub at_place : {A : Type 0} → Place → Result A TextProblem → Result A TextFault
 at_place at (Ok x) = Ok x
 at_place at (Err problem) = Err (fault_at at problem)
-
--- the line of the tokens at a place, which without tokens is none
-abbrev pub statement : Place → List Token → Option (List ℕ) → List LineValue
-statement at [] help = []
-statement at (t ∷ ts) help = record { path = at.path; number = at.number; run = at.run; kind = Statement; tokens = t ∷ ts; help = help } ∷ []
-
--- the end of a file, at the number behind its last line
-abbrev pub end_of_file : Place → LineValue
-end_of_file at = record { path = at.path; number = at.number; run = at.run; kind = EndOfFile; tokens = []; help = None }
-
--- the path that a `source` line names: the unquoted word, and one quoted text
-abbrev pub source_path : List Token → Option (List ℕ)
-source_path (Word w ∷ Quoted path ∷ []) = if bytes_eq w (codes "source") then Some path else None
-source_path _ = None
 
 -- how the file of a path is put in place of a line
 abbrev pub Placing : Type 0

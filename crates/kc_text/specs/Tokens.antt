@@ -1,13 +1,12 @@
--- The tokens of a line: this project's own rules for the lines of kconfig-language.rst.
-use Rattle.std.specs.Prelude.{ℕ, Bool, true, false, List, [], ◌∷◌, if◌then◌else◌, Result, Ok, Err}
-use Rattle.std.specs.List.{list_any}
+-- Steps: the tokens of a line, one after another: this project's own rules for the lines of kconfig-language.rst.
+use Rattle.std.specs.Prelude.{ℕ, List, [], ◌∷◌, Result, Ok, Err}
 use Rattle.kc_text.specs.declared.line.Token.{Token}
-use Rattle.kc_text.specs.declared.line.Token.TheVariants.{Word, Expanded, Quoted, Operator}
+use Rattle.kc_text.specs.declared.line.Token.TheVariants.{Quoted, Operator}
 use Rattle.kc_text.specs.declared.fault.TextProblem.{TextProblem}
 use Rattle.kc_text.specs.declared.fault.TextProblem.TheVariants.{BadCharacter, UnclosedQuote}
-use Rattle.kc_text.specs.References.{Piece, byte, reference, malformed}
 use Rattle.kc_text.specs.Lexing.{Raw, word, quoted, operator, unclosed, not_allowed, raw_tokens}
 use Rattle.kc_text.specs.Expansion.{Names, Environment, then_on, expansion, start}
+pub use Rattle.kc_text.specs.Entries.{is_reference, word_of}
 
 -- x before the list of a result
 abbrev pub before : {A E : Type 0} → A → Result (List A) E → Result (List A) E
@@ -18,15 +17,6 @@ before x (Err e) = Err e
 abbrev pub ahead : {A E : Type 0} → List A → Result (List A) E → Result (List A) E
 ahead [] r = r
 ahead (x ∷ xs) r = before x (ahead xs r)
-
-abbrev pub is_reference : Piece → Bool
-is_reference (byte b) = false
-is_reference (reference name) = true
-is_reference malformed = false
-
--- a word that holds a reference is never a keyword, whatever its text
-abbrev pub word_of : List Piece → List ℕ → Token
-word_of ps text = if list_any is_reference ps then Expanded text else Word text
 
 -- the token of what a line shows, or the fault there
 abbrev pub token_of : Names → Environment → Raw → Result Token TextProblem

@@ -5,7 +5,7 @@ use Rattle.kc_text.specs.declared.fault.TextProblem.{TextProblem}
 use Rattle.kc_text.specs.declared.fault.TextProblem.TheVariants.{Limit, BadCharacter}
 use Rattle.kc_text.specs.declared.fault.TextFault.{TextFault}
 use Rattle.kc_text.specs.declared.fault.TextFault.TheVariants.{At}
-use Rattle.kc_text.specs.Expansion.{Environment, texts_in}
+use Rattle.kc_text.specs.Names.{Environment, texts_in}
 
 -- a name and its text
 abbrev pub Pair : Type 0

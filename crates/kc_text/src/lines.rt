@@ -1,9 +1,9 @@
 //! The logical lines of the files.
 
-ghost use Rattle.std.specs.Prelude.{◌≤◌, length, IfOk};
-ghost use Rattle.kc_text.specs.Expansion.{texts_in};
-ghost use Rattle.kc_text.specs.Faults.{GivesBy};
-ghost use Rattle.kc_text.specs.Reading.{logical_lines_of};
+ghost use Rattle.std.specs.Prelude.{◌≤◌, length, IfErr, IfOk};
+ghost use Rattle.kc_text.specs.Entries.{AreLines, HasOneReading, IsTextFault};
+ghost use Rattle.kc_text.specs.Names.{texts_in};
+ghost use Rattle.kc_text.specs.ValueLaw.{ValueLaw};
 
 use crate::fault::TextFault;
 use crate::line::Line;
@@ -35,7 +35,10 @@ pub fn logical_lines<'a>(
     top: &str,
 ) -> Result<Vec<Line<'a>>, TextFault>
     ensures few { IfOk result (λ lines. length lines.items ≤ MOST_LINES) }
-    ensures gives { GivesBy (λ v. v.items) result (logical_lines_of sources.now (texts_in vars.now) top.now) }
+    ensures are { IfOk result (λ lines. AreLines sources.now (texts_in vars.now) top.now lines.items) }
+    ensures fault { IfErr result (IsTextFault sources.now (texts_in vars.now) top.now) }
+    ensures one { HasOneReading sources.now (texts_in vars.now) top.now }
+    ensures values { ValueLaw }
 {
     read_top(
         Reader {

@@ -2,7 +2,7 @@
 
 ghost use Rattle.std.specs.Prelude.{◌≡◌, [], None, Some, map, MatchOption};
 ghost use Rattle.kc_text.specs.Faults.{GivesBy};
-ghost use Rattle.kc_text.specs.Expansion.{texts_in};
+ghost use Rattle.kc_text.specs.Names.{texts_in};
 ghost use Rattle.kc_text.specs.Vars.{text_problem, vars_of};
 
 use crate::fault::{TextFault, TextProblem};
