@@ -1,5 +1,5 @@
 -- Why texts give no session, by the step that failed.
-use Rattle.std.proofs.Common.{◌≡◌, ℕ, List}
+use Rattle.std.proofs.Common.{ℕ, List}
 use Rattle.kc_text.specs.LineValue.{LineValue}
 use Rattle.kc_text.specs.FileList.{File}
 use Rattle.kc_text.specs.Names.{texts_in}
