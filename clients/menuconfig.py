@@ -477,7 +477,7 @@ def main() -> int:
     parser.add_argument("kconfig", metavar="KCONFIG")
     parser.add_argument("config", metavar="CONFIG", help="what is loaded, and saved by s; - for none")
     parser.add_argument("variable", metavar="NAME=VALUE", nargs="*", default=[])
-    given = parser.parse_args()
+    given = parser.parse_intermixed_args()
     if not (sys.stdin.isatty() and sys.stdout.isatty()):
         parser.error("its input and output have to be a terminal")
     options = (("--variables", given.variables), ("--prefix", given.prefix), ("-C", given.C))

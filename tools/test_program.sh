@@ -271,7 +271,7 @@ all: show
 KCONFIG_WORDS := --variables words
 include kconf.mk
 ifeq ($(filter %config,$(MAKECMDGOALS)),)
--include auto.conf
+include auto.conf
 endif
 show: auto.conf autoconf.h
 	@echo net=$(CONFIG_NET) && cat autoconf.h
@@ -310,12 +310,194 @@ status 0
 END
 echo 'frob' >> arch/x86/Kconfig
 wants shell 'make -s olddefconfig 2>&1 | sed "s/.*Error/Error/"; cat .config; ls -A | tr "\n" " "' <<'END'
-kconf: arch/x86/Kconfig:6: K04
+kconf: arch/x86/Kconfig:6: K04: `frob` begins no statement
+  arch/x86/Kconfig:6: frob
 Error 1
 CONFIG_X86=y
 CONFIG_NEW=y
 CONFIG_NET=y
 .config .config.d Kconfig Makefile arch auto.conf autoconf.h defconfig kconf.mk words status 0
+END
+
+# A project whose makefile begins with the fragment, in a folder of its own.
+write_project() {
+    mkdir -p board/net
+    printf 'config NET\n\tbool "Network"\n\tdefault y\nsource "net/Kconfig"\n' > board/Kconfig
+    printf 'config WIFI\n\tbool "Wireless"\n\tdepends on NET\n' > board/net/Kconfig
+    echo 'CONFIG_WIFI=y' > board/wifi.config
+    echo '# CONFIG_NET is not set' > board/small.config
+    {
+        echo "include $root/tools/kconf.mk"
+        printf '%s\n' 'ifeq ($(filter clean %config,$(MAKECMDGOALS)),)' 'include auto.conf' 'endif'
+        printf '%s\n\t%s\n' 'main: autoconf.h' '@echo net=$(CONFIG_NET); cat autoconf.h; touch main' 'clean:' '@rm -f main'
+    } > board/Makefile
+}
+
+# Runs make in a folder, with its own messages as `Error 1` or what they say. Of a finding the place and the name are
+# shown, and the counts of a merge are not.
+make_in() {
+    make -s -C "$@" 2>&1 | sed 's/^make: .*Error/Error/; s/.*[*][*][*] //; / asked: /d; s/^\([^ ]*:[0-9]*: [A-Z]*\): .*/\1/'
+}
+
+part 'the make fragment at the head of a makefile' head
+write_project
+wants make_in board <<'END'
+net=y
+#define CONFIG_NET 1
+status 0
+END
+touch -d '1 minute ago' board/.config.d board/.config board/auto.conf board/autoconf.h board/main
+echo 'CONFIG_WIFY=y' >> board/.config
+wants make_in board <<'END'
+kconf: .config:3: warning 1: no symbol is named WIFY
+net=y
+#define CONFIG_NET 1
+status 0
+END
+wants make_in board <<'END'
+status 0
+END
+echo 'frob' >> board/net/Kconfig
+touch -d '1 minute ago' board/.config
+wants make_in board <<'END'
+kconf: net/Kconfig:4: K04: `frob` begins no statement
+  net/Kconfig:4: frob
+Error 1
+status 2
+END
+wants cat board/.config <<'END'
+CONFIG_NET=y
+# CONFIG_WIFI is not set
+CONFIG_WIFY=y
+status 0
+END
+wants make_in board clean KCONFIG=none <<'END'
+status 0
+END
+wants make_in board KCONFIG=none KCONFIG_CONFIG=new <<'END'
+kconf: none: cannot read: no such file
+Error 1
+status 2
+END
+
+part 'the make fragment: fragments, check and why' fragments
+write_project
+wants make_in board defconfig KCONFIG_FRAGMENTS=wifi.config <<'END'
+status 0
+END
+rm board/.config
+wants make_in board -j4 defconfig autoconf.h KCONFIG_DEFCONFIG=wifi.config <<'END'
+status 0
+END
+wants cat board/autoconf.h <<'END'
+#define CONFIG_NET 1
+#define CONFIG_WIFI 1
+status 0
+END
+wants make_in board mergeconfig KCONFIG_FRAGMENTS='wifi.config small.config' KCONFIG_STRICT=y <<'END'
+wifi.config:1: WIFI
+Error 1
+status 2
+END
+wants cat board/.config <<'END'
+CONFIG_NET=y
+CONFIG_WIFI=y
+status 0
+END
+wants make_in board mergeconfig KCONFIG_FRAGMENTS=small.config <<'END'
+.config:2: WIFI
+status 0
+END
+wants make_in board mergeconfig <<'END'
+no fragments: make mergeconfig KCONFIG_FRAGMENTS="FILE ..".  Stop.
+status 2
+END
+echo 'CONFIG_WIFI=y' >> board/.config
+wants make_in board checkconfig KCONFIG_STRICT=y <<'END'
+.config:2: WIFI
+1 finding
+Error 1
+status 2
+END
+wants shell 'make -s -C board whyconfig SYMBOL="CONFIG_NET WIFI" | grep "^[A-Z]"' <<'END'
+NET = n (bool, visible y, user n)
+WIFI = n (bool, visible n, user y)
+status 0
+END
+wants make_in board whyconfig <<'END'
+no symbol: make whyconfig SYMBOL="NAME ..".  Stop.
+status 2
+END
+
+part 'the make fragment: a .config in place of the Kconfig' exchanged
+write_project
+echo 'CONFIG_NET=y' > board/.config
+wants make_in board olddefconfig KCONFIG=.config KCONFIG_CONFIG=net/Kconfig <<'END'
+kconf: net/Kconfig:1: warning 4: not a line of a .config
+kconf: net/Kconfig:2: warning 4: not a line of a .config
+kconf: net/Kconfig:3: warning 4: not a line of a .config
+kconf.mk: .config defines no symbol (is it a Kconfig?), so net/Kconfig is not written
+Error 1
+status 2
+END
+wants shell 'head -n 1 board/net/Kconfig; ls -A board/net' <<'END'
+config WIFI
+Kconfig
+status 0
+END
+
+part 'the make fragment: a Kconfig in another folder, and the menu' elsewhere
+write_project
+mkdir build
+echo 'SIZE=a b' > words
+printf 'config BIG\n\tdef_bool y if "$(SIZE)$(B)" = "a bc"\n' >> board/Kconfig
+{
+    printf '%s\n' 'KCONFIG_FOLDER := ../board' 'KCONFIG_WORDS := --variables ../words B=c' 'KCONFIG_MENU := echo menu'
+    printf '%s\n' "include $root/tools/kconf.mk" 'all: autoconf.h ; @cat autoconf.h'
+} > build/Makefile
+wants make_in build <<'END'
+#define CONFIG_NET 1
+#define CONFIG_BIG 1
+status 0
+END
+wants cat build/.config.d <<'END'
+.config: ../board/Kconfig
+../board/Kconfig:
+.config: ../board/net/Kconfig
+../board/net/Kconfig:
+status 0
+END
+sed -i 's/y if/n if/' board/Kconfig
+touch -d '1 minute ago' build/.config build/auto.conf build/autoconf.h
+wants make_in build <<'END'
+#define CONFIG_NET 1
+status 0
+END
+wants shell "make -s -C build menuconfig | sed 's|$PWD/||'" <<'END'
+menu --kconf kconf Kconfig build/.config --variables ../words B=c -C ../board
+status 0
+END
+wants make_in build KCONFIG_WORDS='-C ../board' <<'END'
+KCONFIG_WORDS has -C: set KCONFIG_FOLDER in its place.  Stop.
+status 2
+END
+
+part 'the installer' install
+wants shell "$root/tools/install.sh $work/install/prefix $program | sed 's|$work/install/||'" <<'END'
+prefix/bin/kconf
+prefix/share/man/man1/kconf.1
+prefix/share/bash-completion/completions/kconf
+prefix/share/zsh/site-functions/_kconf
+prefix/share/kconf/kconf.mk
+status 0
+END
+wants prefix/bin/kconf --version <<'END'
+kconf 1.1.0
+status 0
+END
+wants shell "$root/tools/install.sh $work/install/none $work/missing 2> /dev/null; ls" <<'END'
+prefix
+status 0
 END
 
 # Prints what bash completes the last of some words to.
