@@ -1,11 +1,13 @@
 #!/usr/bin/env python3
 """Turns a Kconfig tree with macro functions into one that kconf reads.
 
-    tools/expand_kconfig.py [--root FOLDER] [--variables FILE] [--words FILE] [--notes FILE] [--expand] [--environment]
-                            KCONFIG OUT [NAME=VALUE]...
+    tools/expand_kconfig.py [--root FOLDER] [--variables FILE] [--words FILE] [--notes FILE] [--depends FILE]
+                            [--expand] [--environment] KCONFIG OUT [NAME=VALUE]...
 
 KCONFIG and all files that it sources are read in FOLDER (or the working directory) and written to the same paths below
-OUT, which must not be there or be empty. Run kconf in OUT.
+OUT. Run kconf in OUT, which must not be there, be empty, or have what an earlier run wrote: then files that this run
+does not write are removed, and those whose text is the same keep their time. The file OUT/.expanded has their paths, and
+the time of the last run; --depends writes a rule for make to FILE, by which it depends on the files that were read.
 
 Macro functions are run, and variables that files define are put in place; so are `$NAME`, `${NAME}` of words NAME=VALUE.
 Paths, prompts and titles get their quotes. Each line keeps its number (except in files with def_int, def_hex or
@@ -27,7 +29,8 @@ from pathlib import Path, PurePosixPath
 
 from kconfig_lines import ASSIGNS, HELP, Logical, Token, Tokens, logical_lines
 from kconfig_macros import Fault, Macros, Place
-from kconfig_rewrite import Statement, rewrite_choices, rewrite_statement
+from kconfig_output import LIST, can_be_written, rule, write_text, write_tree
+from kconfig_rewrite import Renames, Statement, rewrite_choices, rewrite_statement
 
 SOURCES = ("source", "rsource", "osource", "orsource")
 MOST_OPEN = 64
@@ -54,6 +57,8 @@ class Expander:
         self.stays = stays
         self.notes: list[str] = []
         self.written: dict[str, str] = {}  # the text of each path
+        self.read: dict[Path, None] = {}  # the files that were read, in their order
+        self.renames = Renames()
         self.needed: set[str] = set()  # the words NAME=VALUE that a reference stands for
         self.open: list[str] = []
         self.choice_names: dict[str, Place] = {}
@@ -72,6 +77,7 @@ class Expander:
         return self.keep(path, text)
 
     def lines_of(self, path: str, place: Place) -> list[str]:
+        self.read[self.root / path] = None
         try:
             return read_lines(self.root / path, self.notes)
         except OSError as fault:
@@ -117,6 +123,7 @@ class Expander:
             statement.written = self.source(tokens, logical, place)
         else:
             rewrite_statement(statement, self.choice_names)
+            self.renames.see(statement)
         self.needed |= reader.needed if "$(" in statement.written else set()
         self.notes += statement.notes
         return statement
@@ -163,11 +170,6 @@ class Expander:
         self.notes.append(f"{place.path}:{place.line}: {path} is read as a pattern of {len(found)} files")
         return f'source "{name}"'
 
-    def write(self, out: Path) -> None:
-        for path, text in self.written.items():
-            (out / path).parent.mkdir(parents=True, exist_ok=True)
-            (out / path).write_text(text, encoding="utf-8")
-
 
 def variables_of(path: Path) -> list[str]:
     """The lines NAME=VALUE of a file of variables, without lines of blanks and those that begin with `#`."""
@@ -183,6 +185,7 @@ def parse_words() -> argparse.Namespace:
     parser.add_argument("--expand", action="store_true", help="put NAME=VALUE in place as well: kconf needs no words")
     parser.add_argument("--environment", action="store_true", help="let references see the environment as well")
     parser.add_argument("--notes", type=Path, metavar="FILE", help="write the notes to FILE")
+    parser.add_argument("--depends", type=Path, metavar="FILE", help=f"write the rule for make of OUT/{LIST}")
     parser.add_argument("kconfig", metavar="KCONFIG", help="the top file, from FOLDER")
     parser.add_argument("out", type=Path, metavar="OUT", help="the folder to write to")
     parser.add_argument("given", nargs="*", default=[], metavar="NAME=VALUE", help="variables of the tree")
@@ -196,8 +199,8 @@ def parse_words() -> argparse.Namespace:
             parser.error(f"a variable is given as NAME=VALUE, and not as {word!r}")
     if not arguments.root.is_dir():
         parser.error(f"{arguments.root} is no folder")
-    if arguments.out.exists() and (not arguments.out.is_dir() or any(arguments.out.iterdir())):
-        parser.error(f"{arguments.out} is there and is no empty folder")
+    if not can_be_written(arguments.out):
+        parser.error(f"{arguments.out} is there, and is neither an empty folder nor one that an earlier run wrote")
     return arguments
 
 
@@ -211,7 +214,7 @@ def write_words(arguments: argparse.Namespace, words: list[str]) -> None:
         for word in words:
             if "\n" in word:
                 raise ValueError(f"{word.split('=')[0]} has a line end, which --words can't write")
-        arguments.words.write_text("".join(word + "\n" for word in words), encoding="utf-8")
+        write_text(arguments.words, "".join(word + "\n" for word in words))
     else:
         print(" ".join(map(shlex.quote, words)))
 
@@ -222,11 +225,14 @@ def expand(arguments: argparse.Namespace) -> None:
     macros = Macros(passed, str(arguments.root), arguments.environment)
     expander = Expander(arguments.root, macros, stays=not arguments.expand)
     expander.expand_file(arguments.kconfig, Place(arguments.kconfig, 0))
-    expander.write(arguments.out)
-    notes_once = list(dict.fromkeys(expander.notes))
+    write_tree(arguments.out, expander.written)
+    if arguments.depends:
+        read = [*expander.read, *([arguments.variables] if arguments.variables else [])]
+        write_text(arguments.depends, rule(arguments.out, read))
+    notes_once = list(dict.fromkeys([*expander.notes, *expander.renames.notes()]))
     notes = "".join(note + "\n" for note in notes_once)
     if arguments.notes:
-        arguments.notes.write_text(notes, encoding="utf-8")
+        write_text(arguments.notes, notes)
     else:
         sys.stderr.write(notes)
     counts = (len(expander.written), "file"), (macros.commands, "command"), (len(notes_once), "note")

@@ -37,6 +37,39 @@ class Statement:
         return self.logical.text[: len(self.logical.text) - len(self.logical.text.lstrip(" \t"))]
 
 
+@dataclass
+class Renames:
+    """The old names of symbols: those with the attribute `transitional` of Linux 6.18 and later, which is dropped.
+
+    There an old .config's value of such a symbol counts without a prompt, as the default of the new symbol.
+    """
+
+    symbol: str = ""  # the one whose entry is read, and none in a choice
+    old: dict[str, Place] = field(default_factory=dict)
+    new: dict[str, list[str]] = field(default_factory=dict)  # what takes a symbol in a default: that symbol or member
+
+    def see(self, statement: Statement) -> None:
+        tokens = statement.tokens
+        if statement.begins("config", "menuconfig") and len(tokens) == 2:
+            self.symbol = tokens[1].text
+        elif statement.begins("choice"):
+            self.symbol = ""
+        elif statement.begins("transitional") and len(tokens) == 1:
+            self.old.setdefault(self.symbol, statement.place)
+            statement.write("")
+        elif statement.begins("default", "def_bool", "def_tristate", *DEFAULTS) and len(tokens) > 1:
+            for token in tokens[1:]:
+                self.new.setdefault(token.text, []).append(self.symbol or tokens[1].text)
+
+    def notes(self) -> list[str]:
+        """What became of each old name, and which symbols are to be set in its place."""
+        return [
+            f"{place.path}:{place.line}: transitional is dropped: what a .config says of {name} has no effect: set "
+            + " or ".join(dict.fromkeys(self.new.get(name, ["its new name"])))
+            for name, place in self.old.items()
+        ]
+
+
 def spelt(tokens: list[Token]) -> str:
     """Tokens as they are written, with a blank between."""
     return " ".join(token.written for token in tokens)

@@ -123,11 +123,27 @@ NOT_GIVEN = [
     ("N := $(FLAGS)\n$(error-if,y,Sorry.)\n", (), r"^Kconfig:2: Sorry\n$"),
     ("comment c\n", (), r"^Kconfig:1: c is put into quotes\n1 file, 0 commands, 1 note\n$"),
     (CALLS + "N := $(f0,x)\n", (), r"^Kconfig:901: an expansion nests too deeply\n$"),
+    (
+        "config NEW\n\tbool\n\tdefault OLD\nconfig OLD\n\tbool\n\ttransitional # since 6.18\n",
+        (),
+        r"^Kconfig:6: transitional is dropped: what a .config says of OLD has no effect: set NEW\n1 file, ",
+    ),
+    (
+        "choice\n\tprompt 'c'\n\tdefault A if OLD\nendchoice\nconfig OLD\n\tbool\n\ttransitional\n",
+        (),
+        r"^Kconfig:7: transitional is dropped: what a .config says of OLD has no effect: set A\n1 file, ",
+    ),
     ("comment c\n", ("--root", "/nowhere"), r"error: /nowhere is no folder\n$"),
     ("comment c\n", ("--variables", "/nowhere"), r"error: /nowhere can't be read: "),
     ("comment c\n", ("--words", "nowhere/words"), r"\nexpand_kconfig.py: .*No such file or directory: 'nowhere/words'\n$"),
     ("comment c\n", ("X",), r"error: a variable is given as NAME=VALUE, and not as 'X'\n$"),
 ]
+
+
+def files_of(out: Path) -> dict[str, str]:
+    """The texts of the files in a folder, but for the list of them."""
+    files = (path for path in out.rglob("*") if path.is_file() and path.name != ".expanded")
+    return {str(path.relative_to(out)): path.read_text() for path in files}
 
 
 def run(files: dict[str, str], *words: str) -> tuple[int, dict[str, str], str, str]:
@@ -139,7 +155,7 @@ def run(files: dict[str, str], *words: str) -> tuple[int, dict[str, str], str, s
             (root / path).write_text(text)
         command = [sys.executable, TOOL, "--root", root, *words[:1], "Kconfig", out, "ARCH=x86", *words[1:]]
         done = subprocess.run([word for word in command if word], cwd=folder, capture_output=True, text=True)
-        written = {str(path.relative_to(out)): path.read_text() for path in out.rglob("*") if path.is_file()}
+        written = files_of(out)
         return done.returncode, written, done.stdout, done.stderr
 
 
@@ -242,6 +258,89 @@ class Expansion(unittest.TestCase):
     def test_def_int_is_two_lines(self) -> None:
         _, written, _, _ = run({"Kconfig": "config N\n\tdef_int 5 if A\n"})
         self.assertEqual(written["Kconfig"], "config N\n\tint\n\tdefault 5 if A\n")
+
+    def test_transitional_is_dropped(self) -> None:
+        text = "config A\n\tbool\n\ttransitional\n\thelp\n\t  transitional\nconfig transitional\n\tbool\n"
+        status, written, _, stderr = run({"Kconfig": text})
+        self.assertEqual(status, 0, stderr)
+        self.assertEqual(written["Kconfig"], text.replace("\ttransitional\n\thelp", "\n\thelp"))
+
+
+class Output(unittest.TestCase):
+    """What is in OUT after several runs, and the rule for make."""
+
+    def setUp(self) -> None:
+        room = tempfile.TemporaryDirectory()
+        self.addCleanup(room.cleanup)
+        self.folder = Path(room.name)
+        self.write("Kconfig", 'source "$(D)/k"\n')
+        self.write("a/k", 'comment "a"\n')
+        self.write("b c/k", 'comment "b"\n')
+
+    def write(self, path: str, text: str) -> None:
+        (self.folder / path).parent.mkdir(exist_ok=True)
+        (self.folder / path).write_text(text)
+
+    def expand(self, *words: str) -> subprocess.CompletedProcess:
+        command = [sys.executable, TOOL, "--words", "words", "Kconfig", "out", *words]
+        return subprocess.run(command, cwd=self.folder, capture_output=True, text=True)
+
+    def make_old(self) -> None:
+        for path in (self.folder / "out").rglob("*"):
+            os.utime(path, (1000000000, 1000000000))
+
+    def changed(self) -> set[str]:
+        """The files of OUT that were written since make_old."""
+        out = self.folder / "out"
+        new = (path for path in out.rglob("*") if path.is_file() and path.stat().st_mtime > 1000000000)
+        return {str(path.relative_to(out)) for path in new}
+
+    def test_a_second_run_keeps_what_is_the_same(self) -> None:
+        self.assertEqual(self.expand("D=a").returncode, 0)
+        self.make_old()
+        self.assertEqual(self.expand("D=a").returncode, 0)
+        self.assertEqual(self.changed(), {".expanded"})
+        self.write("a/k", 'comment "other"\n')
+        self.assertEqual(self.expand("D=a").returncode, 0)
+        self.assertEqual(self.changed(), {".expanded", "a/k"})
+        self.assertEqual(files_of(self.folder / "out")["a/k"], 'comment "other"\n')
+
+    def test_a_second_run_removes_what_it_does_not_write(self) -> None:
+        self.expand("D=a")
+        self.write("out/own", "")
+        self.assertEqual(self.expand("D=b c").returncode, 0)
+        self.assertEqual(sorted(files_of(self.folder / "out")), ["Kconfig", "b c/k", "own"])
+
+    def test_a_mistake_leaves_what_is_there(self) -> None:
+        self.expand("D=a")
+        before = files_of(self.folder / "out")
+        self.assertEqual(self.expand("D=none").returncode, 1)
+        self.assertEqual(files_of(self.folder / "out"), before)
+
+    def test_a_folder_of_other_files_is_refused(self) -> None:
+        self.write("out/own", "")
+        done = self.expand("D=a")
+        self.assertEqual((done.returncode, files_of(self.folder / "out")), (2, {"own": ""}))
+        self.assertRegex(done.stderr, r"error: out is there, and is neither an empty folder nor one that an earlier run")
+
+    @unittest.skipIf(shutil.which("make") is None, "make is not there")
+    def test_the_rule_for_make(self) -> None:
+        self.write("variables", "D=b c\n")
+        self.assertEqual(self.expand("--variables", "variables", "--depends", "out.d").returncode, 0)
+        self.write("Makefile", "all: out/.expanded\nout/.expanded:\n\t@echo expand; touch $@\n-include out.d\n")
+        self.assertEqual(self.make(), "")
+        for path in ("Kconfig", "b c/k", "variables"):
+            os.utime(self.folder / path, (4000000000, 4000000000))
+            self.assertEqual(self.make(), "expand\n", path)
+            os.utime(self.folder / path, (1000000000, 1000000000))
+        (self.folder / "b c/k").unlink()
+        self.assertEqual(self.make(), "expand\n")
+
+    def make(self) -> str:
+        """What make prints, without its warnings of a time in the future."""
+        done = subprocess.run(["make", "-s", "all"], cwd=self.folder, capture_output=True, text=True)
+        self.assertEqual(done.returncode, 0, done.stderr)
+        return done.stdout
 
 
 if __name__ == "__main__":
