@@ -24,6 +24,7 @@ checks=(
     test_bad_edits.py
     test_check_edits.py
     test_check_names.py
+    test_compare_trees.py
     test_expand_kconfig.py
     test_fuzz.py
     test_gate_times.py

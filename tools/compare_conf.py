@@ -5,11 +5,13 @@
                           FOLDER KCONFIG [NAME=VALUE]...
 
 It is not part of the gate. Both read KCONFIG in FOLDER (conf in the folder of --original, where it is given), kconf
-with the words NAME=VALUE as variables, conf with them in its environment. conf is that of Debian's package linux-kbuild-6.1.
+with the words NAME=VALUE as variables, conf with them in its environment. conf is that of Debian's package
+linux-kbuild-6.1, or what tools/compare_trees.sh builds.
 
 Each target is run without a .config, and on one .config of random lines for each seed; allnoconfig and allyesconfig
-take none. For each target and kind of difference the number of differing lines is printed, with some of them. The status
-is 1 where a line differs and no kind explains it, else 0. docs/TREES.md says what the kinds are.
+take none. For each target and kind of difference the number of differing lines is printed, with some of them, and at
+the end how many lines were compared. The status is 1 where a line differs and no kind explains it, or a program fails,
+else 0. docs/TREES.md says what the kinds are.
 """
 
 from __future__ import annotations
@@ -32,6 +34,9 @@ FILELESS = ("allnoconfig", "allyesconfig")
 # What conf writes beside the .config.
 SYNCED = {"genheader": "header.h", "genmake": "auto.conf"}
 UNEXPLAINED = "unexplained"
+NOT_RUN = "conf or kconf fails"
+# An older conf asks without end for a number that has no value, so the files that it writes are limited to 32 MiB.
+LIMITED = ("sh", "-c", 'ulimit -f 65536; exec "$@"', "conf")
 
 # The lines of a target, by symbol.
 Lines = dict[str, str]
@@ -106,12 +111,15 @@ class Tree:
         kept = {name: os.environ[name] for name in ("PATH", "HOME") if name in os.environ}
         environment = {**kept, **passed, **{name: str(path) for name, path in files.items()}}
         environment["KCONFIG_RUSTCCFG"] = str(work / "rustc_cfg")
-        done = subprocess.run(
-            [self.conf, option, self.kconfig], cwd=self.original, env=environment, capture_output=True, text=True
-        )
+        said = work / "said"
+        with said.open("w") as output:
+            done = subprocess.run(
+                [*LIMITED, self.conf, option, self.kconfig], cwd=self.original, env=environment,
+                stdin=subprocess.DEVNULL, stdout=output, stderr=subprocess.STDOUT,
+            )
         if done.returncode:
-            raise RuntimeError(f"conf {option}: status {done.returncode}: {done.stderr[:500]}")
-        return done.stdout
+            raise RuntimeError(f"conf {option}: status {done.returncode}: {said.read_text(errors='replace')[-300:]!r}")
+        return said.read_text()
 
 
 def lines_of(target: str, text: str) -> Lines:
@@ -141,6 +149,8 @@ def random_line(chooser: random.Random, tree: Tree, name: str, line: str) -> str
 
 def kind_of(tree: Tree, target: str, name: str, of_conf: str, of_kconf: str) -> str:
     """The kind of a line that differs. Empty texts stand for lines that are not there."""
+    if of_conf and of_conf.replace('"', "") == of_kconf and target == "genmake":
+        return "values for make: an older conf writes a string with its quotes"
     is_without_line = of_conf == f"# CONFIG_{name} is not set" and not of_kconf
     if is_without_line and name in tree.implied and target != "savedefconfig":
         return "an imply whose symbol depends on what is n: no line"
@@ -159,15 +169,20 @@ def kind_of(tree: Tree, target: str, name: str, of_conf: str, of_kconf: str) -> 
     return UNEXPLAINED
 
 
-def compare(tree: Tree, target: str, config: Path | None, work: Path) -> list[tuple[str, str, str, str]]:
-    """The kind, the symbol, and the lines of conf and kconf, of each symbol for which they differ."""
-    of_conf = lines_of(target, tree.run_conf(target, config, work))
-    of_kconf = lines_of(target, tree.run_kconf(target, config))
+def compare(tree: Tree, target: str, config: Path | None, work: Path) -> tuple[int, list[tuple[str, str, str, str]]]:
+    """The number of lines of conf; and the kind, the symbol, and both lines of each symbol for which they differ."""
+    try:
+        of_conf = lines_of(target, tree.run_conf(target, config, work))
+        of_kconf = lines_of(target, tree.run_kconf(target, config))
+    except RuntimeError as fault:
+        print(f"{target}, {config.name if config else 'no .config'}: {fault}", flush=True)
+        return 0, [(NOT_RUN, target, "", "")]
     names = [name for name in {**of_conf, **of_kconf} if of_conf.get(name, "") != of_kconf.get(name, "")]
     given = config.name if config else "no .config"
     print(f"{target}, {given}: {len(of_conf)} lines of conf, {len(of_kconf)} of kconf, {len(names)} differ", flush=True)
     pairs = ((name, of_conf.get(name, ""), of_kconf.get(name, "")) for name in names)
-    return [(kind_of(tree, target, name, conf, kconf), name, conf, kconf) for name, conf, kconf in pairs]
+    kinds = [(kind_of(tree, target, name, conf, kconf), name, conf, kconf) for name, conf, kconf in pairs]
+    return len(of_conf), kinds
 
 
 def print_kinds(differences: list[tuple[str, str, str, str]], lines: int) -> Counter[str]:
@@ -200,6 +215,7 @@ def main() -> int:
     tree = Tree(kconf, conf, given.folder, given.original or given.folder, given.kconfig, given.words)
     tree.read_text()
     counts: Counter[str] = Counter()
+    total = 0
     with tempfile.TemporaryDirectory() as folder:
         configs: list[Path | None] = [None]
         for seed in range(1, given.seeds + 1):
@@ -207,10 +223,13 @@ def main() -> int:
             configs[-1].write_text(random_config(tree, given.edits, seed, Path(folder)))
         for target in given.targets:
             for config in configs[:1] if target in FILELESS else configs:
-                counts += print_kinds(compare(tree, target, config, Path(folder)), given.lines)
+                lines, differences = compare(tree, target, config, Path(folder))
+                total += lines
+                counts += print_kinds(differences, given.lines)
+    print(f"{total} lines, {sum(counts.values())} differ")
     for kind, count in counts.most_common():
         print(f"{count} {kind}")
-    return 1 if counts[UNEXPLAINED] else 0
+    return 1 if counts[UNEXPLAINED] or counts[NOT_RUN] else 0
 
 
 if __name__ == "__main__":

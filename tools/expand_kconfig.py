@@ -30,7 +30,7 @@ from pathlib import Path, PurePosixPath
 from kconfig_lines import ASSIGNS, HELP, Logical, Token, Tokens, logical_lines
 from kconfig_macros import Fault, Macros, Place
 from kconfig_output import LIST, can_be_written, rule, write_text, write_tree
-from kconfig_rewrite import Renames, Statement, rewrite_choices, rewrite_statement
+from kconfig_rewrite import Renames, Statement, drop_defconfig_list, rewrite_choices, rewrite_statement
 
 SOURCES = ("source", "rsource", "osource", "orsource")
 MOST_OPEN = 64
@@ -70,6 +70,7 @@ class Expander:
         self.open.append(path)
         statements = [self.expand_line(logical, Place(path, logical.line))
                       for logical in logical_lines(self.lines_of(path, place))]
+        drop_defconfig_list(statements)
         for statement in rewrite_choices(statements):
             self.notes += statement.notes
         self.open.pop()

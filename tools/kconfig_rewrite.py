@@ -126,7 +126,7 @@ def option(statement: Statement) -> list[list[Token]]:
         statement.note(f"option env is a default here: $({tokens[3].text})")
         return [[Token("word", "", "default"), Token("quoted", "", f'"$({tokens[3].text})"')]]
     if tokens[1].is_word("defconfig_list"):
-        statement.note("option defconfig_list is dropped")
+        statement.note("option defconfig_list is dropped, with the defaults of its symbol")
         return [[]]
     return [tokens]
 
@@ -139,6 +139,25 @@ def named_choice(statement: Statement, names: dict[str, Place]) -> list[list[Tok
     names[name] = statement.place
     statement.note(f"the choice loses its name {name}; where a condition names it, it is undefined")
     return [statement.tokens[:1]]
+
+
+def drop_defconfig_list(statements: list[Statement]) -> None:
+    """Drops the defaults of the symbol with `option defconfig_list`: conf gives it no line, as kconf none without them."""
+    entry: list[Statement] = []
+    for statement in [*statements, None]:
+        if statement and not statement.begins("config", "menuconfig"):
+            entry.append(statement)
+            continue
+        if any(line.begins("option") and line.tokens[1:2] and line.tokens[1].is_word("defconfig_list") for line in entry):
+            for line in entry[: entry_end(entry)]:
+                if line.begins("default"):
+                    line.write("")
+        entry = []
+
+
+def entry_end(lines: list[Statement]) -> int:
+    """The place of the first line that is no attribute of an entry."""
+    return next((at for at, line in enumerate(lines) if line.tokens and not line.begins("option", *ATTRIBUTES)), len(lines))
 
 
 def rewrite_choices(statements: list[Statement]) -> Iterator[Statement]:

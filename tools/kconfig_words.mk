@@ -5,11 +5,12 @@
 #     MAKEFILES=~/kconf/tools/kconfig_words.mk make -s ARCH=x86 kconfwordsconfig > ../make.words
 #
 # GNU make reads this file before the tree's makefiles, which stay as they are. The rule takes the place of `conf` in
-# scripts/kconfig, so it sees the variables that `conf` would see: those that the tree's makefiles export. It prints those
-# that a file named Kconfig* or *.Kconfig names as $(NAME), ${NAME} or $NAME. Nothing is configured, but make builds
-# scripts/basic first, as before each configuration. The name of the target has to end with `config`.
+# scripts/kconfig (of Xen tools/kconfig), so it sees the variables that `conf` would see: those that the tree's makefiles
+# export. It prints those that a file named Kconfig* or *.Kconfig names as $(NAME), ${NAME} or $NAME. Nothing is
+# configured, but make builds scripts/basic first, as before each configuration. The name of the target has to end with
+# `config`.
 
-ifeq ($(obj),scripts/kconfig)
+ifneq ($(filter scripts/kconfig tools/kconfig,$(obj)),)
 .PHONY: kconfwordsconfig
 kconfwordsconfig:
 	@LC_ALL=C grep -rhoE --include='Kconfig*' --include='*.Kconfig' \

@@ -259,6 +259,12 @@ class Expansion(unittest.TestCase):
         _, written, _, _ = run({"Kconfig": "config N\n\tdef_int 5 if A\n"})
         self.assertEqual(written["Kconfig"], "config N\n\tint\n\tdefault 5 if A\n")
 
+    def test_a_defconfig_list_has_no_defaults(self) -> None:
+        text = 'config L\n\tstring\n\tdefault "a"\n\toption defconfig_list\n\tdefault "b"\nchoice\n\tdefault "c"\n'
+        _, written, _, _ = run({"Kconfig": text + 'config M\n\tdefault "d"\n'})
+        wanted = 'config L\n\tstring\n\n\n\nchoice\n\tdefault "c"\nconfig M\n\tdefault "d"\n'
+        self.assertEqual(written["Kconfig"], wanted)
+
     def test_transitional_is_dropped(self) -> None:
         text = "config A\n\tbool\n\ttransitional\n\thelp\n\t  transitional\nconfig transitional\n\tbool\n"
         status, written, _, stderr = run({"Kconfig": text})
