@@ -4,9 +4,8 @@
 #
 #     tools/test_program.sh [PROGRAM]
 #
-# PROGRAM is a built kconf, and otherwise what `rt run` leaves in crates/kconf/out. It needs bash and GNU make; without
-# fish its completion is not tested. A line is written for each part, with the difference where there is one, and the
-# status is 1 then.
+# PROGRAM is a built kconf, and otherwise what `rt run` leaves in crates/kconf/out. It needs bash, GNU make and Python 3.
+# A line is written for each part, with the difference where there is one, and the status is 1 then.
 set -uo pipefail
 
 root=$(cd "$(dirname "${BASH_SOURCE[0]}")/.." && pwd)
@@ -475,6 +474,10 @@ status 0
 END
 wants shell "make -s -C build menuconfig | sed 's|$PWD/||'" <<'END'
 menu --kconf kconf Kconfig build/.config --variables ../words B=c -C ../board
+status 0
+END
+wants shell "python3 $root/clients/menuconfig.py Kconfig .config --variables ../words B=c < /dev/null 2>&1 | tail -n 1" <<'END'
+menuconfig.py: error: its input and output have to be a terminal
 status 0
 END
 wants make_in build KCONFIG_WORDS='-C ../board' <<'END'
