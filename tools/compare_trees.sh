@@ -87,7 +87,7 @@ fi
 conf=$(realpath "$conf")
 mapfile -t given < "$variables"
 
-# An older conf has no --syncconfig, and lists new symbols without their values, of which a random .config is made.
+# An older conf has no --syncconfig, and lists new symbols without their values, which a random .config needs.
 if ! grep -q syncconfig "$conf"; then
     options=(--targets olddefconfig savedefconfig allnoconfig allyesconfig --)
     seeds=0

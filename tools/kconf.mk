@@ -71,6 +71,9 @@ kconf-strict = $(if $(KCONFIG_STRICT),--strict)
 # $(call kconf-run,TARGET,WORDS)
 kconf-run = $(KCONF) $(1) $(KCONFIG) $(2) $(kconf-options) $(if $(filter --explain,$(KCONFIG_WORDS)),,--explain)
 
+# $(call kconf-require,NAME,VALUE): stops where a variable is empty.
+kconf-require = $(if $(strip $($(1))),,$(error $(1) is empty: make $@ $(1)="$(2)"))
+
 # $(call kconf-path,FILES): files as kconf is given them.
 kconf-path = $(if $(KCONFIG_FOLDER),$(abspath $(1)),$(1))
 
@@ -82,7 +85,7 @@ kconf-write = { $(call kconf-run,$(1),$(2)) > $(3).tmp && $(call kconf-has-symbo
     { rm -f $(3).tmp; exit 1; }
 
 # $(call kconf-has-symbols,FILE): whether there is something in what was written, or the Kconfig defines a symbol.
-kconf-has-symbols = { test -s $(1).tmp || $(call kconf-run,allyesconfig) | grep -q . || \
+kconf-has-symbols = { test -s $(1).tmp || test -n "$$($(call kconf-run,allyesconfig) | tail -n 1)" || \
     { echo "kconf.mk: $(KCONFIG) defines no symbol (is it a Kconfig?), so $(1) is not written" >&2; false; }; }
 
 # $(call kconf-update,TARGET,WORDS): makes the .config by a target, and notes the files that it depends on.
@@ -106,14 +109,12 @@ defconfig:
 	@$(if $(strip $(KCONFIG_FRAGMENTS)),$(call kconf-merge,$(KCONFIG_DEFCONFIG)),$(kconf-of-defconfig))
 
 mergeconfig:
-	@$(if $(strip $(KCONFIG_FRAGMENTS)),,$(error no fragments: make mergeconfig KCONFIG_FRAGMENTS="FILE .."))
-	@$(call kconf-merge,$(KCONFIG_CONFIG))
+	@$(call kconf-require,KCONFIG_FRAGMENTS,FILE ..)$(call kconf-merge,$(KCONFIG_CONFIG))
 
 # The list of files goes, so that the next `make` reads it again: the menu writes none.
 menuconfig:
-	@$(if $(KCONFIG_MENU),,$(error menuconfig.py of kconf is not beside kconf.mk: set KCONFIG_MENU to its path))
-	@$(KCONFIG_MENU) --kconf $(KCONF) $(KCONFIG) $(call kconf-path,$(KCONFIG_CONFIG)) \
-	    $(filter-out --explain,$(kconf-options)) && rm -f $(KCONFIG_CONFIG).d
+	@$(call kconf-require,KCONFIG_MENU,FOLDER/menuconfig.py)$(KCONFIG_MENU) --kconf $(KCONF) $(KCONFIG) \
+	    $(call kconf-path,$(KCONFIG_CONFIG)) $(filter-out --explain,$(kconf-options)) && rm -f $(KCONFIG_CONFIG).d
 
 savedefconfig: $(KCONFIG_CONFIG)
 	@$(call kconf-write,savedefconfig,$(call kconf-path,$(KCONFIG_CONFIG)),$(KCONFIG_DEFCONFIG))
@@ -125,8 +126,7 @@ checkconfig:
 	@$(call kconf-run,check,$$(test -e $(KCONFIG_CONFIG) && echo $(call kconf-path,$(KCONFIG_CONFIG))) $(kconf-strict))
 
 whyconfig:
-	@$(if $(strip $(SYMBOL)),,$(error no symbol: make whyconfig SYMBOL="NAME .."))
-	@$(call kconf-run,why,$(call kconf-or-none,$(KCONFIG_CONFIG)) $(SYMBOL))
+	@$(call kconf-require,SYMBOL,NAME ..)$(call kconf-run,why,$(call kconf-or-none,$(KCONFIG_CONFIG)) $(SYMBOL))
 
 # A goal that makes the .config goes first, also with -j. A .config whose files are not listed is brought up to date.
 # Where the top file is missing, kconf says so.

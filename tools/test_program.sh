@@ -408,7 +408,7 @@ wants make_in board mergeconfig KCONFIG_FRAGMENTS=small.config <<'END'
 status 0
 END
 wants make_in board mergeconfig <<'END'
-no fragments: make mergeconfig KCONFIG_FRAGMENTS="FILE ..".  Stop.
+KCONFIG_FRAGMENTS is empty: make mergeconfig KCONFIG_FRAGMENTS="FILE ..".  Stop.
 status 2
 END
 echo 'CONFIG_WIFI=y' >> board/.config
@@ -424,7 +424,53 @@ WIFI = n (bool, visible n, user y)
 status 0
 END
 wants make_in board whyconfig <<'END'
-no symbol: make whyconfig SYMBOL="NAME ..".  Stop.
+SYMBOL is empty: make whyconfig SYMBOL="NAME ..".  Stop.
+status 2
+END
+
+part 'the make fragment in a makefile with other settings' settings
+write_project
+cat - board/Makefile > settings.mk <<'END'
+SHELL := bash
+.SHELLFLAGS := -euo pipefail -c
+.ONESHELL:
+.DELETE_ON_ERROR:
+.SECONDEXPANSION:
+MAKEFLAGS += -rR
+own: ; @echo own
+END
+mv settings.mk board/Makefile
+wants make_in board -j4 <<'END'
+own
+status 0
+END
+wants make_in board defconfig main KCONFIG_FRAGMENTS=wifi.config <<'END'
+net=
+#define CONFIG_NET 1
+#define CONFIG_WIFI 1
+status 0
+END
+wants make_in board savedefconfig mergeconfig KCONFIG_FRAGMENTS=small.config <<'END'
+.config:2: WIFI
+status 0
+END
+wants shell 'make -s -C board savedefconfig KCONFIG_DEFCONFIG=one; sed -i /NET/d board/.config; cat board/one
+    make -s -C board olddefconfig savedefconfig; wc -c < board/defconfig; make -s -C board whyconfig SYMBOL=WIFI | head -n 1' <<'END'
+# CONFIG_NET is not set
+0
+WIFI = n (bool, visible y, user n)
+status 0
+END
+wants make_in board -k checkconfig listnewconfig whyconfig <<'END'
+no findings
+SYMBOL is empty: make whyconfig SYMBOL="NAME ..".  Stop.
+status 2
+END
+wants make_in board olddefconfig KCONFIG=wifi.config <<'END'
+kconf: .config:1: warning 1: no symbol is named NET
+kconf: .config:2: warning 1: no symbol is named WIFI
+kconf.mk: wifi.config defines no symbol (is it a Kconfig?), so .config is not written
+Error 1
 status 2
 END
 
