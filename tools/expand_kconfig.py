@@ -6,8 +6,8 @@
 
 KCONFIG and all files that it sources are read in FOLDER (or the working directory) and written to the same paths below
 OUT. Run kconf in OUT, which must not be there, be empty, or have what an earlier run wrote: then files that this run
-does not write are removed, and those whose text is the same keep their time. The file OUT/.expanded has their paths, and
-the time of the last run; --depends writes a rule for make to FILE, by which it depends on the files that were read.
+does not write are removed, and those whose text is the same keep their time. The file OUT/.expanded has their paths,
+and the time of the last run; --depends writes a rule for make to FILE, by which it depends on the files that were read.
 
 Macro functions are run, and variables that files define are put in place; so are `$NAME`, `${NAME}` of words NAME=VALUE.
 Paths, prompts and titles get their quotes. Each line keeps its number (except in files with def_int, def_hex or
@@ -30,7 +30,8 @@ from pathlib import Path, PurePosixPath
 from kconfig_lines import ASSIGNS, HELP, Logical, Token, Tokens, logical_lines
 from kconfig_macros import Fault, Macros, Place
 from kconfig_output import LIST, can_be_written, rule, write_text, write_tree
-from kconfig_rewrite import Renames, Statement, drop_defconfig_list, rewrite_choices, rewrite_statement
+from kconfig_rewrite import EMPTY_IS_ZERO, PROMPTS_ARE_OPEN, Renames, Statement, source_of_conf
+from kconfig_rewrite import count_empty_as_zero, drop_defconfig_list, open_prompts, rewrite_choices, rewrite_statement
 
 SOURCES = ("source", "rsource", "osource", "orsource")
 MOST_OPEN = 64
@@ -59,6 +60,9 @@ class Expander:
         self.written: dict[str, str] = {}  # the text of each path
         self.read: dict[Path, None] = {}  # the files that were read, in their order
         self.renames = Renames()
+        conf = source_of_conf(root)
+        self.empty_is_zero = EMPTY_IS_ZERO in conf
+        self.prompts_are_open = PROMPTS_ARE_OPEN in conf
         self.needed: set[str] = set()  # the words NAME=VALUE that a reference stands for
         self.open: list[str] = []
         self.choice_names: dict[str, Place] = {}
@@ -71,7 +75,8 @@ class Expander:
         statements = [self.expand_line(logical, Place(path, logical.line))
                       for logical in logical_lines(self.lines_of(path, place))]
         drop_defconfig_list(statements)
-        for statement in rewrite_choices(statements):
+        opened = list(open_prompts(statements)) if self.prompts_are_open else []
+        for statement in [*opened, *rewrite_choices(statements)]:
             self.notes += statement.notes
         self.open.pop()
         text = "".join(statement.written + "\n" for statement in statements)
@@ -123,6 +128,8 @@ class Expander:
         if tokens and not tokens[0].has_reference and tokens[0].text in SOURCES and len(tokens) == 2:
             statement.written = self.source(tokens, logical, place)
         else:
+            if self.empty_is_zero:
+                count_empty_as_zero(statement)
             rewrite_statement(statement, self.choice_names)
             self.renames.see(statement)
         self.needed |= reader.needed if "$(" in statement.written else set()

@@ -1,6 +1,7 @@
 """Rewrites statements that kconf does not read into ones that it reads, where that keeps their meaning."""
 
 from dataclasses import dataclass, field
+from pathlib import Path
 from typing import Iterator
 
 from kconfig_lines import Logical, Token
@@ -109,6 +110,40 @@ def rewritten(statement: Statement, names: dict[str, Place]) -> list[list[Token]
     return [tokens]
 
 
+# What the source of a tree's conf has where it takes an int or a hex without a value as 0, and where it looks at the
+# members of a choice alone and not at its prompt. That of Linux 6.12 has both, that of 6.1 none.
+EMPTY_IS_ZERO = 'newval.val = "0";'
+PROMPTS_ARE_OPEN = "sym_calc_choice(struct menu"
+
+
+def source_of_conf(root: Path) -> str:
+    """The file of a tree's own conf that says how values are computed. Empty: there is none."""
+    paths = (root / folder / "kconfig" / "symbol.c" for folder in ("scripts", "tools"))
+    return "".join(path.read_text(errors="replace") for path in paths if path.is_file())
+
+
+def count_empty_as_zero(statement: Statement) -> None:
+    """Writes `X = 0` as `(X = 0 || X = "")`, and `X != 0` as `(X != 0 && X != "")`."""
+    tokens, at = [], 0
+    while at < len(statement.tokens):
+        three = statement.tokens[at : at + 3]
+        if is_comparison_with_zero(three):
+            join = "||" if three[1].text == "=" else "&&"
+            either = [Token("operator", join, join), *three[:2], Token("quoted", "", '""')]
+            tokens += [Token("operator", "(", "("), *three, *either, Token("operator", ")", ")")]
+            statement.note(f"{three[0].written} without a value counts 0, as in the conf of this tree")
+            at += 3
+        else:
+            tokens.append(statement.tokens[at])
+            at += 1
+    statement.tokens = tokens
+
+
+def is_comparison_with_zero(tokens: list[Token]) -> bool:
+    is_word = len(tokens) == 3 and tokens[0].kind == "word" and not tokens[0].is_word("if")
+    return is_word and tokens[1].kind == "operator" and tokens[1].text in ("=", "!=") and tokens[2].is_word("0", "0x0")
+
+
 def conditional_dependency(tokens: list[Token]) -> list[Token]:
     """`depends on A if B` as `depends on (A) || !(B)`, as the kernel's documents have it."""
     wanted, condition = split_at_if(tokens)
@@ -142,22 +177,41 @@ def named_choice(statement: Statement, names: dict[str, Place]) -> list[list[Tok
 
 
 def drop_defconfig_list(statements: list[Statement]) -> None:
-    """Drops the defaults of the symbol with `option defconfig_list`: conf gives it no line, as kconf none without them."""
+    """Drops the defaults of the symbol with `option defconfig_list`, which has no line in conf: so it has none here."""
     entry: list[Statement] = []
     for statement in [*statements, None]:
         if statement and not statement.begins("config", "menuconfig"):
             entry.append(statement)
             continue
-        if any(line.begins("option") and line.tokens[1:2] and line.tokens[1].is_word("defconfig_list") for line in entry):
+        if any(is_defconfig_list(line) for line in entry):
             for line in entry[: entry_end(entry)]:
                 if line.begins("default"):
                     line.write("")
         entry = []
 
 
+def is_defconfig_list(statement: Statement) -> bool:
+    return statement.begins("option") and len(statement.tokens) > 1 and statement.tokens[1].is_word("defconfig_list")
+
+
 def entry_end(lines: list[Statement]) -> int:
     """The place of the first line that is no attribute of an entry."""
-    return next((at for at, line in enumerate(lines) if line.tokens and not line.begins("option", *ATTRIBUTES)), len(lines))
+    others = (at for at, line in enumerate(lines) if line.tokens and not line.begins("option", *ATTRIBUTES))
+    return next(others, len(lines))
+
+
+def open_prompts(statements: list[Statement]) -> Iterator[Statement]:
+    """Drops the conditions of the prompts of choices, and gives these lines."""
+    is_head = False
+    for statement in statements:
+        is_head = statement.begins("choice") or is_head and (not statement.tokens or statement.begins(*ATTRIBUTES))
+        wanted, condition = split_at_if(statement.tokens)
+        if is_head and condition and statement.begins("prompt", "bool"):
+            what = "the condition of a choice's prompt is dropped, as in the conf of this tree"
+            statement.note(f"{what}: {spelt(condition)}")
+            statement.tokens = wanted
+            statement.write(statement.indentation() + spelt(wanted))
+            yield statement
 
 
 def rewrite_choices(statements: list[Statement]) -> Iterator[Statement]:

@@ -265,6 +265,27 @@ class Expansion(unittest.TestCase):
         wanted = 'config L\n\tstring\n\n\n\nchoice\n\tdefault "c"\nconfig M\n\tdefault "d"\n'
         self.assertEqual(written["Kconfig"], wanted)
 
+    def test_an_empty_number_counts_zero_where_conf_says_so(self) -> None:
+        text = "config A\n\tint\n\tdefault 1 if B = 0 || !C!=0x0\n\trange 0 D if D >= 0\n"
+        zero = '( B = 0 || B = "" ) || ! ( C != 0x0 && C != "" )'
+        for folder in ("scripts", "tools"):
+            source = {f"{folder}/kconfig/symbol.c": 'newval.val = "0";\n'}
+            _, written, _, stderr = run({"Kconfig": text, **source})
+            self.assertEqual(written["Kconfig"], text.replace("B = 0 || !C!=0x0", zero))
+            self.assertRegex(stderr, r"^Kconfig:3: B without a value counts 0, as in the conf of this tree\nKconfig:3: C ")
+        _, written, _, _ = run({"Kconfig": text, "scripts/kconfig/symbol.c": ""})
+        self.assertEqual(written["Kconfig"], text)
+
+    def test_the_prompt_of_a_choice_is_open_where_conf_says_so(self) -> None:
+        head = 'choice\n\tprompt "c" if A\n\thelp\n\t  prompt "c" if A\n\tdefault X if A\n'
+        text = head + 'config X\n\tbool "x" if B\nendchoice\nconfig Y\n\tbool "y" if A\n'
+        source = {"scripts/kconfig/symbol.c": "struct symbol *sym_calc_choice(struct menu *choice)\n"}
+        _, written, _, stderr = run({"Kconfig": text, **source})
+        self.assertEqual(written["Kconfig"], text.replace('\tprompt "c" if A\n', '\tprompt "c"\n', 1))
+        self.assertRegex(stderr, r"^Kconfig:2: the condition of a choice's prompt is dropped, .*: A\n1 file")
+        _, written, _, _ = run({"Kconfig": text})
+        self.assertEqual(written["Kconfig"], text)
+
     def test_transitional_is_dropped(self) -> None:
         text = "config A\n\tbool\n\ttransitional\n\thelp\n\t  transitional\nconfig transitional\n\tbool\n"
         status, written, _, stderr = run({"Kconfig": text})
