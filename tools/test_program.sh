@@ -531,24 +531,6 @@ KCONFIG_WORDS has -C: set KCONFIG_FOLDER in its place.  Stop.
 status 2
 END
 
-part 'the installer' install
-wants shell "$root/tools/install.sh $work/install/prefix $program | sed 's|$work/install/||'" <<'END'
-prefix/bin/kconf
-prefix/share/man/man1/kconf.1
-prefix/share/bash-completion/completions/kconf
-prefix/share/zsh/site-functions/_kconf
-prefix/share/kconf/kconf.mk
-status 0
-END
-wants prefix/bin/kconf --version <<'END'
-kconf 1.1.0
-status 0
-END
-wants shell "$root/tools/install.sh $work/install/none $work/missing 2> /dev/null; ls" <<'END'
-prefix
-status 0
-END
-
 # Prints what bash completes the last of some words to.
 completed() {
     COMP_WORDS=("$@")
