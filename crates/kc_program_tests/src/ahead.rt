@@ -122,7 +122,7 @@ fn references_in_paths_are_followed(rt: HostRuntime) -> Result<(), Fail> {
 /// How many files are in a chain beside the top file.
 const LINKS: usize = 20;
 
-/// A top file that sources the file 1, and files 1, 2, .. of which each sources the next. Counts the reads of wanted files.
+/// A top file that sources the file 1, and files 1, 2, .. that each source the next. Counts the reads of wanted files.
 #[derive(Drop)]
 struct Chain {
     wanted: Cell<usize>,

@@ -186,7 +186,7 @@ fn a_reply_is_flushed_where_refusals_are_explained(rt: HostRuntime) -> Result<()
     wants_replies_flushed(&rt, rt.alloc(), words.as_slice(), commands.as_slice(), 43)
 }
 
-/// Wants so many lines as the replies to commands, each flushed before the next command is read.
+/// Wants this many lines as the replies to commands, each flushed before the next command is read.
 fn wants_replies_flushed(
     rt: &impl Abort,
     alloc: Global,

@@ -33,7 +33,7 @@ pub record Place : Type 0 where
   pub run : ℕ
   pub number : ℕ
 
--- the line of the tokens at a place, which without tokens is none
+-- the line of the tokens at a place; without tokens there is no line
 abbrev pub statement : Place → List Token → Option (List ℕ) → List LineValue
 statement at [] help = []
 statement at (t ∷ ts) help = record { path = at.path; number = at.number; run = at.run; kind = Statement; tokens = t ∷ ts; help = help } ∷ []

@@ -21,7 +21,7 @@ pub data Raw : Type 0 where
 abbrev pub is_quote : ℕ → Bool
 is_quote b = b == 34 || b == 39
 
--- a byte in quotes that stands for itself
+-- a byte in quotes that is itself
 abbrev pub is_plain : ℕ → ℕ → Bool
 is_plain q b = not (b == q || (b == 92 || b == 36))
 
