@@ -1,10 +1,11 @@
 //! What is said of a line that does not have the form of its statement (K05).
 
 use crate::context::Context;
-use crate::mistakes::{Mistake, Wanted, first_mistake};
 use crate::said::Said;
 use crate::spelling::{first_word, token_text, tokens_text};
-use kc_statement::{Keyword, read_keyword};
+use kc_statement::{
+    Keyword, Mistake, Names, Seed, Unread, Wanted, read_keyword, read_statement,
+};
 use kc_text::{Line, Token};
 use std::alloc::{AllocError, Global};
 
@@ -56,7 +57,7 @@ pub(crate) fn explain_form(
     let Some(keyword) = read_keyword(line) else {
         return Ok(None);
     };
-    let words = match first_mistake(keyword, line.tokens()) {
+    let words = match mistake_of(alloc, line)? {
         Some(mistake) => mistake_words(alloc, &mistake, line)?,
         None if is_default_of_choice(keyword, context) => String::from_str(
             alloc,
@@ -67,6 +68,20 @@ pub(crate) fn explain_form(
     let mut said = Said::new(alloc, words);
     said.name(context.at())?;
     Ok(Some(said))
+}
+
+/// The first place in which a line goes another way than its form, if it does. That depends on no names. A `source` that
+/// is as it is to be has no form, and no mistake.
+fn mistake_of(alloc: Global, line: &Line<'_>) -> Result<Option<Mistake>, AllocError> {
+    let names = Names::with_capacity(alloc, Seed::fixed(), 0)?;
+    match read_statement(alloc, &names, line, read_keyword(line), 0) {
+        Ok(_) => Ok(None),
+        Err(Unread::At(mistake)) if mistake.left == 0 && mistake.wanted == Wanted::Nothing => {
+            Ok(None)
+        }
+        Err(Unread::At(mistake)) => Ok(Some(mistake)),
+        Err(Unread::NoMemory) => Err(AllocError),
+    }
 }
 
 fn is_default_of_choice(keyword: Keyword, context: &Context<'_, '_>) -> bool {
@@ -97,21 +112,42 @@ fn push_wanted(
     mistake: &Mistake,
     tokens: &[Token<'_>],
 ) -> Result<(), AllocError> {
-    let wanted = mistake.wanted.words();
-    let before = match tokens.get(mistake.at.saturating_sub(1)) {
+    let at = tokens.len().saturating_sub(mistake.left);
+    let wanted = wanted_words(mistake.wanted);
+    let before = match tokens.get(at.saturating_sub(1)) {
         Some(token) => token_text(alloc, token)?,
         None => String::new(alloc),
     };
-    if mistake.at == 1 && mistake.wanted != Wanted::Nothing {
+    if at == 1 && mistake.wanted != Wanted::Nothing {
         write!(words, "`{before}` wants {wanted}")?;
     } else {
         write!(words, "after `{before}` {wanted} is wanted")?;
     }
-    match tokens.get(mistake.at) {
+    match tokens.get(at) {
         Some(token) => {
             let found = token_text(alloc, token)?;
             write!(words, ", not `{found}`")
         }
         None => words.push_str(", and the line ends"),
+    }
+}
+
+/// The words for what a form wants.
+fn wanted_words(wanted: Wanted) -> &'static str {
+    match wanted {
+        Wanted::Keyword => "the word of a statement",
+        Wanted::Name => "a name (letters, digits and _, and not n, m, y or if)",
+        Wanted::Title => "a title in quotes",
+        Wanted::Path => "a path in quotes",
+        Wanted::Prompt => "a prompt in quotes",
+        Wanted::On => "`on`",
+        Wanted::If => "`if`",
+        Wanted::Setting => "`modules` or `allnoconfig_y`",
+        Wanted::Operand => "a value (a word, a text in quotes, `!` or `(`)",
+        Wanted::Term => "a word or a text in quotes",
+        Wanted::Operator => "an operator or the end",
+        Wanted::Joint => "`&&`, `||` or the end",
+        Wanted::Close => "`)`",
+        Wanted::Nothing => "the end of the line",
     }
 }

@@ -18,7 +18,6 @@ mod loops;
 mod malformed;
 mod meanings;
 mod mention;
-mod mistakes;
 mod nearest;
 mod refusals;
 mod said;

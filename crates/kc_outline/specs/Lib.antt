@@ -12,5 +12,6 @@ pub mod NameList
 pub mod Nested
 pub mod Outline
 pub mod Reader
+pub mod Stops
 pub mod TreeOf
 pub mod TreeValue

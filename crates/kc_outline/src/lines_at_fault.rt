@@ -11,7 +11,7 @@ ghost use Rattle.kc_outline.specs.Reader.{IsFound, faults_with};
 use crate::context::Context;
 use crate::fault::{FaultyLine, LineProblem};
 use crate::line_faults::{early_problem, late_problem, opens_too_deep};
-use kc_statement::{Keyword, Names, Seed, read_keyword, read_names, read_statement};
+use kc_statement::{Keyword, Names, Seed, Unread, read_keyword, read_names, read_statement};
 use kc_text::Line;
 use std::alloc::{AllocError, Global};
 
@@ -33,8 +33,10 @@ fn problem_of(
     if let Some(problem) = early_problem(context, line, keyword, is_last) {
         return Ok(Some(problem));
     }
-    let Some(statement) = read_statement(alloc, names, line, keyword, 0)? else {
-        return Ok(Some(LineProblem::Malformed));
+    let statement = match read_statement(alloc, names, line, keyword, 0) {
+        Ok(statement) => statement,
+        Err(Unread::At(_)) => return Ok(Some(LineProblem::Malformed)),
+        Err(Unread::NoMemory) => return Err(AllocError),
     };
     let problem = late_problem(context, line, keyword, &statement);
     drop(statement);

@@ -48,10 +48,7 @@ fn read_config(
         → IsStop outline.old.names earlier is_last line.now stop) }
 {
     let likely = outline.likely_symbol();
-    let Some(defined) = read_definition(alloc, &outline.names, line, likely) else {
-        return Err(Stop::Problem(LineProblem::Malformed));
-    };
-    let Some(symbol) = defined else {
+    let Some(symbol) = read_definition(alloc, &outline.names, line, likely)? else {
         return Err(Stop::Problem(LineProblem::Limit));
     };
     let (block, choice) = (context.innermost(), context.choice());
@@ -82,11 +79,7 @@ fn read_any(
         → IsContextAfter outline.old.names earlier context.old
         → IsStop outline.old.names earlier is_last line.now stop) }
 {
-    let statement = match read_statement(alloc, &outline.names, line, keyword, 0) {
-        Ok(Some(statement)) => statement,
-        Ok(None) => return Err(Stop::Problem(LineProblem::Malformed)),
-        Err(_) => return Err(Stop::NoMemory),
-    };
+    let statement = read_statement(alloc, &outline.names, line, keyword, 0)?;
     if let Some(problem) = late_problem(context, line, keyword, &statement) {
         return Err(refused(statement, Stop::Problem(problem)));
     }

@@ -1,6 +1,7 @@
 //! Why a line was not added.
 
 use crate::fault::LineProblem;
+use kc_statement::Unread;
 use std::alloc::AllocError;
 
 /// Why a line was not added.
@@ -18,5 +19,19 @@ impl From<AllocError> for Stop {
 
     fn from(_error: AllocError) -> Stop {
         Stop::NoMemory
+    }
+}
+
+impl From<Unread> for Stop {
+    ghost use Rattle.std.specs.Prelude.{◌≡◌};
+    ghost use Rattle.kc_outline.specs.Stops.{stop_of};
+
+    ghost from_gives = { λ unread stop. stop ≡ stop_of unread };
+
+    fn from(unread: Unread) -> Stop {
+        match unread {
+            Unread::NoMemory => Stop::NoMemory,
+            Unread::At(_) => Stop::Problem(LineProblem::Malformed),
+        }
     }
 }

@@ -1,9 +1,8 @@
 -- Where the condition of a default begins: no expression has an `if` of its own.
-use Rattle.std.proofs.Common.{◌≡◌, ◌+◌, ◌-◌, ℕ, Bool, true, false, not, ◌||◌, cond, List, [], ◌∷◌, ◌++◌, length, take, drop, Option, Some, None, codes, unwrap_or, position, nat_lt, ◌==◌, MatchOption, refl, sym, ap, ◌∙◌, subst, zero-add, add-zero, arith}
+use Rattle.std.proofs.Common.{◌≡◌, ◌+◌, ℕ, Bool, true, false, not, ◌||◌, cond, List, [], ◌∷◌, ◌++◌, length, take, drop, Option, Some, None, codes, unwrap_or, position, nat_lt, ◌==◌, refl, sym, ap, ◌∙◌, subst, zero-add, add-zero, arith}
 use Rattle.std.specs.Str.{bytes_eq}
 use Rattle.std.specs.List.{list_any, position_or_len}
 use Rattle.std.proofs.lemmas.Bool.{ltb-false}
-use Rattle.std.proofs.lemmas.List.{take_all}
 use Rattle.std.proofs.lemmas.List.Sums.{prefix_len-le-length}
 use Rattle.std.proofs.lemmas.List.Folds.{list_any-append}
 use Rattle.std.proofs.Math.Seq.{take-append_seam, drop-append_seam}
@@ -16,10 +15,9 @@ use Rattle.kc_statement.specs.declared.expr.Expr.{Expr}
 use Rattle.kc_statement.specs.declared.expr.ExprKind.{ExprKind}
 use Rattle.kc_statement.specs.declared.expr.ExprKind.TheVariants.{Value}
 use Rattle.kc_statement.specs.declared.attribute.DefaultValue.{DefaultValue}
-use Rattle.kc_statement.specs.declared.attribute.Range.{Range}
-use Rattle.kc_statement.specs.Forms.{is_word, condition_start, IsReading}
+use Rattle.kc_statement.specs.Forms.{is_word, condition_start}
 use Rattle.kc_statement.specs.Grammar.{Symbol, term, compares, bang, ampersands, bars, opening, closing, if_word, Formula, atom, bare, compare, negation, group, both, either, spelled, sign_symbol, symbol_of, symbols_of, Derives, IsNoExpression}
-use Rattle.kc_statement.specs.Statements.{IsCondition, IsWordAndCondition, IsDefault, IsRange}
+use Rattle.kc_statement.specs.Statements.{IsCondition, IsWordAndCondition, IsDefault}
 
 -- ---- no `if` in an expression
 is_if_symbol : Symbol → Bool
@@ -131,30 +129,20 @@ default_split names tokens d h =
     (subst (λ (xs : List Token). Derives Value names xs d.value) (sym front) h.3, subst (λ (xs : List Token). IsCondition names xs d.condition) (sym back) h.4)
 
 -- ---- what is no condition, and no default
-pub no_condition : (names : List (List ℕ)) (tokens : List Token) (o : Option Expr) → (length tokens == 0) ≡ false → o ≡ None → IsReading (IsWordAndCondition names (codes "if") tokens) o → (c : Option Expr) → IsCondition names tokens c → ⊥
-no_condition names tokens o some none unread None h =
+pub no_condition : (names : List (List ℕ)) (tokens : List Token) → (length tokens == 0) ≡ false → ((e : Expr) → IsWordAndCondition names (codes "if") tokens e → ⊥) → (c : Option Expr) → IsCondition names tokens c → ⊥
+no_condition names tokens some unread None h =
     let same : true ≡ false = sym (ap (λ (xs : List Token). length xs == 0) h) ∙ some in
     cc
-no_condition names tokens o some none unread (Some e) h = (rw none at unread) e h
+no_condition names tokens some unread (Some e) h = unread e h
 
-pub no_default : (names : List (List ℕ)) (tokens front : List Token) (k : ℕ) (o : Option Expr) → k ≡ condition_start tokens → front ≡ take k tokens → o ≡ None → MatchOption o (IsNoExpression Value names front) (Derives Value names front) → (d : DefaultValue) → IsDefault names tokens d → ⊥
-no_default names tokens front k o start is none unread d h =
+pub no_default : (names : List (List ℕ)) (tokens front : List Token) (k : ℕ) → k ≡ condition_start tokens → front ≡ take k tokens → IsNoExpression Value names front → (d : DefaultValue) → IsDefault names tokens d → ⊥
+no_default names tokens front k start is unread d h =
     let value = (default_split names tokens d h).0 in
     let same : take (condition_start tokens) tokens ≡ front = ap (λ n. take n tokens) (sym start) ∙ sym is in
-    (rw none at unread) d.value (subst (λ (xs : List Token). Derives Value names xs d.value) same value)
+    unread d.value (subst (λ (xs : List Token). Derives Value names xs d.value) same value)
 
-pub no_default_condition : (names : List (List ℕ)) (tokens back : List Token) (k : ℕ) (o : Option (Option Expr)) → k ≡ condition_start tokens → back ≡ drop k tokens → o ≡ None → IsReading (IsCondition names back) o → (d : DefaultValue) → IsDefault names tokens d → ⊥
-no_default_condition names tokens back k o start is none unread d h =
+pub no_default_condition : (names : List (List ℕ)) (tokens back : List Token) (k : ℕ) → k ≡ condition_start tokens → back ≡ drop k tokens → ((c : Option Expr) → IsCondition names back c → ⊥) → (d : DefaultValue) → IsDefault names tokens d → ⊥
+no_default_condition names tokens back k start is unread d h =
     let condition = (default_split names tokens d h).1 in
     let same : drop (condition_start tokens) tokens ≡ back = ap (λ n. drop n tokens) (sym start) ∙ sym is in
-    (rw none at unread) d.condition (subst (λ (xs : List Token). IsCondition names xs d.condition) same condition)
-
--- ---- no range where its condition is none
-behind_two : (a b : Token) (rest : List Token) → take (length (a ∷ b ∷ rest) - 2) rest ≡ rest
-behind_two a b rest = take_all (length (a ∷ b ∷ rest) - 2) rest (omega arith)
-
-pub no_range_condition : (names : List (List ℕ)) (tokens : List Token) (o : Option (Option Expr)) → o ≡ None → IsReading (IsCondition names (take (length tokens - 2) (drop 2 tokens))) o → (r : Range) → IsRange names tokens r → ⊥
-no_range_condition names tokens o none unread r h =
-    let same : h.2 ≡ take (length tokens - 2) (drop 2 tokens) =
-    sym (ap (λ (xs : List Token). take (length xs - 2) (drop 2 xs)) h.3 ∙ behind_two h.0 h.1 h.2) in
-    (rw none at unread) r.condition (subst (λ (xs : List Token). IsCondition names xs r.condition) same h.6)
+    unread d.condition (subst (λ (xs : List Token). IsCondition names xs d.condition) same condition)

@@ -1,8 +1,9 @@
 -- How parts joined by a sign are read, one part after another.
-use Rattle.std.proofs.Common.{◌≡◌, ◌⊎◌, inl, inr, List, [], ◌∷◌, ◌++◌, refl, sym, ap, subst, ◌∙◌}
+use Rattle.std.proofs.Common.{◌≡◌, ◌⊎◌, inl, inr, ℕ, List, [], ◌∷◌, ◌++◌, refl, sym, ap, subst, ◌∙◌}
 use Rattle.std.proofs.lemmas.List.{append_assoc}
 use Rattle.kc_statement.specs.declared.expr.ExprKind.{ExprKind}
-use Rattle.kc_statement.specs.Grammar.{Symbol, ampersands, bars, Formula, atom, bare, compare, negation, group, both, either, Level, factor, part, expression, IsAt, spelled, joined}
+use Rattle.kc_statement.specs.Grammar.{Symbol, ampersands, bars, Formula, atom, bare, compare, negation, group, both, either, Level, factor, part, expression, IsAt, spelled, joined, symbols_of}
+use Rattle.kc_statement.specs.Mistakes.{CanGoOn}
 use Rattle.kc_statement.specs.Fronts.{DoesNotBegin, StopsBefore, Begins, IsUnreadable}
 
 -- expressions of one level are those of another joined by a sign
@@ -114,14 +115,24 @@ joined_push join empty (e ∷ d ∷ fs) f = ap (join e) (joined_push join empty 
 -- some parts, each with its sign, were read from the front; another is to come
 pub record IsPartway (k : ExprKind) (outer : Level) (join : Formula → Formula → Formula) (symbols : List Symbol) (fs : List Formula) (rest : List Symbol) : Type 0 where
   pub level : (h : Formula) → IsAt k outer h → IsAt k outer (nest join fs h)
-  pub is : (h : Formula) (t : List Symbol) → rest ≡ spelled h ++ t → symbols ≡ spelled (nest join fs h) ++ t
+  pub front : List Symbol
+  pub begins : symbols ≡ front ++ rest
+  pub written : (h : Formula) → spelled (nest join fs h) ≡ front ++ spelled h
   pub only : (g : Formula) (t : List Symbol) → IsAt k outer g → StopsBefore outer t → symbols ≡ spelled g ++ t →
       (h : Formula) × IsAt k outer h × (g ≡ nest join fs h) × (rest ≡ spelled h ++ t)
+
+-- what was read, once the rest is read as a formula
+pub partway_is : (k : ExprKind) (outer : Level) (join : Formula → Formula → Formula) (symbols : List Symbol) (fs : List Formula) (rest : List Symbol) → IsPartway k outer join symbols fs rest
+    → (h : Formula) (t : List Symbol) → rest ≡ spelled h ++ t → symbols ≡ spelled (nest join fs h) ++ t
+partway_is k outer join symbols fs rest b h t e =
+    b.begins ∙ ap (λ s. b.front ++ s) e ∙ sym (append_assoc b.front (spelled h) t) ∙ ap (λ s. s ++ t) (sym (b.written h))
 
 pub partway_start : (k : ExprKind) (outer : Level) (join : Formula → Formula → Formula) (symbols : List Symbol) → IsPartway k outer join symbols [] symbols
 partway_start k outer join symbols = record {
   level = λ h a. a;
-  is = λ h t e. e;
+  front = [];
+  begins = refl;
+  written = λ h. refl;
   only = λ g t a s e. (g, a, refl, e);
 }
 
@@ -147,11 +158,17 @@ module _ (k : ExprKind) (inner outer : Level) (join : Formula → Formula → Fo
             (two.1, two.3, formula ∙ sym (nest_push join fs f two.1), cc)
       ]
 
+  -- what was read, and one formula more with its sign
+  longer : (f : Formula) (t : List Symbol) → so_far.front ++ (spelled f ++ sign ∷ t) ≡ (so_far.front ++ (spelled f ++ sign ∷ [])) ++ t
+  longer f t = sym (append_assoc so_far.front (spelled f ++ sign ∷ []) t ∙ ap (λ s. so_far.front ++ s) (append_assoc (spelled f) (sign ∷ []) t))
+
   pub partway_next : (f : Formula) (rest : List Symbol) → Begins k inner here f (sign ∷ rest) →
       IsPartway k outer join symbols (fs ++ f ∷ []) rest
   partway_next f rest b = record {
     level = λ h a. rw nest_push (so_far.level (join f h) (joins.pair f h b.level a));
-    is = λ h t e. rw nest_push (so_far.is (join f h) t (b.is ∙ ap (λ s. spelled f ++ sign ∷ s) e ∙ sym (written_before f h t)));
+    front = so_far.front ++ (spelled f ++ sign ∷ []);
+    begins = so_far.begins ∙ ap (λ s. so_far.front ++ s) b.is ∙ longer f rest;
+    written = λ h. rw nest_push (so_far.written (join f h) ∙ ap (λ s. so_far.front ++ s) (joins.written f h) ∙ longer f (spelled h));
     only = next_only f rest b;
   }
 
@@ -173,7 +190,7 @@ module _ (k : ExprKind) (inner outer : Level) (join : Formula → Formula → Fo
       Begins k outer symbols (joined join empty (fs ++ f ∷ [])) rest
   partway_end empty f rest b none = rw joined_push (record {
     level = so_far.level f (joins.alone f b.level);
-    is = so_far.is f rest b.is;
+    is = partway_is k outer join symbols fs here so_far f rest b.is;
     only = last_only f rest b none;
   })
 
@@ -186,3 +203,15 @@ module _ (k : ExprKind) (inner outer : Level) (join : Formula → Formula → Fo
             none two.0 (sign ∷ (spelled two.1 ++ t)) two.2 (joins.ends (spelled two.1 ++ t))
             (before.3 ∙ ap (λ h. spelled h ++ t) two.4 ∙ written_before two.0 two.1 t)
       ]
+
+  pub partway_goes_on : (names : List (List ℕ)) (left : ℕ) → CanGoOn names k inner here left → CanGoOn names k outer symbols left
+  partway_goes_on names left g = (
+    nest join fs g.0,
+    so_far.front ++ g.1,
+    g.2,
+    g.3,
+    so_far.begins ∙ ap (λ s. so_far.front ++ s) g.4 ∙ sym (append_assoc so_far.front g.1 g.2),
+    g.5,
+    so_far.level g.0 (joins.alone g.0 g.6),
+    so_far.written g.0 ∙ ap (λ s. so_far.front ++ s) g.7 ∙ sym (append_assoc so_far.front g.1 (symbols_of names g.3)),
+  )

@@ -2,8 +2,10 @@ pub mod ConditionStart
 pub mod Examples
 pub mod FormOf
 pub mod FrontLaws
+pub mod GoesOnLaws
 pub mod JoinLaws
 pub mod LoneLaws
+pub mod MistakeLaws
 pub mod NamesLemmas
 pub mod NestingLaws
 pub mod NodeLaws
@@ -12,6 +14,7 @@ pub mod ZeroLaws
 pub mod OneFormula
 pub mod OneStatement
 pub mod PartLaws
+pub mod PlacedLaws
 pub mod ReservedLaws
 pub mod ShapeLaws
 pub mod StatementLaws

@@ -8,7 +8,7 @@ use Rattle.kc_statement.specs.declared.expr.Term.TheVariants.{Tri}
 use Rattle.kc_statement.specs.Grammar.{Symbol, ampersands, bars, closing, Derives, Formula, atom, bare, compare, negation, group, both, either, Level, factor, part, expression, IsAt, spelled}
 use Rattle.kc_statement.specs.Fronts.{BeginsWithNoComparison, StopsBefore, Begins}
 use Rattle.kc_statement.proofs.FrontLaws.{alone_atom, alone_bare, begins_alone, begins_compare, begins_group, begins_negations}
-use Rattle.kc_statement.proofs.JoinLaws.{Joins, factors_join, parts_join, expression_ends, part_ends, IsPartway, partway_start, partway_next, partway_end}
+use Rattle.kc_statement.proofs.JoinLaws.{Joins, factors_join, parts_join, expression_ends, part_ends, IsPartway, partway_is, partway_start, partway_next, partway_end}
 
 -- ---- a factor is a part, and a part is an expression
 part_front : (k : ExprKind) (symbols : List Symbol) (f : Formula) (rest : List Symbol) → Begins k factor symbols f rest → StopsBefore part rest →
@@ -53,7 +53,7 @@ module _ (k : ExprKind) (inner outer : Level) (join : Formula → Formula → Fo
       partway_next k inner outer join sign joins symbols [] symbols (partway_start k outer join symbols) f middle first in
       record {
         level = before.level g last.level;
-        is = before.is g rest last.is;
+        is = partway_is k outer join symbols (f ∷ []) middle before g rest last.is;
         only = joined_only symbols middle f g rest before last;
       }
 

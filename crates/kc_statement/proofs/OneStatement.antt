@@ -1,6 +1,5 @@
 -- A line says one statement at most.
-use Rattle.std.proofs.Common.{◌≡◌, ℕ, List, [], ◌∷◌, Option, Some, None, take, drop, codes, refl, sym, ap, subst, ◌∙◌, inl, inr, IfOk, IfSome, MatchOption, Result}
-use Rattle.std.proofs.lemmas.Result.{IfOk-weaker}
+use Rattle.std.proofs.Common.{◌≡◌, ℕ, List, [], ◌∷◌, Option, Some, None, take, drop, codes, refl, sym, ap, subst, ◌∙◌, inl, inr, IfOk, Result, Ok, Err}
 use Rattle.kc_text.specs.LineValue.{LineValue}
 use Rattle.kc_text.specs.declared.line.LineKind.{LineKind}
 use Rattle.kc_text.specs.declared.line.LineKind.TheVariants.{Statement as StatementLine, EndOfFile as EndLine}
@@ -21,7 +20,7 @@ use Rattle.kc_statement.specs.declared.symbol_type.SymbolType.{SymbolType}
 use Rattle.kc_statement.specs.Forms.{condition_start}
 use Rattle.kc_statement.specs.Grammar.{Symbol, term, symbol_of, Derives}
 use Rattle.kc_statement.specs.Names.{name_word, symbol_among}
-use Rattle.kc_statement.specs.Statements.{fixed, IsCondition, IsPrompt, IsDefault, IsRange, IsWordAndCondition, IsQuoted, HasFormOf, HasForm, HasNoForm}
+use Rattle.kc_statement.specs.Statements.{fixed, IsCondition, IsPrompt, IsDefault, IsRange, IsWordAndCondition, IsQuoted, HasFormOf, HasForm}
 use Rattle.kc_statement.proofs.OneFormula.{one_formula}
 use Rattle.kc_statement.proofs.ConditionStart.{default_split}
 use Rattle.kc_statement.proofs.FormOf.{Says, IsDefinition, Selects, SaysType, FormOf, form_of}
@@ -190,12 +189,6 @@ pub one_statement : (names : List (List ℕ)) (l : LineValue) (s r : Statement) 
 unfolding HasForm
 one_statement names l s r h k = one_of names l.kind l.tokens s r h k
 
-only_statement : (names : List (List ℕ)) (l : LineValue) (o : Option Statement) → MatchOption o (HasNoForm names l) (HasForm names l)
-    → IfSome o (λ s. (r : Statement) → HasForm names l r → r ≡ s)
-only_statement names l None h = tt
-only_statement names l (Some s) h = λ r k. one_statement names l s r h k
-
-module _ {E : Type 0} where
-  pub says_only_that : (names : List (List ℕ)) (l : LineValue) (r : Result (Option Statement) E) → IfOk r (λ o. MatchOption o (HasNoForm names l) (HasForm names l))
-      → IfOk r (λ o. IfSome o (λ s. (t : Statement) → HasForm names l t → t ≡ s))
-  says_only_that names l r h = IfOk-weaker r _ _ (only_statement names l) h
+pub says_only_that : {E : Type 0} (names : List (List ℕ)) (l : LineValue) (r : Result Statement E) → IfOk r (HasForm names l) → IfOk r (λ s. (t : Statement) → HasForm names l t → t ≡ s)
+says_only_that names l (Ok s) h = λ t k. one_statement names l s t h k
+says_only_that names l (Err e) h = tt

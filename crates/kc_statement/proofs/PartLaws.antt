@@ -1,8 +1,7 @@
 -- The part of a line that is read after its keyword is that of the one statement that the line says.
-use Rattle.std.proofs.Common.{◌≡◌, ◌==◌, ℕ, List, [], ◌∷◌, Option, Some, None, IfOk, Result, Bool, true, false, drop, length, refl, sym, ap, subst, ◌∙◌}
+use Rattle.std.proofs.Common.{◌≡◌, ◌==◌, ℕ, List, [], ◌∷◌, Some, IfOk, IfErr, Result, Ok, Err, Bool, true, false, drop, length, refl, sym, ap, subst, ◌∙◌}
 use Rattle.std.proofs.lemmas.Bool.{eqb-true}
 use Rattle.std.proofs.lemmas.List.{nil_from_length}
-use Rattle.std.proofs.lemmas.Result.{IfOk-weaker}
 use Rattle.kc_text.specs.LineValue.{LineValue}
 use Rattle.kc_text.specs.declared.line.LineKind.{LineKind}
 use Rattle.kc_text.specs.declared.line.LineKind.TheVariants.{Statement as StatementLine, EndOfFile as EndLine}
@@ -14,10 +13,10 @@ use Rattle.kc_statement.specs.declared.keyword.Keyword.TheVariants as keyword
 use Rattle.kc_statement.specs.declared.statement.Statement.{Statement}
 use Rattle.kc_statement.specs.declared.statement.Statement.TheVariants as statement
 use Rattle.kc_statement.specs.declared.symbol_type.SymbolType.{SymbolType}
-use Rattle.kc_statement.specs.declared.symbol_type.SymbolType.TheVariants as kind
-use Rattle.kc_statement.specs.Forms.{IsReading}
 use Rattle.kc_statement.specs.Keywords.{keyword_at, keyword_of}
-use Rattle.kc_statement.specs.LineParts.{stands_alone, IsPartOf, IsSaidWhere, SaysOnly}
+use Rattle.kc_statement.specs.declared.mistake.Unread.{Unread}
+use Rattle.kc_statement.specs.Mistakes.{IsMistake}
+use Rattle.kc_statement.specs.LineParts.{IsPartOf, IsSaidWhere, SaysOnly}
 use Rattle.kc_statement.specs.Statements.{IsPrompt, IsDefault, type_word, default_word, HasFormAfter, HasFormOf, HasForm, HasNoForm}
 use Rattle.kc_statement.proofs.FormOf.{Says, FormOf, form_of}
 use Rattle.kc_statement.proofs.OneStatement.{one_statement}
@@ -54,12 +53,9 @@ module _ (names : List (List ℕ)) (l : LineValue) (tokens : List Token) (same :
   -- a part, by the form of the keyword
   module _ {A : Type 0} (P : A → Type 0) (f : A → Statement) (some : (x : A) → P x → HasFormAfter names k tokens (f x))
       (part : (s : Statement) → FormOf names k tokens s → Says P f s) where
-    pub part_of : (o : Option A) → IsReading P o → IsPartOf names l f o
-    part_of None none = says_none (λ s h. let read = part s (form_of names tokens k s h) in none read.0 read.1)
-    part_of (Some x) p = says (f x) (some x p)
-
-    pub part_read : {E : Type 0} (r : Result (Option A) E) → IfOk r (IsReading P) → IfOk r (IsPartOf names l f)
-    part_read r h = IfOk-weaker r _ _ part_of h
+    pub part_of : (r : Result A Unread) → IfOk r P → IfErr r (IsMistake P) → IsPartOf names l f r
+    part_of (Ok x) p mistake = says (f x) (some x p)
+    part_of (Err e) read none = λ at. says_none (λ s h. let read = part s (form_of names tokens k s h) in none at read.0 read.1)
 
 -- a `help` line has nothing after its word
 pub help_where : (names : List (List ℕ)) (l : LineValue) (tokens : List Token) → tokens ≡ drop 1 l.tokens → keyword_of l ≡ Some keyword.Help → (b : Bool) → b ≡ (length tokens == 0) → IsSaidWhere names l statement.Help b
@@ -74,21 +70,13 @@ help_where names l tokens same is false e =
 pub type_where : (names : List (List ℕ)) (l : LineValue) (tokens : List Token) → tokens ≡ drop 1 l.tokens → (t : SymbolType) → keyword_of l ≡ Some (type_word t) → (length tokens == 0) ≡ true → SaysOnly names l (statement.Type t)
 type_where names l tokens same t is none = says names l tokens same (type_word t) is (statement.Type t) (refl, none_of tokens none)
 
-typed_prompt_of : (names : List (List ℕ)) (l : LineValue) (tokens : List Token) → tokens ≡ drop 1 l.tokens → (t : SymbolType) → keyword_of l ≡ Some (type_word t) → (length tokens == 0) ≡ false
-    → (o : Option Prompt) → IsReading (IsPrompt names tokens) o → IsPartOf names l (λ p. statement.TypeAndPrompt t p) o
-typed_prompt_of names l tokens same t is some None none = says_none names l tokens same (type_word t) is (no_type names tokens t None some refl none)
-typed_prompt_of names l tokens same t is some (Some p) h = says names l tokens same (type_word t) is (statement.TypeAndPrompt t p) (refl, h)
+module _ (names : List (List ℕ)) (l : LineValue) (tokens : List Token) (same : tokens ≡ drop 1 l.tokens) where
+  pub typed_prompt_of : (t : SymbolType) → keyword_of l ≡ Some (type_word t) → (length tokens == 0) ≡ false
+      → (r : Result Prompt Unread) → IfOk r (IsPrompt names tokens) → IfErr r (IsMistake (IsPrompt names tokens)) → IsPartOf names l (λ p. statement.TypeAndPrompt t p) r
+  typed_prompt_of t is some (Ok p) h mistake = says names l tokens same (type_word t) is (statement.TypeAndPrompt t p) (refl, h)
+  typed_prompt_of t is some (Err e) h none = λ at. says_none names l tokens same (type_word t) is (no_type names tokens t some (none at))
 
-typed_default_of : (names : List (List ℕ)) (l : LineValue) (tokens : List Token) → tokens ≡ drop 1 l.tokens → (t : SymbolType) (k : Keyword) → default_word t ≡ Some k → keyword_of l ≡ Some k
-    → (o : Option DefaultValue) → IsReading (IsDefault names tokens) o → IsPartOf names l (λ d. statement.TypeAndDefault t d) o
-typed_default_of names l tokens same t k word is None none = says_none names l tokens same k is (no_typed_default names tokens t k None word refl none)
-typed_default_of names l tokens same t k word is (Some d) h = says names l tokens same k is (statement.TypeAndDefault t d) (word, h)
-
-module _ {E : Type 0} (names : List (List ℕ)) (l : LineValue) (tokens : List Token) (same : tokens ≡ drop 1 l.tokens) where
-  pub typed_prompt_read : (t : SymbolType) → keyword_of l ≡ Some (type_word t) → (length tokens == 0) ≡ false
-      → (r : Result (Option Prompt) E) → IfOk r (IsReading (IsPrompt names tokens)) → IfOk r (IsPartOf names l (λ p. statement.TypeAndPrompt t p))
-  typed_prompt_read t is some r h = IfOk-weaker r _ _ (typed_prompt_of names l tokens same t is some) h
-
-  pub typed_default_read : (t : SymbolType) (k : Keyword) → default_word t ≡ Some k → keyword_of l ≡ Some k
-      → (r : Result (Option DefaultValue) E) → IfOk r (IsReading (IsDefault names tokens)) → IfOk r (IsPartOf names l (λ d. statement.TypeAndDefault t d))
-  typed_default_read t k word is r h = IfOk-weaker r _ _ (typed_default_of names l tokens same t k word is) h
+  pub typed_default_of : (t : SymbolType) (k : Keyword) → default_word t ≡ Some k → keyword_of l ≡ Some k
+      → (r : Result DefaultValue Unread) → IfOk r (IsDefault names tokens) → IfErr r (IsMistake (IsDefault names tokens)) → IsPartOf names l (λ d. statement.TypeAndDefault t d) r
+  typed_default_of t k word is (Ok d) h mistake = says names l tokens same k is (statement.TypeAndDefault t d) (word, h)
+  typed_default_of t k word is (Err e) h none = λ at. says_none names l tokens same k is (no_typed_default names tokens t k word (none at))

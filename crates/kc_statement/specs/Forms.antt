@@ -1,14 +1,9 @@
--- The parts that forms are read by: kconfig-language.rst, "Menu attributes"; what a reader of a form says is this
--- project's own.
-use Rattle.std.specs.Prelude.{ℕ, Bool, false, List, Option, Some, None, MatchOption, codes}
+-- The parts that forms are read by: kconfig-language.rst, "Menu attributes".
+use Rattle.std.specs.Prelude.{ℕ, Bool, false, List, Option, Some, None, codes}
 use Rattle.std.specs.List.{position_or_len}
 use Rattle.std.specs.Str.{bytes_eq}
 use Rattle.kc_text.specs.declared.line.Token.{Token}
 use Rattle.kc_text.specs.declared.line.Token.TheVariants.{Word, Expanded, Quoted, Operator}
-
--- a thing that tokens are, or nothing where they are none of its kind
-abbrev pub IsReading : {A : Type 0} → (A → Type 0) → Option A → Type 0
-IsReading {A} P o = MatchOption o ((x : A) → P x → ⊥) P
 
 -- whether a token is this word, unquoted and without reference
 abbrev pub is_word : List ℕ → Token → Bool

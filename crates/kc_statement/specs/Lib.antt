@@ -5,6 +5,8 @@ pub mod Keywords
 pub mod Names
 pub mod LentText
 pub mod LineParts
+pub mod Mistakes
+pub mod Places
 pub mod PromptText
 pub mod Nesting
 pub mod NestingDepth

@@ -1,7 +1,9 @@
 -- What a line says, read as the part by which it says it: this project's own.
-use Rattle.std.specs.Prelude.{◌≡◌, ◌==◌, ℕ, Bool, true, false, List, Option, MatchOption, drop, length}
+use Rattle.std.specs.Prelude.{◌≡◌, ◌==◌, ℕ, Bool, true, false, List, Result, MatchResult, drop, length}
 use Rattle.kc_text.specs.LineValue.{LineValue}
+use Rattle.kc_statement.specs.declared.mistake.Unread.{Unread}
 use Rattle.kc_statement.specs.declared.statement.Statement.{Statement}
+use Rattle.kc_statement.specs.Mistakes.{WhereMistaken}
 use Rattle.kc_statement.specs.Statements.{HasForm, HasNoForm}
 
 -- a line says this, and nothing else
@@ -9,9 +11,9 @@ pub record SaysOnly (names : List (List ℕ)) (l : LineValue) (s : Statement) : 
   pub form : HasForm names l s
   pub only : (other : Statement) → HasForm names l other → other ≡ s
 
--- the part of the one statement that a line says, or nothing where it says none
-abbrev pub IsPartOf : {A : Type 0} → List (List ℕ) → LineValue → (A → Statement) → Option A → Type 0
-IsPartOf names l says o = MatchOption o (HasNoForm names l) (λ x. SaysOnly names l (says x))
+-- the part of the one statement that a line says; where the line has a mistake, it says none
+abbrev pub IsPartOf : {A : Type 0} → List (List ℕ) → LineValue → (A → Statement) → Result A Unread → Type 0
+IsPartOf names l says r = MatchResult r (λ x. SaysOnly names l (says x)) (λ e. WhereMistaken e (HasNoForm names l))
 
 -- whether a line says this, where it can say nothing else
 abbrev pub IsSaidWhere : List (List ℕ) → LineValue → Statement → Bool → Type 0

@@ -1,29 +1,31 @@
 //! Expressions, read from the tokens of a line.
 
-ghost use Rattle.std.specs.Prelude.{◌≡◌, ◌∷◌, [], ◌++◌, ◌+◌, ◌-◌, ◌<◌, ◌≤◌, ◌↔◌, ℕ, true, List, length, map, replicate, IsTrue, IfOk, IfSome, MatchOption};
+ghost use Rattle.std.specs.Prelude.{◌≡◌, ◌∷◌, [], ◌++◌, ◌+◌, ◌-◌, ◌<◌, ◌≤◌, ◌↔◌, ℕ, true, List, length, map, replicate, IsTrue, IfOk, IfErr, IfSome, MatchOption};
 ghost use Rattle.std.specs.List.{list_all};
 ghost use Rattle.kc_statement.specs.Grammar.{Derives, IsNoExpression, is_module_term, is_bare_in, factor, part, expression, all_joined, any_joined, is_plain, term, compares, bang, opening, sign_symbol, symbol_of, negations};
 ghost use Rattle.kc_statement.specs.Fronts.{Begins, IsUnreadable, DoesNotBegin, BeginsWithNoTerm, BeginsWithNoComparison, alone_in, stands_at};
+ghost use Rattle.kc_statement.specs.Mistakes.{WhereMistaken, WherePlaced, CanGoOn};
+ghost use Rattle.kc_statement.specs.Places.{IsPlaced, left_at};
 ghost use Rattle.kc_statement.specs.TokenFronts.{symbols_at, IsReadAt};
 
 use crate::expr::{Comparison, Expr, ExprKind, ExprNode, Operands, Term};
+use crate::mistake::{Unread, Wanted, wants};
 use crate::name::{quoted_term, word_term};
 use crate::names::Names;
 use crate::parser::Parser;
 use crate::tri::Tri;
+use crate::word::is_word;
 use kc_text::{Operator, Token};
 use std::alloc::{AllocError, Global};
 
 impl Parser<'_> {
-    /// The expression of a kind that tokens are, if they are one (kconfig-language.rst, "Menu dependencies"), or
-    /// `AllocError` where there is no memory for it. Words are terms by the names of the defined symbols. Most
-    /// expressions are one token, which is a term or nothing.
-    pub(crate) fn expression(
-        &self,
-        kind: ExprKind,
-        tokens: &[Token<'_>],
-    ) -> Result<Option<Expr>, AllocError>
-        ensures { IfOk result (λ e. MatchOption e (IsNoExpression kind self.now.names.now tokens.now) (Derives kind self.now.names.now tokens.now)) }
+    /// The expression of a kind that tokens are (kconfig-language.rst, "Menu dependencies"), or the first mistake where
+    /// they are none. Words are terms by the names of the defined symbols. Most expressions are one token, which is a
+    /// term or nothing.
+    pub(crate) fn expression(&self, kind: ExprKind, tokens: &[Token<'_>]) -> Result<Expr, Unread>
+        ensures read { IfOk result (Derives kind self.now.names.now tokens.now) }
+        ensures mistake { IfErr result (λ e. WhereMistaken e (IsNoExpression kind self.now.names.now tokens.now)) }
+        ensures place { IfErr result (IsPlaced (Derives kind self.now.names.now) tokens.now) }
     {
         if let [token] = tokens {
             return self.lone_expression(kind, token);
@@ -34,24 +36,51 @@ impl Parser<'_> {
             kind,
             tokens,
         };
-        let Some((expr, end)) = parser.read_any(0)? else {
-            return Ok(None);
-        };
+        let (expr, end) = parser.read_any(0)?;
         if end < tokens.len() {
-            Ok(None)
-        } else {
-            Ok(Some(expr))
+            return Err(wants(wanted_after(tokens, end), parser.left(end)));
         }
+        Ok(expr)
     }
 
     /// The expression that one token is.
-    fn lone_expression(&self, kind: ExprKind, token: &Token<'_>) -> Result<Option<Expr>, AllocError>
-        ensures { IfOk result (λ e. MatchOption e (IsNoExpression kind self.now.names.now (token.now ∷ [])) (Derives kind self.now.names.now (token.now ∷ []))) }
+    fn lone_expression(&self, kind: ExprKind, token: &Token<'_>) -> Result<Expr, Unread>
+        ensures read { IfOk result (Derives kind self.now.names.now (token.now ∷ [])) }
+        ensures mistake { IfErr result (λ e. WhereMistaken e (IsNoExpression kind self.now.names.now (token.now ∷ []))) }
+        ensures place { IfErr result (IsPlaced (Derives kind self.now.names.now) (token.now ∷ [])) }
     {
         let Some(term) = term_of(self.alloc, self.names, token)? else {
-            return Ok(None);
+            return Err(wants(Wanted::Operand, left_at(token)));
         };
-        Ok(Some(alone(kind, term)))
+        Ok(alone(kind, term))
+    }
+}
+
+/// How many tokens are left where one token alone is wrong: none after a sign that an expression may begin with.
+#[cold]
+#[inline(never)]
+fn left_at(token: &Token<'_>) -> usize
+    ensures { result ≡ left_at token.now }
+{
+    match token {
+        Token::Operator(Operator::Not | Operator::Open) => 0,
+        Token::Operator(_) | Token::Word(_) | Token::Expanded(_) | Token::Quoted(_) => 1,
+    }
+}
+
+/// What is wanted where an expression ends before its tokens do: an `if` there is another part of the line.
+#[cold]
+#[inline(never)]
+fn wanted_after(tokens: &[Token<'_>], end: usize) -> Wanted {
+    if tokens.get(end).is_some_and(|token| is_word(token, "if")) {
+        return Wanted::Nothing;
+    }
+    let is_closed = is_sign_at(tokens, end.saturating_sub(1));
+    let is_compared = end > 1 && tokens.get(end - 2).and_then(comparison_of).is_some();
+    if is_closed || is_compared {
+        Wanted::Joint
+    } else {
+        Wanted::Operator
     }
 }
 
@@ -101,20 +130,20 @@ struct ExprParser<'a> {
 impl ExprParser<'_> {
     /// The expression that begins at a position: parts joined by `||`.
     #[cycle(expression)]
-    fn read_any(&self, start: usize) -> Result<Option<(Expr, usize)>, AllocError>
+    fn read_any(&self, start: usize) -> Result<(Expr, usize), Unread>
         ensures front { IfOk result (IsReadAt self.now expression start) }
-        ensures shape { IfOk result (λ r. IfSome r (λ p. stands_at expression p.0 ≡ true)) }
-        ensures further { IfOk result (λ r. IfSome r (λ p. start < p.1)) }
-        ensures within { IfOk result (λ r. IfSome r (λ p. p.1 ≤ length self.now.tokens.now)) }
+        ensures mistake { IfErr result (λ e. WhereMistaken e (IsUnreadable self.now.kind expression (symbols_at self.now start))) }
+        ensures place { IfErr result (λ e. WherePlaced e (CanGoOn self.now.names.now self.now.kind expression (symbols_at self.now start))) }
+        ensures shape { IfOk result (λ p. stands_at expression p.0 ≡ true) }
+        ensures further { IfOk result (λ p. start < p.1) }
+        ensures within { IfOk result (λ p. p.1 ≤ length self.now.tokens.now) }
     {
         let mut parts = Vec::new(self.alloc);
         let mut position = start;
         'parts: loop {
-            let Some((part, end)) = self.read_all(position)? else {
-                return Ok(None);
-            };
+            let (part, end) = self.read_all(position)?;
             let Some(next) = self.after(end, Operator::Or) else {
-                return Ok(Some((any_of(parts, part)?, end)));
+                return Ok((any_of(parts, part)?, end));
             };
             parts.push(part)?;
             position = next;
@@ -123,20 +152,20 @@ impl ExprParser<'_> {
 
     /// The part that begins at a position: factors joined by `&&`.
     #[cycle(expression)]
-    fn read_all(&self, start: usize) -> Result<Option<(Expr, usize)>, AllocError>
+    fn read_all(&self, start: usize) -> Result<(Expr, usize), Unread>
         ensures front { IfOk result (IsReadAt self.now part start) }
-        ensures shape { IfOk result (λ r. IfSome r (λ p. stands_at part p.0 ≡ true)) }
-        ensures further { IfOk result (λ r. IfSome r (λ p. start < p.1)) }
-        ensures within { IfOk result (λ r. IfSome r (λ p. p.1 ≤ length self.now.tokens.now)) }
+        ensures mistake { IfErr result (λ e. WhereMistaken e (IsUnreadable self.now.kind part (symbols_at self.now start))) }
+        ensures place { IfErr result (λ e. WherePlaced e (CanGoOn self.now.names.now self.now.kind part (symbols_at self.now start))) }
+        ensures shape { IfOk result (λ p. stands_at part p.0 ≡ true) }
+        ensures further { IfOk result (λ p. start < p.1) }
+        ensures within { IfOk result (λ p. p.1 ≤ length self.now.tokens.now) }
     {
         let mut factors = Vec::new(self.alloc);
         let mut position = start;
         'factors: loop {
-            let Some((factor, end)) = self.read_factor(position)? else {
-                return Ok(None);
-            };
+            let (factor, end) = self.read_factor(position)?;
             let Some(next) = self.after(end, Operator::And) else {
-                return Ok(Some((all_of(factors, factor)?, end)));
+                return Ok((all_of(factors, factor)?, end));
             };
             factors.push(factor)?;
             position = next;
@@ -145,74 +174,74 @@ impl ExprParser<'_> {
 
     /// The factor that begins at a position. A run of `!` takes no deeper calls, however long it is.
     #[cycle(expression)]
-    fn read_factor(&self, start: usize) -> Result<Option<(Expr, usize)>, AllocError>
+    fn read_factor(&self, start: usize) -> Result<(Expr, usize), Unread>
         ensures front { IfOk result (IsReadAt self.now factor start) }
-        ensures shape { IfOk result (λ r. IfSome r (λ p. stands_at factor p.0 ≡ true)) }
-        ensures further { IfOk result (λ r. IfSome r (λ p. start < p.1)) }
-        ensures within { IfOk result (λ r. IfSome r (λ p. p.1 ≤ length self.now.tokens.now)) }
+        ensures mistake { IfErr result (λ e. WhereMistaken e (IsUnreadable self.now.kind factor (symbols_at self.now start))) }
+        ensures place { IfErr result (λ e. WherePlaced e (CanGoOn self.now.names.now self.now.kind factor (symbols_at self.now start))) }
+        ensures shape { IfOk result (λ p. stands_at factor p.0 ≡ true) }
+        ensures further { IfOk result (λ p. start < p.1) }
+        ensures within { IfOk result (λ p. p.1 ≤ length self.now.tokens.now) }
     {
         let plain = self.after_bangs(start);
-        let Some((expr, end)) = self.read_plain(plain)? else {
-            return Ok(None);
-        };
-        Ok(Some((negated(self.alloc, expr, plain - start)?, end)))
+        let (expr, end) = self.read_plain(plain)?;
+        Ok((negated(self.alloc, expr, plain - start)?, end))
     }
 
     /// The factor that begins at a position with no `!`.
     #[cycle(expression)]
-    fn read_plain(&self, start: usize) -> Result<Option<(Expr, usize)>, AllocError>
+    fn read_plain(&self, start: usize) -> Result<(Expr, usize), Unread>
         requires plain { DoesNotBegin bang (symbols_at self.now start) }
         ensures front { IfOk result (IsReadAt self.now factor start) }
-        ensures shape { IfOk result (λ r. IfSome r (λ p. is_plain p.0 ≡ true)) }
-        ensures further { IfOk result (λ r. IfSome r (λ p. start < p.1)) }
-        ensures within { IfOk result (λ r. IfSome r (λ p. p.1 ≤ length self.now.tokens.now)) }
+        ensures mistake { IfErr result (λ e. WhereMistaken e (IsUnreadable self.now.kind factor (symbols_at self.now start))) }
+        ensures place { IfErr result (λ e. WherePlaced e (CanGoOn self.now.names.now self.now.kind factor (symbols_at self.now start))) }
+        ensures shape { IfOk result (λ p. is_plain p.0 ≡ true) }
+        ensures further { IfOk result (λ p. start < p.1) }
+        ensures within { IfOk result (λ p. p.1 ≤ length self.now.tokens.now) }
     {
         let Some(inner) = self.after(start, Operator::Open) else {
             return self.read_comparison(start);
         };
-        let Some((expr, end)) = self.read_any(inner)? else {
-            return Ok(None);
+        let (expr, closing) = self.read_any(inner)?;
+        let Some(end) = self.after(closing, Operator::Close) else {
+            return Err(wants(Wanted::Close, self.left(closing)));
         };
-        let Some(end) = self.after(end, Operator::Close) else {
-            return Ok(None);
-        };
-        Ok(Some((Expr::of(ExprNode::Group(Box::new(self.alloc, expr)?)), end)))
+        Ok((Expr::of(ExprNode::Group(Box::new(self.alloc, expr)?)), end))
     }
 
     /// The term or the comparison that begins at a position, with neither `!` nor `(`.
-    fn read_comparison(&self, start: usize) -> Result<Option<(Expr, usize)>, AllocError>
+    fn read_comparison(&self, start: usize) -> Result<(Expr, usize), Unread>
         requires plain { DoesNotBegin bang (symbols_at self.now start) }
         requires unopened { DoesNotBegin opening (symbols_at self.now start) }
         ensures front { IfOk result (IsReadAt self.now factor start) }
-        ensures shape { IfOk result (λ r. IfSome r (λ p. is_plain p.0 ≡ true)) }
-        ensures further { IfOk result (λ r. IfSome r (λ p. start < p.1)) }
-        ensures within { IfOk result (λ r. IfSome r (λ p. p.1 ≤ length self.now.tokens.now)) }
+        ensures mistake { IfErr result (λ e. WhereMistaken e (IsUnreadable self.now.kind factor (symbols_at self.now start))) }
+        ensures place { IfErr result (λ e. WherePlaced e (CanGoOn self.now.names.now self.now.kind factor (symbols_at self.now start))) }
+        ensures shape { IfOk result (λ p. is_plain p.0 ≡ true) }
+        ensures further { IfOk result (λ p. start < p.1) }
+        ensures within { IfOk result (λ p. p.1 ≤ length self.now.tokens.now) }
     {
-        let Some((left, end)) = self.read_term(start)? else {
-            return Ok(None);
-        };
+        let (left, end) = self.read_term(start, Wanted::Operand)?;
         let Some((comparison, next)) = self.after_comparison(end) else {
-            return Ok(Some((alone(self.kind, left), end)));
+            return Ok((alone(self.kind, left), end));
         };
-        let Some((right, end)) = self.read_term(next)? else {
-            return Ok(None);
-        };
+        let (right, end) = self.read_term(next, Wanted::Term)?;
         let operands = Box::new(self.alloc, Operands { left, right })?;
-        Ok(Some((Expr::of(ExprNode::Compare(comparison, operands)), end)))
+        Ok((Expr::of(ExprNode::Compare(comparison, operands)), end))
     }
 
-    /// The term at a position.
-    fn read_term(&self, start: usize) -> Result<Option<(Term, usize)>, AllocError>
-        ensures front { IfOk result (λ r. MatchOption r (BeginsWithNoTerm (symbols_at self.now start)) (λ p. symbols_at self.now start ≡ term p.0 ∷ symbols_at self.now p.1)) }
-        ensures further { IfOk result (λ r. IfSome r (λ p. start < p.1)) }
-        ensures within { IfOk result (λ r. IfSome r (λ p. p.1 ≤ length self.now.tokens.now)) }
+    /// The term at a position, which is wanted as this.
+    fn read_term(&self, start: usize, wanted: Wanted) -> Result<(Term, usize), Unread>
+        ensures front { IfOk result (λ p. symbols_at self.now start ≡ term p.0 ∷ symbols_at self.now p.1) }
+        ensures mistake { IfErr result (λ e. WhereMistaken e (BeginsWithNoTerm (symbols_at self.now start))) }
+        ensures place { IfErr result (λ e. WherePlaced e (λ left. left ≡ length (symbols_at self.now start))) }
+        ensures further { IfOk result (λ p. start < p.1) }
+        ensures within { IfOk result (λ p. p.1 ≤ length self.now.tokens.now) }
     {
         let Some(token) = self.tokens.get(start) else {
-            return Ok(None);
+            return Err(wants(wanted, 0));
         };
         match term_of(self.alloc, self.names, token)? {
-            Some(term) => Ok(Some((term, start + 1))),
-            None => Ok(None),
+            Some(term) => Ok((term, start + 1)),
+            None => Err(wants(wanted, self.left(start))),
         }
     }
 
@@ -240,6 +269,13 @@ impl ExprParser<'_> {
             position = next;
         }
         position
+    }
+
+    /// How many tokens there are from a position on.
+    fn left(&self, start: usize) -> usize
+        ensures { result ≡ length (symbols_at self.now start) }
+    {
+        self.tokens.len().saturating_sub(start)
     }
 
     /// The position after a sign at a position.
@@ -313,6 +349,11 @@ fn is_sign(token: &Token<'_>, sign: Operator) -> bool
         Token::Expanded(_) => false,
         Token::Quoted(_) => false,
     }
+}
+
+/// Whether the token at a position is a sign.
+fn is_sign_at(tokens: &[Token<'_>], position: usize) -> bool {
+    matches!(tokens.get(position), Some(Token::Operator(_)))
 }
 
 /// Parts and the last of them as one expression: the last alone, or all joined by `||`.

@@ -11,6 +11,7 @@ mod limits;
 mod line_parts;
 mod lone_terms;
 mod long_texts;
+mod mistake;
 mod name;
 mod names;
 mod nesting;
@@ -35,6 +36,7 @@ pub use line_parts::{
     read_default, read_definition, read_depends, read_selection, read_typed_prompt, stands_alone,
 };
 pub use lone_terms::{lone_term, term_alone};
+pub use mistake::{Mistake, Unread, Wanted};
 pub use name::{is_name, read_names};
 pub use names::Names;
 pub use nesting::nests_too_deep;

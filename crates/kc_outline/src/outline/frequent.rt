@@ -78,9 +78,7 @@ impl Outline {
             self.add_type(owner, kind)?;
             return Ok(());
         }
-        let Some(prompt) = read_typed_prompt(alloc, &self.names, line)? else {
-            return Err(MALFORMED);
-        };
+        let prompt = read_typed_prompt(alloc, &self.names, line)?;
         self.add_typed_prompt(owner, kind, prompt)?;
         Ok(())
     }
@@ -98,9 +96,7 @@ impl Outline {
         ensures added { OnOk result ((nearest : Option Keyword) (block : Option BlockId) (choice : Option ChoiceId) → IsAdded nearest block choice owner line.now self.old self.new) }
         ensures stop { (nearest : Option Keyword) → IfErr result (IsNotAdded nearest self.old.names line.now) }
     {
-        let Some(value) = read_default(alloc, &self.names, line)? else {
-            return Err(MALFORMED);
-        };
+        let value = read_default(alloc, &self.names, line)?;
         self.add_typed_default(owner, kind, value)?;
         Ok(())
     }
@@ -118,9 +114,7 @@ impl Outline {
         ensures added { OnOk result ((block : Option BlockId) (choice : Option ChoiceId) → IsAdded nearest block choice owner line.now self.old self.new) }
         ensures stop { IfErr result (IsNotAdded nearest self.old.names line.now) }
     {
-        let Some(default) = read_default(alloc, &self.names, line)? else {
-            return Err(MALFORMED);
-        };
+        let default = read_default(alloc, &self.names, line)?;
         if is_of_choice(nearest) && !is_name_term(term_alone(&default.value)) {
             return Err(MALFORMED);
         }
@@ -140,9 +134,7 @@ impl Outline {
         ensures added { OnOk result ((nearest : Option Keyword) (block : Option BlockId) (choice : Option ChoiceId) → IsAdded nearest block choice owner line.now self.old self.new) }
         ensures stop { (nearest : Option Keyword) → IfErr result (IsNotAdded nearest self.old.names line.now) }
     {
-        let Some(on) = read_depends(alloc, &self.names, line)? else {
-            return Err(MALFORMED);
-        };
+        let on = read_depends(alloc, &self.names, line)?;
         self.add_depends(owner, on)?;
         Ok(())
     }
@@ -159,9 +151,7 @@ impl Outline {
         ensures added { OnOk result ((nearest : Option Keyword) (block : Option BlockId) (choice : Option ChoiceId) → IsAdded nearest block choice owner line.now self.old self.new) }
         ensures stop { (nearest : Option Keyword) → IfErr result (IsNotAdded nearest self.old.names line.now) }
     {
-        let Some((target, condition)) = read_selection(alloc, &self.names, line)? else {
-            return Err(MALFORMED);
-        };
+        let (target, condition) = read_selection(alloc, &self.names, line)?;
         self.add_select(owner, target, condition)?;
         Ok(())
     }
@@ -178,9 +168,7 @@ impl Outline {
         ensures added { OnOk result ((nearest : Option Keyword) (block : Option BlockId) (choice : Option ChoiceId) → IsAdded nearest block choice owner line.now self.old self.new) }
         ensures stop { (nearest : Option Keyword) → IfErr result (IsNotAdded nearest self.old.names line.now) }
     {
-        let Some((target, condition)) = read_selection(alloc, &self.names, line)? else {
-            return Err(MALFORMED);
-        };
+        let (target, condition) = read_selection(alloc, &self.names, line)?;
         self.add_imply(owner, target, condition)?;
         Ok(())
     }

@@ -1,31 +1,35 @@
 //! Conditions, and what comes after a word of its own.
 
-ghost use Rattle.std.specs.Prelude.{IfOk};
+ghost use Rattle.std.specs.Prelude.{IfOk, IfErr};
 ghost use Rattle.kc_statement.specs.Formula.{Formula};
-ghost use Rattle.kc_statement.specs.Forms.{IsReading};
+ghost use Rattle.kc_statement.specs.Mistakes.{IsMistake};
+ghost use Rattle.kc_statement.specs.Places.{IsPlaced};
 ghost use Rattle.kc_statement.specs.Statements.{IsCondition, IsWordAndCondition};
 
 use crate::expr::{Expr, ExprKind};
+use crate::mistake::{Unread, Wanted, wants};
 use crate::parser::Parser;
 use crate::statement::Statement;
 use crate::word::is_word;
 use kc_text::Token;
-use std::alloc::AllocError;
 
 impl Parser<'_> {
-    /// The condition after a word.
+    /// The condition after a word, which is wanted as this.
     pub(crate) fn after_word(
         &self,
         word: &str,
+        wanted: Wanted,
         tokens: &[Token<'_>],
-    ) -> Result<Option<Expr>, AllocError>
-        ensures { IfOk result (IsReading (IsWordAndCondition self.now.names.now word.now tokens.now)) }
+    ) -> Result<Expr, Unread>
+        ensures read { IfOk result (IsWordAndCondition self.now.names.now word.now tokens.now) }
+        ensures mistake { IfErr result (IsMistake (IsWordAndCondition self.now.names.now word.now tokens.now)) }
+        ensures place { IfErr result (IsPlaced (IsWordAndCondition self.now.names.now word.now) tokens.now) }
     {
         let Some((first, rest)) = tokens.split_first() else {
-            return Ok(None);
+            return Err(wants(wanted, 0));
         };
         if !is_word(first, word) {
-            return Ok(None);
+            return Err(wants(wanted, tokens.len()));
         }
         self.expression(ExprKind::Condition, rest)
     }
@@ -34,28 +38,28 @@ impl Parser<'_> {
     pub(crate) fn read_after_word<F: FnOnce(Expr) -> Statement>(
         &self,
         word: &str,
+        wanted: Wanted,
         tokens: &[Token<'_>],
         says: F,
-    ) -> Result<Option<Statement>, AllocError>
+    ) -> Result<Statement, Unread>
         requires { F.IsAlwaysCallable says }
-        ensures { IfOk result (IsReading (λ s. (e : Formula) × IsWordAndCondition self.now.names.now word.now tokens.now e × F.post says e s)) }
+        ensures read { IfOk result (λ s. (e : Formula) × IsWordAndCondition self.now.names.now word.now tokens.now e × F.post says e s) }
+        ensures mistake { IfErr result (IsMistake (IsWordAndCondition self.now.names.now word.now tokens.now)) }
     {
-        let Some(condition) = self.after_word(word, tokens)? else {
-            return Ok(None);
-        };
-        Ok(Some(says(condition)))
+        let condition = self.after_word(word, wanted, tokens)?;
+        Ok(says(condition))
     }
 
-    /// The expression after `if`, none where nothing is there; or none of these.
-    pub(crate) fn condition(&self, tokens: &[Token<'_>]) -> Result<Option<Option<Expr>>, AllocError>
-        ensures { IfOk result (IsReading (IsCondition self.now.names.now tokens.now)) }
+    /// The expression after `if`, none where nothing is there. Where something else is there, the line is to end.
+    pub(crate) fn condition(&self, tokens: &[Token<'_>]) -> Result<Option<Expr>, Unread>
+        ensures read { IfOk result (IsCondition self.now.names.now tokens.now) }
+        ensures mistake { IfErr result (IsMistake (IsCondition self.now.names.now tokens.now)) }
+        ensures place { IfErr result (IsPlaced (IsCondition self.now.names.now) tokens.now) }
     {
         if tokens.is_empty() {
-            return Ok(Some(None));
-        }
-        let Some(condition) = self.after_word("if", tokens)? else {
             return Ok(None);
-        };
-        Ok(Some(Some(condition)))
+        }
+        let condition = self.after_word("if", Wanted::Nothing, tokens)?;
+        Ok(Some(condition))
     }
 }

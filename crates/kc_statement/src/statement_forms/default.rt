@@ -1,15 +1,17 @@
 //! Default values.
 
-ghost use Rattle.std.specs.Prelude.{◌≡◌, ◌≤◌, length, position, codes, IfOk};
-ghost use Rattle.kc_statement.specs.Forms.{condition_start, is_word, IsReading};
+ghost use Rattle.std.specs.Prelude.{◌≡◌, ◌≤◌, length, position, codes, IfOk, IfErr};
+ghost use Rattle.kc_statement.specs.Forms.{condition_start, is_word};
+ghost use Rattle.kc_statement.specs.Mistakes.{IsMistake};
+ghost use Rattle.kc_statement.specs.Places.{IsPlaced};
 ghost use Rattle.kc_statement.specs.Statements.{IsDefault};
 
 use crate::attribute::DefaultValue;
 use crate::expr::ExprKind;
+use crate::mistake::Unread;
 use crate::parser::Parser;
 use crate::word::is_word;
 use kc_text::Token;
-use std::alloc::AllocError;
 
 /// Where the first `if` is.
 fn find_condition(tokens: &[Token<'_>]) -> Option<usize>
@@ -28,19 +30,17 @@ fn condition_start(tokens: &[Token<'_>]) -> usize
 
 impl Parser<'_> {
     /// A value, and its condition.
-    pub(crate) fn default_value(
-        &self,
-        tokens: &[Token<'_>],
-    ) -> Result<Option<DefaultValue>, AllocError>
-        ensures { IfOk result (IsReading (IsDefault self.now.names.now tokens.now)) }
+    pub(crate) fn default_value(&self, tokens: &[Token<'_>]) -> Result<DefaultValue, Unread>
+        ensures read { IfOk result (IsDefault self.now.names.now tokens.now) }
+        ensures mistake { IfErr result (IsMistake (IsDefault self.now.names.now tokens.now)) }
+        ensures place { IfErr result (IsPlaced (IsDefault self.now.names.now) tokens.now) }
     {
-        let (value, rest) = tokens.split_at(condition_start(tokens));
-        let Some(value) = self.expression(ExprKind::Value, value)? else {
-            return Ok(None);
+        let (front, rest) = tokens.split_at(condition_start(tokens));
+        let value = match self.expression(ExprKind::Value, front) {
+            Ok(value) => value,
+            Err(unread) => return Err(unread.of_front(front.len(), tokens.len())),
         };
-        let Some(condition) = self.condition(rest)? else {
-            return Ok(None);
-        };
-        Ok(Some(DefaultValue { value, condition }))
+        let condition = self.condition(rest)?;
+        Ok(DefaultValue { value, condition })
     }
 }

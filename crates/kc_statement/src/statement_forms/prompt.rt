@@ -1,17 +1,19 @@
 //! Titles and prompts.
 
-ghost use Rattle.std.specs.Prelude.{◌≡◌, ℕ, List, IfOk};
-ghost use Rattle.kc_statement.specs.Forms.{quoted_text, IsReading};
+ghost use Rattle.std.specs.Prelude.{◌≡◌, ℕ, List, IfOk, IfErr};
+ghost use Rattle.kc_statement.specs.Forms.{quoted_text};
+ghost use Rattle.kc_statement.specs.Mistakes.{IsMistake};
+ghost use Rattle.kc_statement.specs.Places.{IsPlaced};
 ghost use Rattle.kc_statement.specs.Statements.{IsPrompt, IsQuoted};
 
 use crate::attribute::Prompt;
+use crate::mistake::{Unread, Wanted, wants};
 use crate::parser::Parser;
 use crate::statement::Statement;
 use kc_text::{Text, TextRef, Token};
-use std::alloc::AllocError;
 
 /// The text of a token in quotes.
-fn quoted_text<'a>(token: &'a Token<'_>) -> Option<TextRef<'a>>
+pub(crate) fn quoted_text<'a>(token: &'a Token<'_>) -> Option<TextRef<'a>>
     ensures { result ≡ quoted_text token.now }
 {
     match token {
@@ -23,38 +25,43 @@ fn quoted_text<'a>(token: &'a Token<'_>) -> Option<TextRef<'a>>
 }
 
 impl Parser<'_> {
-    /// A text in quotes, alone, as a statement says it.
+    /// A title in quotes, alone, as a statement says it.
     pub(crate) fn read_title<F: FnOnce(Text) -> Statement>(
         &self,
         tokens: &[Token<'_>],
         says: F,
-    ) -> Result<Option<Statement>, AllocError>
+    ) -> Result<Statement, Unread>
         requires { F.IsAlwaysCallable says }
-        ensures { IfOk result (IsReading (λ s. (title : List ℕ) × IsQuoted tokens.now title × F.post says title s)) }
+        ensures read { IfOk result (λ s. (title : List ℕ) × IsQuoted tokens.now title × F.post says title s) }
+        ensures mistake { IfErr result (IsMistake (IsQuoted tokens.now)) }
+        ensures place { IfErr result (IsPlaced (IsQuoted) tokens.now) }
     {
-        let [token] = tokens else {
-            return Ok(None);
+        let Some((first, rest)) = tokens.split_first() else {
+            return Err(wants(Wanted::Title, 0));
         };
-        let Some(text) = quoted_text(token) else {
-            return Ok(None);
+        let Some(text) = quoted_text(first) else {
+            return Err(wants(Wanted::Title, tokens.len()));
         };
-        Ok(Some(says(Text::copy_of(self.alloc, text.as_str())?)))
+        if !rest.is_empty() {
+            return Err(wants(Wanted::Nothing, rest.len()));
+        }
+        Ok(says(Text::copy_of(self.alloc, text.as_str())?))
     }
 
     /// A text in quotes, and its condition.
-    pub(crate) fn prompt(&self, tokens: &[Token<'_>]) -> Result<Option<Prompt>, AllocError>
-        ensures { IfOk result (IsReading (IsPrompt self.now.names.now tokens.now)) }
+    pub(crate) fn prompt(&self, tokens: &[Token<'_>]) -> Result<Prompt, Unread>
+        ensures read { IfOk result (IsPrompt self.now.names.now tokens.now) }
+        ensures mistake { IfErr result (IsMistake (IsPrompt self.now.names.now tokens.now)) }
+        ensures place { IfErr result (IsPlaced (IsPrompt self.now.names.now) tokens.now) }
     {
         let Some((first, rest)) = tokens.split_first() else {
-            return Ok(None);
+            return Err(wants(Wanted::Prompt, 0));
         };
         let Some(text) = quoted_text(first) else {
-            return Ok(None);
+            return Err(wants(Wanted::Prompt, tokens.len()));
         };
-        let Some(condition) = self.condition(rest)? else {
-            return Ok(None);
-        };
+        let condition = self.condition(rest)?;
         let text = self.names.prompt_text(self.alloc, text.as_str())?;
-        Ok(Some(Prompt { text, condition }))
+        Ok(Prompt { text, condition })
     }
 }

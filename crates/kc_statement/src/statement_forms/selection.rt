@@ -1,36 +1,37 @@
 //! What `select` and `imply` name.
 
-ghost use Rattle.std.specs.Prelude.{Option, IfOk};
+ghost use Rattle.std.specs.Prelude.{Option, IfOk, IfErr};
 ghost use Rattle.kc_statement.specs.Formula.{Formula};
-ghost use Rattle.kc_statement.specs.Forms.{IsReading};
+ghost use Rattle.kc_statement.specs.Mistakes.{IsMistake};
+ghost use Rattle.kc_statement.specs.Places.{IsPlaced};
 ghost use Rattle.kc_statement.specs.Statements.{IsSelection};
 
 use crate::expr::Expr;
 use crate::id::SymId;
+use crate::mistake::{Unread, Wanted, wants};
 use crate::name::name_word;
 use crate::parser::Parser;
 use crate::statement::Statement;
 use kc_text::Token;
-use std::alloc::AllocError;
 
 impl Parser<'_> {
     /// A name and its condition.
     pub(crate) fn selection(
         &self,
         tokens: &[Token<'_>],
-    ) -> Result<Option<(Option<SymId>, Option<Expr>)>, AllocError>
-        ensures { IfOk result (IsReading (λ x. IsSelection self.now.names.now tokens.now x.0 x.1)) }
+    ) -> Result<(Option<SymId>, Option<Expr>), Unread>
+        ensures read { IfOk result (λ x. IsSelection self.now.names.now tokens.now x.0 x.1) }
+        ensures mistake { IfErr result (IsMistake (λ (x : Option SymId × Option Formula). IsSelection self.now.names.now tokens.now x.0 x.1)) }
+        ensures place { IfErr result (IsPlaced (λ ts (x : Option SymId × Option Formula). IsSelection self.now.names.now ts x.0 x.1) tokens.now) }
     {
         let Some((first, rest)) = tokens.split_first() else {
-            return Ok(None);
+            return Err(wants(Wanted::Name, 0));
         };
         let Some(name) = name_word(first) else {
-            return Ok(None);
+            return Err(wants(Wanted::Name, tokens.len()));
         };
-        let Some(condition) = self.condition(rest)? else {
-            return Ok(None);
-        };
-        Ok(Some((self.names.symbol(name.as_str()), condition)))
+        let condition = self.condition(rest)?;
+        Ok((self.names.symbol(name.as_str()), condition))
     }
 
     /// A name and its condition, as a statement says them.
@@ -38,14 +39,12 @@ impl Parser<'_> {
         &self,
         tokens: &[Token<'_>],
         says: F,
-    ) -> Result<Option<Statement>, AllocError>
+    ) -> Result<Statement, Unread>
         requires { F.IsAlwaysCallable says }
-        ensures { IfOk result (IsReading (λ s. (x : Option SymId × Option Formula) × IsSelection self.now.names.now tokens.now x.0 x.1 × F.post says x.0 x.1 s)) }
+        ensures read { IfOk result (λ s. (x : Option SymId × Option Formula) × IsSelection self.now.names.now tokens.now x.0 x.1 × F.post says x.0 x.1 s) }
+        ensures mistake { IfErr result (IsMistake (λ (x : Option SymId × Option Formula). IsSelection self.now.names.now tokens.now x.0 x.1)) }
     {
-        let Some(part) = self.selection(tokens)? else {
-            return Ok(None);
-        };
-        let (target, condition) = part;
-        Ok(Some(says(target, condition)))
+        let (target, condition) = self.selection(tokens)?;
+        Ok(says(target, condition))
     }
 }

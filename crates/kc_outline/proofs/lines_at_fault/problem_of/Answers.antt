@@ -9,8 +9,8 @@ pub returns : goal.returns
 returns c = λ earlier stack statement.
     let names = c.args.names.now in
     let line = c.args.line.now in
-    let says = c.in-Some-2.statement in
+    let says = c.in-Ok.statement in
     let early : early_problem earlier c.args.is_last line ≡ None = sym (c.early_problem.ensures earlier stack statement) ∙ c.in_default.is in
-    let form : HasForm names line says = rw c.in-Some-2.is at c.in_ok-statement.ensures.form in
-    let only : IsOnlyForm names line says = rw c.in-Some-2.is at c.in_ok-statement.ensures.only in
+    let form : HasForm names line says = c.in-Ok.ensures.form in
+    let only : IsOnlyForm names line says = c.in-Ok.ensures.only in
     found_late names earlier c.args.is_last line says c.late_problem-problem.result early form only (c.late_problem-problem.ensures earlier stack statement)

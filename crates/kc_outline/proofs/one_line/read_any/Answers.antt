@@ -12,7 +12,7 @@ use Rattle.kc_outline.proofs.one_line.read_any.Goals as goal
 pub returns-clause-context : goal.returns-clause-context
 returns-clause-context c = λ earlier at.
     let names = c.args.outline.now.names in
-    let says = c.in-Ok-Some.statement in
+    let says = c.in_ok-statement.statement in
     let form : HasForm names c.args.line.now says = (search rules) in
     on_no_error c.pass-passed.result (sym c.is_err.ensures.value ∙ c.if-is_err.false) c.pass-passed.ensures names earlier says at form c.defined_symbol.ensures
 
@@ -20,7 +20,7 @@ pub returns-clause-outline : goal.returns-clause-outline
 returns-clause-outline c = λ following earlier early before at.
     let names = c.args.outline.now.names in
     let line = c.args.line.now in
-    let says = c.in-Ok-Some.statement in
+    let says = c.in_ok-statement.statement in
     let r : Reading = record {
       statement = says;
       block = c.innermost-block.result;

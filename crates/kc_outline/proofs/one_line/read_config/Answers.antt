@@ -11,8 +11,8 @@ use Rattle.kc_outline.proofs.one_line.read_config.Goals as goal
 pub returns-clause-context : goal.returns-clause-context
 returns-clause-context c = λ earlier known.
     let names = c.args.outline.now.names in
-    let says : SaysOnly names c.args.line.now (statement.Config (Some c.in-Some-defined.symbol)) = subst (λ (ns : List (List ℕ)). SaysOnly ns c.args.line.now (statement.Config (Some c.in-Some-defined.symbol))) (ap (λ t. t.names) c.outline.view_is) (rw c.in-Some-defined.is at c.in-Some.ensures) in
-    c.in_ok-pass.ensures names earlier (statement.Config (Some c.in-Some-defined.symbol)) known says.form refl
+    let says : SaysOnly names c.args.line.now (statement.Config (Some c.in-Some.symbol)) = subst (λ (ns : List (List ℕ)). SaysOnly ns c.args.line.now (statement.Config (Some c.in-Some.symbol))) (ap (λ t. t.names) c.outline.view_is) (rw c.in-Some.is at c.in_ok-symbol.ensures) in
+    c.in_ok-pass.ensures names earlier (statement.Config (Some c.in-Some.symbol)) known says.form refl
 
 pub returns-clause-outline : goal.returns-clause-outline
 returns-clause-outline c = λ following earlier early before at.
@@ -20,8 +20,8 @@ returns-clause-outline c = λ following earlier early before at.
     let line = c.args.line.now in
     let p = c.args.context.now in
     let q = c.pass.new.self in
-    let symbol = c.in-Some-defined.symbol in
-    let says : SaysOnly old.names line (statement.Config (Some symbol)) = subst (λ (ns : List (List ℕ)). SaysOnly ns c.args.line.now (statement.Config (Some c.in-Some-defined.symbol))) (ap (λ t. t.names) c.outline.view_is) (rw c.in-Some-defined.is at c.in-Some.ensures) in
+    let symbol = c.in-Some.symbol in
+    let says : SaysOnly old.names line (statement.Config (Some symbol)) = subst (λ (ns : List (List ℕ)). SaysOnly ns c.args.line.now (statement.Config (Some c.in-Some.symbol))) (ap (λ t. t.names) c.outline.view_is) (rw c.in-Some.is at c.in_ok-symbol.ensures) in
     let after : IsContextAfter old.names (line ∷ earlier) q = c.in_ok-pass.ensures old.names earlier (statement.Config (Some symbol)) at says.form refl in
     let made : IsAdded p.statement c.innermost-block.result c.choice-choice.result c.owner.result line old c.add_definition.new.self = record {
       statement = statement.Config (Some symbol);

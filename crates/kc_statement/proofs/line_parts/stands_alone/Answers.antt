@@ -1,4 +1,4 @@
-use Rattle.std.proofs.Common.{rules, ◌≡◌, ◌==◌, length, sym, ◌∙◌}
+use Rattle.std.proofs.Common.{rules, sym, ◌∙◌}
 use Rattle.kc_statement.proofs.PartLaws.{help_where, type_where}
 use Rattle.kc_statement.proofs.line_parts.stands_alone.Goals as goal
 
