@@ -5,7 +5,7 @@
 
 An example of a front end. Nothing in it is proved: each value, visibility and range that it shows is what kconf gave.
 It reads `kconf menu` for the menus, prompts and help texts, and keeps a `kconf session` open for the edits. After an
-edit it asks the session for all values, and runs `kconf menu` on the default file of now for what is shown and for
+edit it asks the session for all values, and runs `kconf menu` on the defconfig of now for what is shown and for
 ranges.
 clients/README.md has the keys. It needs Python 3.8 with curses, and no other package.
 """
@@ -68,15 +68,16 @@ class Session:
         for line in self.replies:
             if line == "ok\n":
                 return reply
-            if line.startswith("refused ") and not reply:
+            # A line of a list can begin so, too: that of a symbol of this name.
+            if re.fullmatch(r"refused \d\n", line) and not reply:
                 raise Refused(line.split()[1])
             reply.append(line[:-1])
         raise Refused(f"kconf session ended with the status {self.process.wait()}")
 
     def refresh(self) -> None:
-        """Asks for the values and the .config anew, and writes the default file to a file for `kconf menu`.
+        """Asks for the values and the .config anew, and writes the defconfig to a file for `kconf menu`.
 
-        The default file gives the same values when it is read. The whole .config need not (docs/FILES.md).
+        The defconfig gives the same values when it is read. The whole .config need not (docs/FILES.md).
         """
         self.lines = {line.split(" ", 1)[0]: line for line in self.ask("list")}
         self.config = "".join(line + "\n" for line in self.ask("config"))
@@ -339,7 +340,7 @@ class Screen:
         self.pages = [Page(menu.prompt, menu, current=inner) for menu, inner in zip(menus, menus[1:] + [entry])]
 
     def save(self, command: str) -> None:
-        """Writes the .config; or the default file, and the .config where CONFIG is `-`, to a path that it asks for."""
+        """Writes the .config; or the defconfig, and the .config where CONFIG is `-`, to a path that it asks for."""
         path = self.target if command == "config" else None
         if path is None:
             path = self.ask("Save as: ", ".config" if command == "config" else "defconfig")

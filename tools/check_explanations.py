@@ -1,10 +1,10 @@
 #!/usr/bin/env python3
-"""Compares the words of `--explain` with the tables of docs/FAULTS.md.
+"""Compares the words of `--explain` with the tables of docs/ERRORS.md.
 
     tools/check_explanations.py
 
 The gate runs it, by tools/check_all.sh. A line is written for each number whose words differ or that one of the two
-lacks, for each fault without a heading in the document, and for a table whose numbers are not those from 1 on; the
+lacks, for each error without a heading in the document, and for a table whose numbers are not those from 1 on; the
 status is 1 where there is one.
 """
 
@@ -14,7 +14,7 @@ from pathlib import Path
 
 ROOT = Path(__file__).resolve().parent.parent
 CODE = ROOT / "crates" / "kc_explain" / "src" / "meanings.rt"
-DOCUMENT = ROOT / "docs" / "FAULTS.md"
+DOCUMENT = ROOT / "docs" / "ERRORS.md"
 
 # The tables: the name in the code, the heading above that of the document, the form of a number there, how many.
 TABLES = [("FAULTS", "In short", r"K(\d\d)", 20), ("WARNINGS", "Warnings", r"(\d)", 5)]
@@ -31,10 +31,10 @@ def words_in_code(name: str) -> dict[int, str]:
 
 
 def words_in_document(heading: str, number: str) -> dict[int, str]:
-    """The words of the first table below a heading, by their numbers."""
+    """The words in the second column of the table below a heading, by their numbers."""
     text = DOCUMENT.read_text(encoding="utf-8")
     below = text.split(f"\n## {heading}\n", 1)[1].split("\n## ", 1)[0]
-    rows = re.findall(rf"^\| {number} \| (.*) \|$", below, re.MULTILINE)
+    rows = re.findall(rf"^\| {number} \| ([^|]*) \|", below, re.MULTILINE)
     return {int(number): words for number, words in rows}
 
 

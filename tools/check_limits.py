@@ -1,14 +1,15 @@
 #!/usr/bin/env python3
-"""Checks that the tests and cases that docs/LIMITS.md names are there.
+"""Checks that the tests and cases that docs/SECURITY.md names for the limits are there.
 
     tools/check_limits.py
 
-The gate runs it, by tools/check_all.sh. What is between backticks is a case, as `FILE: TITLE`, or tests, as
-`CRATE/FILE.rt NAME..`. A line is written for each mistake, and the status is 1 where there is one:
+The gate runs it, by tools/check_all.sh. It reads the section "Limits", whose tables end with a column "Tested by". What
+is between backticks is a case, as `FILE: TITLE`, or tests, as `CRATE/FILE.rt NAME..`. A line is written for each
+mistake, and the status is 1 where there is one:
 
 - a row whose last cell names no test and no case;
 - a file that is not there, a case that its file does not have, and a test that its file does not define;
-- a page without a row.
+- a table without this column, and a section without a row.
 """
 
 import re
@@ -17,7 +18,15 @@ from typing import Iterator
 
 from check_rules import DATA, DOCS, cells_of, has_item, item_mistakes, shown, text_of
 
-PAGE = DOCS / "LIMITS.md"
+PAGE = DOCS / "SECURITY.md"
+SECTION = "## Limits"
+COLUMN = "Tested by"
+
+
+def section_of(text: str) -> str:
+    """The section of the limits, up to the next heading of its depth."""
+    found = re.search(rf"^{SECTION}\n(.*?)(?=^## |\Z)", text, re.MULTILINE | re.DOTALL)
+    return found[1] if found else ""
 
 
 def names_of(text: str) -> Iterator[str]:
@@ -43,14 +52,16 @@ def mistakes_of(item: str) -> Iterator[str]:
 
 
 def main() -> int:
-    text = text_of(PAGE)
+    text = section_of(text_of(PAGE))
     rows = [cells_of(line) for line in text.split("\n") if line.startswith("|")]
-    rows = [row for row in rows if row[0] != "What" and not row[0].startswith("---")]
-    mistakes = [f"{row[0]}: nothing is named" for row in rows if not list(names_of(row[-1]))]
+    heads = [row for row in rows if row[0] == "What"]
+    rows = [row for row in rows if row not in heads and not row[0].startswith("---")]
+    mistakes = [f"a table without the column {COLUMN!r}" for head in heads if head[-1] != COLUMN]
+    mistakes += [f"{row[0]}: nothing is named" for row in rows if not list(names_of(row[-1]))]
     mistakes += [mistake for item in names_of(text) for mistake in mistakes_of(item)]
     if not rows:
         mistakes.append("no row")
-    print("\n".join(f"docs/LIMITS.md: {mistake}" for mistake in mistakes) if mistakes else f"{len(rows)} limits")
+    print("\n".join(f"{shown(PAGE)}: {mistake}" for mistake in mistakes) if mistakes else f"{len(rows)} limits")
     return 1 if mistakes else 0
 
 

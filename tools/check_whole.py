@@ -18,7 +18,11 @@ from typing import Iterator, List, Set, Tuple
 from check_reach import all_definitions, unreached
 from check_rules import COLUMNS, DOCS, WITHOUT_ROWS, Row, cells_of, headings_of, rows_of, text_of
 
-DOCUMENTS = ["LANGUAGE.md", "VALUES.md", "CHOICES.md", "FAULTS.md", "FILES.md", "COMMANDS.md"]
+DOCUMENTS = ["LANGUAGE.md", "VALUES.md", "ERRORS.md", "FILES.md", "COMMANDS.md", "PROTOCOL.md"]
+
+# A section, with its heading and document, and a file of definitions.
+LINK = re.compile(r"\[([^\]]+)\]\(([^)#]+)#[^)]*\)")
+NAME = re.compile(r"`([^`]+)`")
 
 # A section or a file: its document and heading, or its crate and name.
 Place = Tuple[str, str]
@@ -46,9 +50,10 @@ def files_in(rows: List[Row]) -> Set[Place]:
 
 
 def without_row(text: str) -> Set[Place]:
-    """What the tables of what has no row name: a document or a crate, and sections or files of it."""
+    """What the tables of what has no row name: sections by their links, and a crate with files of it."""
     rows = [cells_of(line) for line in text.split(WITHOUT_ROWS)[-1].split("\n") if line.startswith("|")]
-    return {(cells[0], name) for cells in rows for name in re.findall(r"`([^`]+)`", cells[1])}
+    sections = {(name, heading) for cells in rows for heading, name in LINK.findall(cells[0])}
+    return sections | {(cells[0], name) for cells in rows if len(cells) == 3 for name in NAME.findall(cells[1])}
 
 
 def mistakes_of(there: Set[Place], named: Set[Place], excepted: Set[Place]) -> Iterator[str]:

@@ -11,7 +11,7 @@ linux-kbuild-6.1, or what tools/compare_trees.sh builds.
 Each target is run without a .config, and on one .config of random lines for each seed; allnoconfig and allyesconfig
 take none. For each target and kind of difference the number of differing lines is printed, with some of them, and at
 the end how many lines were compared. The status is 1 where a line differs and no kind explains it, or a program fails,
-else 0. docs/TREES.md says what the kinds are.
+else 0. docs/COMPATIBILITY.md says what the kinds are.
 """
 
 from __future__ import annotations

@@ -7,7 +7,7 @@ It is not part of the gate, and runs with Debian's python3. Without PROGRAM it b
 bench/ do.
 
 For each tree, one `kconf session` answers `list`, `choices` and `config` at the start and after each edit; the same is
-asked of Kconfiglib. Where both differ on purpose (docs/DECISIONS.md), the difference has a kind, and for each kind
+asked of Kconfiglib. Where both differ on purpose (docs/COMPATIBILITY.md), the difference has a kind, and for each kind
 there is the rule of kconf to put into Kconfiglib. A tree shows a kind where Kconfiglib with all rules but that of the
 kind differs from kconf; a tree is unexplained where Kconfiglib with all rules still differs. The status is 1 where a
 tree is unexplained, else 0.
@@ -35,7 +35,7 @@ from random_kconfig import Case, random_case
 QUERIES = ("list", "choices", "config")
 KCONF_LOOP = "kconf: K19"
 LIBRARY_LOOP = "Kconfiglib: loop"
-# Trees that are passed over: kconf finds more loops than Kconfiglib (docs/DECISIONS.md), and never fewer.
+# Trees that are passed over: kconf finds more loops than Kconfiglib (docs/COMPATIBILITY.md), and never fewer.
 LOOPS = ([KCONF_LOOP], [LIBRARY_LOOP, KCONF_LOOP])
 FAULT = re.compile(r"kconf: .*?\b(K\d\d)\b")
 INT = re.compile(r"-?[0-9]+")
@@ -44,7 +44,7 @@ UNTYPED = re.compile(r"-?(0|[1-9][0-9]*)|0x[0-9a-fA-F]+")
 
 
 class Kind(enum.Enum):
-    """A difference on purpose, as docs/DECISIONS.md names it."""
+    """A difference on purpose, as docs/COMPATIBILITY.md names it."""
 
     IMPLY_Y = "an imply that is y"
     IMPLY_DIRECT = "an imply above the direct dependencies"

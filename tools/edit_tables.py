@@ -1,18 +1,19 @@
 #!/usr/bin/env python3
-"""Compares the tables of docs/EDITS.md with the edits of the gate, each with the function that it names.
+"""Checks what docs/TESTING.md says of edits, and that each edit of the gate names the function that refuses it.
 
-    tools/edit_tables.py [--write]
+    tools/edit_tables.py [--tables]
 
 The gate runs it, by tools/check_all.sh. An edit of crates/CRATE/must-fail has a line `-- function: WHAT`: the row of
-the table of its crate in which it is listed. A crate without edits in the gate has no table. The first table of the
-page names the wrong bodies that never leave the gate, each with its edits as `CRATE/NAME`, or with the files of cases
-that find it where no contract can. A line is written for each mistake, and the status is 1 where there is one:
+the table of its crate in which it is listed. With --tables these tables are written to standard output; a crate without
+edits in the gate has none. The page says how many edits there are in the gate and outside it, and has a table of the
+wrong bodies that never leave the gate, each with its edits as `CRATE/NAME`, or with the files of cases that find it
+where no contract can. A line is written for each mistake, and the status is 1 where there is one:
 
 - an edit without that line, or with several;
 - a name in backticks of that line that the crate defines neither as a function nor as a type;
-- a table of a crate that is not that of its edits. With --write it is written;
+- a page that does not say how many edits there are, or says other numbers;
 - a wrong body that never leaves the gate, and names no edit and no cases, or an edit that is not in must-fail/, or
-  cases that are not there; and a first table that has no such row.
+  cases that are not there; and a page without such a row.
 """
 
 import argparse
@@ -20,13 +21,13 @@ import re
 import sys
 from collections import defaultdict
 from pathlib import Path
-from typing import Callable, Dict, Iterator, List
+from typing import Callable, Dict, Iterator, List, Tuple
 
-from check_rules import CRATES, DATA, DOCS, ROOT, cells_of, crates_of, shown, text_of
+from check_rules import CRATES, DATA, DOCS, EDITS, ROOT, all_edits, cells_of, crates_of, shown, text_of
 
-PAGE = DOCS / "EDITS.md"
-HEADING = "## The edits of the gate\n"
-STAYING = "## The wrong bodies that stay in the gate\n"
+PAGE = DOCS / "TESTING.md"
+STAYING = "### The wrong bodies that stay in the gate\n"
+COUNTS = re.compile(r"\b(\d+)\s+edits\s+in\s+the\s+gate\s+and\s+(\d+)\s+outside\s+it\b")
 
 MARK = "-- function: "
 
@@ -68,11 +69,25 @@ def table_of(crate: str, rows: Dict[str, List[str]]) -> str:
     return "\n".join([f"### {crate}\n", "| Function | Edits |", "|---|---|", *lines, ""])
 
 
-def with_tables(page: str, tables: List[str]) -> str:
-    """A page with these tables in place of those after their heading."""
-    before, heading, after = page.partition(HEADING)
-    introduction = after.partition("### ")[0]
-    return before + heading + introduction + "\n".join(tables)
+# ------------------------------------------------------------------------------------------------ how many
+
+
+def edit_counts() -> Tuple[int, int]:
+    """How many edits there are in the gate, and outside it."""
+    edits = all_edits()
+    outside = sum(EDITS in edit.parents for edit in edits)
+    return len(edits) - outside, outside
+
+
+def count_mistakes(page: str, counts: Tuple[int, int]) -> Iterator[str]:
+    """What is wrong with the numbers of edits that a page has."""
+    wanted = "{} edits in the gate and {} outside it".format(*counts)
+    said = COUNTS.findall(page)
+    if not said:
+        yield f"it does not say that there are {wanted}"
+    for gate, outside in said:
+        if (int(gate), int(outside)) != counts:
+            yield f"it has {gate} and {outside}, and there are {wanted}"
 
 
 # ------------------------------------------------------------------------------------------------ what stays
@@ -80,7 +95,7 @@ def with_tables(page: str, tables: List[str]) -> str:
 
 def staying(page: str) -> Iterator[List[str]]:
     """The rows of the table of wrong bodies that stay in the gate: what each does, and what tries it."""
-    section = page.partition(STAYING)[2].partition("\n## ")[0]
+    section = re.split(r"\n#+ ", page.partition(STAYING)[2])[0]
     rows = [cells_of(line) for line in section.split("\n") if line.startswith("|")]
     yield from rows[2:]
 
@@ -103,20 +118,17 @@ def staying_mistakes(page: str, is_there: Callable[[str], bool]) -> Iterator[str
 
 
 def main() -> int:
-    parser = argparse.ArgumentParser(description="Compares the tables of docs/EDITS.md with the edits of the gate.")
-    parser.add_argument("--write", action="store_true", help="write the tables")
+    parser = argparse.ArgumentParser(description="Checks what docs/TESTING.md says of edits, and what the edits name.")
+    parser.add_argument("--tables", action="store_true", help="write the edits of the gate, by function")
     options = parser.parse_args()
     crates = crates_of(text_of(ROOT / "crates.txt"))
     mistakes = [mistake for crate in crates for mistake in mark_mistakes(crate)]
-    page = text_of(PAGE)
-    mistakes += [f"{shown(PAGE)}: {mistake}" for mistake in staying_mistakes(page, is_there)]
-    wanted = with_tables(page, [table_of(crate, rows_of(crate)) for crate in crates if edits_of(crate)])
-    if options.write:
-        PAGE.write_text(wanted, encoding="utf-8")
-    elif page != wanted:
-        mistakes.append(f"{shown(PAGE)}: not the tables of the edits, which tools/edit_tables.py --write writes")
-    edits = sum(len(edits_of(crate)) for crate in crates)
-    print("\n".join(mistakes) if mistakes else f"{edits} edits of the gate")
+    page, counts = text_of(PAGE), edit_counts()
+    of_page = [*count_mistakes(page, counts), *staying_mistakes(page, is_there)]
+    mistakes += [f"{shown(PAGE)}: {mistake}" for mistake in of_page]
+    if options.tables:
+        print("\n".join(table_of(crate, rows_of(crate)) for crate in crates if edits_of(crate)))
+    print("\n".join(mistakes) if mistakes else "{} edits of the gate, {} outside it".format(*counts))
     return 1 if mistakes else 0
 
 

@@ -11,14 +11,14 @@
 #     KCONFIG_CONFIG     the .config (.config)
 #     KCONFIG_DEFCONFIG  the defconfig, which has only what differs from the defaults (defconfig)
 #     KCONFIG_FRAGMENTS  the fragments: files with some lines of a .config, the most specific last (none)
-#     KCONFIG_FOLDER     the folder of KCONFIG and of the files that it sources, as kconf's -C (that of the makefile)
+#     KCONFIG_FOLDER     the directory of KCONFIG and of the files that it sources, as kconf's -C (that of the makefile)
 #     KCONFIG_WORDS      words and options of kconf, as ARCH=x86, --variables FILE, --prefix P (none)
 #     KCONFIG_STRICT     y: checkconfig fails on a finding, mergeconfig and defconfig on a line without effect (none)
-#     KCONFIG_MENU       the menu (menuconfig.py in the folder of this file, or in clients of a checkout of kconf)
+#     KCONFIG_MENU       the menu (menuconfig.py in the directory of this file, or in clients of a checkout of kconf)
 #
 # Targets that a user calls:
 #
-#     make olddefconfig   brings the .config up to date with the Kconfig, and makes one where there is none
+#     make olddefconfig   brings the .config up to date with the Kconfig, and makes one if there is none
 #     make defconfig      makes the .config from the defconfig, and from the fragments where there are some
 #     make mergeconfig    merges the fragments into the .config, and reports each line that has no effect
 #     make menuconfig     edits the .config in a menu
@@ -29,7 +29,7 @@
 #
 # Files, which are made anew when one that they depend on is newer:
 #
-#     $(KCONFIG_CONFIG)    by the files of the Kconfig; where there is none, all symbols have their defaults
+#     $(KCONFIG_CONFIG)    by the files of the Kconfig; if there is none, from the defconfig, or from defaults alone
 #     $(KCONFIG_CONFIG).d  which files these are, with each .config that is made
 #     auto.conf            the values for make, by the .config
 #     autoconf.h           the values for C, by the .config, after auto.conf, so that a warning is printed once
@@ -80,6 +80,10 @@ kconf-path = $(if $(KCONFIG_FOLDER),$(abspath $(1)),$(1))
 # $(call kconf-or-none,FILE): a file, or the word for none, which the shell decides: make remembers what is there.
 kconf-or-none = $$(test -e $(1) && echo $(call kconf-path,$(1)) || echo -)
 
+# The .config; if there is none, the defconfig, so that no target takes defaults in its place; or the word for none.
+kconf-present = $$(if test -e $(KCONFIG_CONFIG); then echo $(call kconf-path,$(KCONFIG_CONFIG)); \
+    elif test -e $(KCONFIG_DEFCONFIG); then echo $(call kconf-path,$(KCONFIG_DEFCONFIG)); else echo -; fi)
+
 # $(call kconf-write,TARGET,WORDS,FILE): writes what a target gives to a file.
 kconf-write = { $(call kconf-run,$(1),$(2)) > $(3).tmp && $(call kconf-has-symbols,$(3)) && mv $(3).tmp $(3); } || \
     { rm -f $(3).tmp; exit 1; }
@@ -94,22 +98,21 @@ kconf-update = $(call kconf-write,$(1),$(2),$(KCONFIG_CONFIG)) && \
     sed '$(if $(KCONFIG_FOLDER),s|^[^/]|$(KCONFIG_FOLDER)/&|;) s|.*|$(KCONFIG_CONFIG): &|; p; s|^[^:]*: \(.*\)|\1:|' \
         $(KCONFIG_CONFIG).list > $(KCONFIG_CONFIG).d && rm -f $(KCONFIG_CONFIG).list
 
-# $(call kconf-merge,FILE): makes the .config from a file, if it is there, and the fragments.
-kconf-merge = \
-    $(call kconf-update,merge,$(call kconf-or-none,$(1)) $(call kconf-path,$(KCONFIG_FRAGMENTS)) $(kconf-strict))
+# $(call kconf-merge,WORD): makes the .config from a file, or from the word for none, and the fragments.
+kconf-merge = $(call kconf-update,merge,$(1) $(call kconf-path,$(KCONFIG_FRAGMENTS)) $(kconf-strict))
 
 kconf-of-defconfig = $(call kconf-update,olddefconfig,$(call kconf-path,$(KCONFIG_DEFCONFIG)))
 
 .PHONY: olddefconfig defconfig mergeconfig menuconfig savedefconfig listnewconfig checkconfig whyconfig kconf-always
 
 olddefconfig:
-	@$(call kconf-update,olddefconfig,$(call kconf-or-none,$(KCONFIG_CONFIG)))
+	@$(call kconf-update,olddefconfig,$(kconf-present))
 
 defconfig:
-	@$(if $(strip $(KCONFIG_FRAGMENTS)),$(call kconf-merge,$(KCONFIG_DEFCONFIG)),$(kconf-of-defconfig))
+	@$(if $(strip $(KCONFIG_FRAGMENTS)),$(call kconf-merge,$(call kconf-or-none,$(KCONFIG_DEFCONFIG))),$(kconf-of-defconfig))
 
 mergeconfig:
-	@$(call kconf-require,KCONFIG_FRAGMENTS,FILE ..)$(call kconf-merge,$(KCONFIG_CONFIG))
+	@$(call kconf-require,KCONFIG_FRAGMENTS,FILE ..)$(call kconf-merge,$(kconf-present))
 
 # The list of files goes, so that the next `make` reads it again: the menu writes none.
 menuconfig:
@@ -120,19 +123,19 @@ savedefconfig: $(KCONFIG_CONFIG)
 	@$(call kconf-write,savedefconfig,$(call kconf-path,$(KCONFIG_CONFIG)),$(KCONFIG_DEFCONFIG))
 
 listnewconfig:
-	@$(call kconf-run,listnewconfig,$(call kconf-or-none,$(KCONFIG_CONFIG)))
+	@$(call kconf-run,listnewconfig,$(kconf-present))
 
 checkconfig:
 	@$(call kconf-run,check,$$(test -e $(KCONFIG_CONFIG) && echo $(call kconf-path,$(KCONFIG_CONFIG))) $(kconf-strict))
 
 whyconfig:
-	@$(call kconf-require,SYMBOL,NAME ..)$(call kconf-run,why,$(call kconf-or-none,$(KCONFIG_CONFIG)) $(SYMBOL))
+	@$(call kconf-require,SYMBOL,NAME ..)$(call kconf-run,why,$(kconf-present) $(SYMBOL))
 
 # A goal that makes the .config goes first, also with -j. A .config whose files are not listed is brought up to date.
 # Where the top file is missing, kconf says so.
 $(KCONFIG_CONFIG): $(kconf-top) $(if $(wildcard $(KCONFIG_CONFIG).d),,kconf-always) \
     | $(filter olddefconfig defconfig mergeconfig,$(MAKECMDGOALS))
-	@$(call kconf-update,olddefconfig,$(call kconf-or-none,$(KCONFIG_CONFIG)))
+	@$(call kconf-update,olddefconfig,$(kconf-present))
 
 auto.conf: $(KCONFIG_CONFIG)
 	@$(call kconf-write,genmake,$(call kconf-path,$(KCONFIG_CONFIG)),$@)

@@ -58,11 +58,11 @@ END
 
 part 'the version' version
 wants kconf --version <<'END'
-kconf 1.1.0
+kconf 1.2.0
 status 0
 END
 wants kconf -V <<'END'
-kconf 1.1.0
+kconf 1.2.0
 status 0
 END
 wants shell 'kconf --help | grep -c "^  [a-z]"' <<'END'

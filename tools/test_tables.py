@@ -1,26 +1,19 @@
 #!/usr/bin/env python3
-"""Tests of tools/edit_tables.py and tools/check_whole.py: what a table has, what is missing, and what stays in the
-gate."""
+"""Tests of tools/edit_tables.py and tools/check_whole.py: what a table has, how many edits there are, what stays in
+the gate, and what is missing."""
 
 import unittest
 
 from check_whole import mistakes_of, without_row
-from edit_tables import staying, staying_mistakes, table_of, with_tables
+from edit_tables import count_mistakes, staying, staying_mistakes, table_of
 
 PAGE = """\
-# Edits
+# Testing
 
-### not a table
+There are 2 edits in the gate and
+30 outside it:
 
-## The edits of the gate
-
-By crate.
-
-### kc_old
-
-| Function | Edits |
-|---|---|
-| `old` | `x` |
+| The gate | has `kc_a/none` |
 """
 
 TABLE = """\
@@ -34,7 +27,11 @@ TABLE = """\
 """
 
 STAYING = """\
-## The wrong bodies that stay in the gate
+## Edits
+
+| no row | `kc_a/none` |
+
+### The wrong bodies that stay in the gate
 
 These stay.
 
@@ -44,7 +41,7 @@ These stay.
 | it is out of memory | by the cases `loads` |
 | nobody sees it | review |
 
-## The form
+### The form of an edit
 
 | no row | `kc_a/none` |
 """
@@ -66,11 +63,13 @@ class Tables(unittest.TestCase):
         rows = {"`b`: more": ["x"], "`b`": ["w"], "`A::of`": ["u", "v"]}
         self.assertEqual(table_of("kc_new", rows), TABLE)
 
-    def test_tables_replace_those_of_the_page(self) -> None:
-        page = with_tables(PAGE, [TABLE, TABLE])
-        before = PAGE.partition("### kc_old")[0]
-        self.assertEqual(page, f"{before}{TABLE}\n{TABLE}")
-        self.assertEqual(with_tables(page, [TABLE, TABLE]), page)
+    def test_the_page_has_the_numbers_of_edits(self) -> None:
+        self.assertEqual(list(count_mistakes(PAGE, (2, 30))), [])
+        for counts in ((3, 30), (2, 31), (30, 2)):
+            wanted = f"it has 2 and 30, and there are {counts[0]} edits in the gate and {counts[1]} outside it"
+            self.assertEqual(list(count_mistakes(PAGE, counts)), [wanted])
+        wanted = "it does not say that there are 2 edits in the gate and 30 outside it"
+        self.assertEqual(list(count_mistakes(STAYING, (2, 30))), [wanted])
 
     def test_what_stays_in_the_gate_is_there(self) -> None:
         bodies = [row[0] for row in staying(STAYING)]

@@ -4,7 +4,7 @@
 #     tools/try_edits.sh [CRATE | CRATE/NAME]..
 #
 # CRATE names all edits of edits/CRATE, and CRATE/NAME one edit, there or in crates/CRATE/must-fail. Without words all
-# edits of edits/ are tried, crate by crate, which takes some hours. docs/EDITS.md describes the form of an edit.
+# edits of edits/ are tried, crate by crate, which takes some hours. docs/TESTING.md describes the form of an edit.
 #
 # Nothing of the checkout is changed: it works in a copy, in which `rt check` of the crate begins with what a check of
 # the checkout, or of another one on the machine, has kept. The edits are tried 15 at a time, and what `rt must-fail`

@@ -1,7 +1,7 @@
 //! Runs cases: Kconfigs with commands and the replies that are wanted, or with the fault that is wanted, and runs of the
 //! whole program over files in memory.
 //!
-//! Each word of the command line names a file of cases. The form of a file is described in docs/CASES.md.
+//! Each word of the command line names a file of cases. The form of a file is described in docs/TESTING.md.
 #![tactic(auto)]
 
 mod blocks;

@@ -12,7 +12,7 @@ use kc_tree::{BlockId, BlockKind, Expr, Reverse, Tree};
 use kc_value::{Factor, FactorPart, Origin, dependency_factors, reverse_value};
 use std::alloc::{AllocError, Global};
 
-/// Adds that a `select` or an `imply` names a member of a choice, which passes it over (docs/CHOICES.md).
+/// Adds that a `select` or an `imply` names a member of a choice, which passes it over (docs/VALUES.md).
 ///
 /// # Errors
 ///

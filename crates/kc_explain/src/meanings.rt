@@ -1,4 +1,4 @@
-//! What the numbers of faults and warnings mean, in a few words each. docs/FAULTS.md has the same words, which
+//! What the numbers of faults and warnings mean, in a few words each. docs/ERRORS.md has the same words, which
 //! `tools/check_explanations.py` compares. They are this project's own.
 
 /// The words of a fault, by its number, as 3 in `K03`.

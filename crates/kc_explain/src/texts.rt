@@ -9,7 +9,7 @@ use crate::variables::explain_ring;
 use kc_text::TextProblem;
 use std::alloc::{AllocError, Global};
 
-/// The most bytes of a line, after lines were joined (docs/LIMITS.md).
+/// The most bytes of a line, after lines were joined (docs/SECURITY.md).
 const MOST_LINE: usize = 65_536;
 
 /// What is said of the fault of the line of a number in the file of a path, by the text of that file. Where the text

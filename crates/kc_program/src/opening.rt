@@ -19,13 +19,13 @@ use std::alloc::{AllocError, Global};
 use std::collections::{HashMap, HashSet};
 use std::str::from_utf8;
 
-/// The most bytes of a line of a `.config`, without its line end (docs/LIMITS.md).
+/// The most bytes of a line of a `.config`, without its line end (docs/SECURITY.md).
 const MOST_LINE: usize = 65_536;
 
-/// The most bytes of all files together (docs/LIMITS.md).
+/// The most bytes of all files together (docs/SECURITY.md).
 const MOST_BYTES: usize = 16_777_216;
 
-/// The most files (docs/LIMITS.md).
+/// The most files (docs/SECURITY.md).
 const MOST_FILES: usize = 4_096;
 
 /// How many bytes of files that indented lines name are read ahead after each file that is wanted.

@@ -240,7 +240,7 @@ Example:
         about: "Writes the menu tree for front ends: a JSON object on each line",
         notes: "Standard output has an object for each menu, choice, comment and definition of a
 symbol, in the order of the Kconfig: its prompt, help, place and conditions, and what
-is shown and can be set with the values of CONFIG. docs/MENU.md describes the fields.
+is shown and can be set with the values of CONFIG. docs/PROTOCOL.md describes the fields.
 
 Warnings and errors go to standard error. The status is 0 (also with warnings), 1
 after an error, 2 after a usage error.

@@ -6,7 +6,7 @@ use bumpalo::Bump;
 use kc_text::{Sources, Text, TextFault, TextProblem, logical_lines};
 use std::alloc::{AllocError, Global};
 
-/// The most files that are open at once (docs/LIMITS.md).
+/// The most files that are open at once (docs/SECURITY.md).
 const MOST_OPEN: usize = 64;
 
 /// A `source` line that wants a file, by the path of its file and its number.

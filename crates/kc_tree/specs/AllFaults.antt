@@ -1,4 +1,4 @@
--- All faults of logical lines at once: this project's own, after docs/FAULTS.md. Lines that have problems have no tree, so
+-- All faults of logical lines at once: this project's own, after docs/ERRORS.md. Lines that have problems have no tree, so
 -- nothing more is said of them; a loop is sought where there is nothing else.
 use Rattle.std.specs.Prelude.{◌≡◌, ◌⊎◌, ◌<◌, ℕ, List, [], ◌∷◌, ◌++◌, Option, Some, None, if◌then◌else◌, option_and_then, option_map, length, filter, filter_map, slice_get}
 use Rattle.std.specs.List.{range_with_len}
