@@ -3,9 +3,7 @@
 use crate::context::Context;
 use crate::said::Said;
 use crate::spelling::{first_word, token_text, tokens_text};
-use kc_statement::{
-    Keyword, Mistake, Names, Seed, Unread, Wanted, read_keyword, read_statement,
-};
+use kc_statement::{Keyword, Mistake, Names, Seed, Unread, Wanted, read_keyword, read_statement};
 use kc_text::{Line, Token};
 use std::alloc::{AllocError, Global};
 
