@@ -1,5 +1,6 @@
 #!/usr/bin/env bash
-# Runs the checks that need Python 3 alone: those that compare the documents with the code, and the tests of scripts.
+# Runs the checks that need Python 3 alone: those that compare the documents with the code, and the tests of scripts; and
+# with rt on the path the check of the layout.
 #
 #     tools/check_all.sh
 #
@@ -12,6 +13,7 @@ tools=$(cd "$(dirname "${BASH_SOURCE[0]}")" && pwd) || exit 1
 export PYTHONDONTWRITEBYTECODE=1 PYTHONUTF8=1
 
 checks=(
+    check_format.py
     check_rules.py
     check_edits.py
     check_whole.py
