@@ -14,6 +14,7 @@ pub mod HelpWords
 pub mod ItemLaws
 pub mod ItemLines
 pub mod Joining
+pub mod LeadingItems
 pub mod Lexing
 pub mod LineCounts
 pub mod LineExamples

@@ -6,8 +6,10 @@ pub mod Expansion
 pub mod Faults
 pub mod FileList
 pub mod Help
+pub mod ItemContent
 pub mod ItemLists
 pub mod Items
+pub mod LeadingItem
 pub mod Lexing
 pub mod LineContent
 pub mod LineValue

@@ -7,14 +7,11 @@ use Rattle.kc_text.specs.declared.fault.LineFault.{LineFault}
 use Rattle.kc_text.specs.declared.fault.LineFault.TheVariants.{Problem, NoMemory as NoLineMemory}
 use Rattle.kc_text.specs.declared.fault.TextFault.{TextFault}
 use Rattle.kc_text.specs.declared.fault.TextFault.TheVariants.{NoMemory}
-use Rattle.kc_text.specs.declared.items.Joined.{Joined}
-use Rattle.kc_text.specs.declared.items.Joined.TheVariants.{One, Many}
-use Rattle.kc_text.specs.declared.items.Item.{Item}
 use Rattle.kc_text.specs.declared.reading.Reader.{Reader}
 use Rattle.kc_text.specs.declared.state.State.{State}
 use Rattle.kc_text.specs.declared.place.Place.{Place as CodePlace}
 use Rattle.kc_text.specs.Faults.{IsFaultAt}
-use Rattle.kc_text.specs.Items.{ItemValue}
+pub use Rattle.kc_text.specs.ItemContent.{item_of, joined_text}
 use Rattle.kc_text.specs.Reading.{ReadState, Place, Placing, placed}
 use Rattle.kc_text.specs.declared.reference.Piece.{Piece as Part}
 use Rattle.kc_text.specs.declared.reference.Piece.TheVariants.{Text, Reference, Malformed}
@@ -53,13 +50,6 @@ texts_of texts = map (λ t. t.now) texts
 
 abbrev pub names_of : List (Bor (List ℕ)) → List (List ℕ)
 names_of names = texts_of names
-
-abbrev pub joined_text : Joined → List ℕ
-joined_text (One text) = text.now
-joined_text (Many text) = text
-
-abbrev pub item_of : Item → ItemValue
-item_of i = record { text = joined_text i.text; help = i.help; more = i.more }
 
 abbrev pub state_of : State → ReadState
 state_of s = record { lines = s.lines.items; names = names_in s.variables; followed = s.followed; placed = s.placed }

@@ -9,7 +9,7 @@ use crate::text::TextRef;
 
 /// How a line gives a variable its text.
 #[derive(Clone, Copy, PartialEq, Eq)]
-pub(crate) enum Assignment {
+pub enum Assignment {
     /// `=`: the text is expanded at each use.
     Later,
     /// `:=`: the text is expanded at the line.
@@ -20,10 +20,10 @@ pub(crate) enum Assignment {
 
 /// What a line gives a variable.
 #[derive(Drop)]
-pub(crate) struct Definition<'a> {
-    pub(crate) name: TextRef<'a>,
-    pub(crate) assignment: Assignment,
-    pub(crate) value: TextRef<'a>,
+pub struct Definition<'a> {
+    pub name: TextRef<'a>,
+    pub assignment: Assignment,
+    pub value: TextRef<'a>,
 }
 
 /// Whether a text after a name may give the name a value: after blanks it begins as one of `=`, `:=` and `+=`.

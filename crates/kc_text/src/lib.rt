@@ -6,6 +6,7 @@ mod defining;
 mod definition;
 mod expansion;
 mod fault;
+mod file_item;
 mod front;
 mod help;
 mod help_text;
@@ -28,7 +29,9 @@ mod tokens;
 mod variables;
 mod vars;
 
+pub use definition::{Assignment, Definition};
 pub use fault::{TextFault, TextProblem};
+pub use file_item::{FileItem, leading_item};
 pub use help_text::HelpText;
 pub use line::{Line, LineKind, Operator, Token};
 pub use lines::logical_lines;
