@@ -37,4 +37,4 @@ entry_is names rs st b ch o named = refl
 
 pub tree_push : (names : List (List ℕ)) (rs : List Reading) (st : Statement) (b : Option BlockId) (ch : Option ChoiceId) (o : Option Owner) → AreMade rs → IsNamedIn names st → with_reading (tree_of names rs) (reading st b ch o) ≡ tree_of names (rs ++ reading st b ch o ∷ [])
 tree_push names rs st b ch o made named =
-    rw (symbols_push (length names) rs st b ch o, definitions_push rs st b ch o made, blocks_push rs st b ch o made, choices_push rs st b ch o made, comments_push rs st b ch o made, entries_more rs (reading st b ch o), entry_is names rs st b ch o named) refl
+    rw (symbols_push (length names) rs st b ch o made, definitions_push rs st b ch o made, blocks_push rs st b ch o made, choices_push rs st b ch o made, comments_push rs st b ch o made, entries_more rs (reading st b ch o), entry_is names rs st b ch o named) refl

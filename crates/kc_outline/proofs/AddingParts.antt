@@ -1,11 +1,13 @@
 -- What one more reading changes of the definitions, the blocks and the comments.
-use Rattle.std.proofs.Common.{◌≡◌, ℕ, suc, ◌+◌, Bool, true, false, List, [], ◌∷◌, ◌++◌, Option, Some, None, length, refl, ap, ◌∙◌, arith}
+use Rattle.std.proofs.Common.{◌≡◌, ◌≤◌, ◌<◌, ◌⊎◌, inl, inr, ℕ, suc, ◌+◌, Bool, true, false, cond, List, [], ◌∷◌, ◌++◌, Option, Some, None, option_map, get_or, length, refl, sym, ap, ◌∙◌, arith}
 use Rattle.std.specs.Prelude.{if◌then◌else◌, slice_get, All, ◌||◌, ◌&&◌, filter_map}
-use Rattle.std.specs.Option.{option_or}
+use Rattle.std.specs.Option.{option_map_or, option_or}
 use Rattle.std.proofs.lemmas.Bool.{ne_eqb, eq-eqb}
 use Rattle.std.proofs.lemmas.List.{append-nil}
 use Rattle.std.proofs.lemmas.List.Elements.{All-weaker}
 use Rattle.std.proofs.lemmas.List.Folds.{list_any-append}
+use Rattle.std.proofs.lemmas.List.Sums.{sum_by-cons, sum_by_push}
+use Rattle.std.proofs.lemmas.Option.{slice_get_cases}
 use Rattle.kc_statement.specs.declared.id.SymId.{SymId}
 use Rattle.kc_outline.specs.declared.id.BlockId.{BlockId}
 use Rattle.kc_outline.specs.declared.id.ChoiceId.{ChoiceId}
@@ -19,10 +21,10 @@ use Rattle.kc_outline.specs.declared.context.Owner.TheVariants as owner
 use Rattle.kc_statement.specs.declared.statement.Statement.{Statement}
 use Rattle.kc_statement.specs.declared.statement.Statement.TheVariants as statement
 use Rattle.kc_outline.specs.TreeValue.{DefinitionValue, BlockValue, CommentValue}
-use Rattle.kc_outline.specs.TreeOf.{Reading, said, is_said, map_placed, is_of_definition, is_of_block, is_of_comment, depends_in, prompt_in, default_in, range_in, visible_in, defined_in, title_in, DefinitionLine, BlockLine, CommentLine, definition_line, block_line, comment_line, definition_at, definition_lines, definitions_in, block_at, block_lines, blocks_in, comment_at, comment_lines, comments_in}
+use Rattle.kc_outline.specs.TreeOf.{Reading, said, is_said, times_said, says_select, says_imply, map_placed, is_of_definition, is_of_block, is_of_comment, depends_in, prompt_in, default_in, range_in, visible_in, defined_in, title_in, DefinitionLine, BlockLine, CommentLine, definition_line, block_line, comment_line, definition_at, definition_lines, definitions_in, block_at, block_lines, blocks_in, comment_at, comment_lines, comments_in}
 use Rattle.kc_outline.specs.Outline.{IsMadeBy, IsMade, AreMade}
-use Rattle.kc_outline.specs.Adding.{with_some, new_definition, change_definition, definitions_with, new_block, change_block, blocks_with, new_comment, change_comment, comments_with}
-use Rattle.kc_outline.proofs.ChangeLaws.{change_at_same, map_placed_push, map_placed_same, map_placed_changed, filter_map_push, with_some-append}
+use Rattle.kc_outline.specs.Adding.{with_some, new_definition, change_definition, definitions_with, selects_of, implies_of, new_block, change_block, blocks_with, new_comment, change_comment, comments_with}
+use Rattle.kc_outline.proofs.ChangeLaws.{at_placed, change_at_same, map_placed_push, map_placed_same, map_placed_changed, filter_map_push, with_some-append}
 
 abbrev pub reading : Statement → Option BlockId → Option ChoiceId → Option Owner → Reading
 reading st b ch o = record { statement = st; block = b; choice = ch; owner = o }
@@ -33,14 +35,20 @@ abbrev pub keep_first : {A : Type 0} → Option A → Option A → Option A
 keep_first None first = first
 keep_first (Some x) first = option_or first (Some x)
 
-abbrev definition_after : Option Expr → Option Prompt → Option DefaultValue → Option Range → DefinitionValue → DefinitionValue
-definition_after e p v r d = record {
+abbrev counted_once : Bool → ℕ → ℕ
+counted_once false n = n
+counted_once true n = n + 1
+
+abbrev definition_after : Option Expr → Option Prompt → Option DefaultValue → Option Range → Bool → Bool → DefinitionValue → DefinitionValue
+definition_after e p v r selects implies d = record {
   symbol = d.symbol;
   block = d.block;
   depends = with_some d.depends e;
   prompts = with_some d.prompts p;
   defaults = with_some d.defaults v;
   ranges = with_some d.ranges r;
+  select_count = counted_once selects d.select_count;
+  imply_count = counted_once implies d.imply_count;
 }
 
 abbrev block_after : Option Expr → Option Expr → BlockValue → BlockValue
@@ -81,6 +89,22 @@ never_said is_owner says (r ∷ rs) others =
     let first : is_owner r.owner ≡ false = others 0 r (omega arith) in
     rw first (never_said is_owner says rs (λ k d inside. others (suc k) d (omega arith)))
 
+once_more : (b : Bool) (n : ℕ) → n + cond b 1 0 ≡ counted_once b n
+once_more false n = omega arith
+once_more true n = refl
+
+times_said_push : (is_owner : Option Owner → Bool) (says : Statement → Bool) (rs : List Reading) (r : Reading) → times_said is_owner says (rs ++ r ∷ []) ≡ counted_once (is_owner r.owner && says r.statement) (times_said is_owner says rs)
+times_said_push is_owner says rs r =
+    sum_by_push (λ q. cond (is_owner q.owner && says q.statement) 1 0) rs r
+    ∙ once_more (is_owner r.owner && says r.statement) (times_said is_owner says rs)
+
+never_times : (is_owner : Option Owner → Bool) (says : Statement → Bool) (rs : List Reading) → All (λ r. is_owner r.owner ≡ false) rs → times_said is_owner says rs ≡ 0
+never_times is_owner says [] others = refl
+never_times is_owner says (r ∷ rs) others =
+    let first : is_owner r.owner ≡ false = others 0 r (omega arith) in
+    let rest : times_said is_owner says rs ≡ 0 = never_times is_owner says rs (λ k d inside. others (suc k) d (omega arith)) in
+    sum_by-cons (λ q. cond (is_owner q.owner && says q.statement) 1 0) r rs ∙ rw first (ap (λ n. 0 + n) rest)
+
 pub none_of : {A B : Type 0} → (f : A → Option B) (xs : List A) → All (λ x. f x ≡ None) xs → filter_map f xs ≡ []
 none_of f [] others = refl
 none_of f (x ∷ xs) others =
@@ -97,9 +121,9 @@ first_push [] (Some y) = refl
 first_push (x ∷ xs) (Some y) = refl
 
 -- ---- definitions
-definition_at_push : (rs : List Reading) (r : Reading) (j : ℕ) (h : DefinitionLine) → definition_at (rs ++ r ∷ []) j h ≡ definition_after (if is_of_definition j r.owner then depends_in r.statement else None) (if is_of_definition j r.owner then prompt_in r.statement else None) (if is_of_definition j r.owner then default_in r.statement else None) (if is_of_definition j r.owner then range_in r.statement else None) (definition_at rs j h)
+definition_at_push : (rs : List Reading) (r : Reading) (j : ℕ) (h : DefinitionLine) → definition_at (rs ++ r ∷ []) j h ≡ definition_after (if is_of_definition j r.owner then depends_in r.statement else None) (if is_of_definition j r.owner then prompt_in r.statement else None) (if is_of_definition j r.owner then default_in r.statement else None) (if is_of_definition j r.owner then range_in r.statement else None) (is_of_definition j r.owner && says_select r.statement) (is_of_definition j r.owner && says_imply r.statement) (definition_at rs j h)
 definition_at_push rs r j h =
-    rw (said_push (is_of_definition j) depends_in rs r, said_push (is_of_definition j) prompt_in rs r, said_push (is_of_definition j) default_in rs r, said_push (is_of_definition j) range_in rs r)
+    rw (said_push (is_of_definition j) depends_in rs r, said_push (is_of_definition j) prompt_in rs r, said_push (is_of_definition j) default_in rs r, said_push (is_of_definition j) range_in rs r, times_said_push (is_of_definition j) says_select rs r, times_said_push (is_of_definition j) says_imply rs r)
     refl
 
 change_definition_same : (o : Option Owner) (ds : List DefinitionValue) → change_definition o (λ d. d) ds ≡ ds
@@ -112,7 +136,7 @@ change_definition_same (Some (owner.Comment c)) ds = refl
 abbrev definitions_of_lines : List Reading → List DefinitionLine → List DefinitionValue
 definitions_of_lines rs hs = map_placed (definition_at rs) 0 hs
 
-definitions_after : (rs : List Reading) (st : Statement) (b : Option BlockId) (ch : Option ChoiceId) (o : Option Owner) (hs : List DefinitionLine) → definitions_of_lines (rs ++ reading st b ch o ∷ []) hs ≡ change_definition o (definition_after (depends_in st) (prompt_in st) (default_in st) (range_in st)) (definitions_of_lines rs hs)
+definitions_after : (rs : List Reading) (st : Statement) (b : Option BlockId) (ch : Option ChoiceId) (o : Option Owner) (hs : List DefinitionLine) → definitions_of_lines (rs ++ reading st b ch o ∷ []) hs ≡ change_definition o (definition_after (depends_in st) (prompt_in st) (default_in st) (range_in st) (says_select st) (says_imply st)) (definitions_of_lines rs hs)
 definitions_after rs st b ch None hs =
     map_placed_same (definition_at (rs ++ reading st b ch None ∷ [])) (definition_at rs) 0 hs
     (λ j h late. definition_at_push rs (reading st b ch None) j h)
@@ -126,7 +150,7 @@ definitions_after rs st b ch (Some (owner.Comment c)) hs =
     map_placed_same (definition_at (rs ++ reading st b ch (Some (owner.Comment c)) ∷ [])) (definition_at rs) 0 hs
     (λ j h late. definition_at_push rs (reading st b ch (Some (owner.Comment c))) j h)
 definitions_after rs st b ch (Some (owner.Definition s i)) hs =
-    map_placed_changed (definition_at (rs ++ reading st b ch (Some (owner.Definition s i)) ∷ [])) (definition_at rs) (definition_after (depends_in st) (prompt_in st) (default_in st) (range_in st)) 0 i hs
+    map_placed_changed (definition_at (rs ++ reading st b ch (Some (owner.Definition s i)) ∷ [])) (definition_at rs) (definition_after (depends_in st) (prompt_in st) (default_in st) (range_in st) (says_select st) (says_imply st)) 0 i hs
     (λ j h other. rw (ne_eqb i j (λ e. omega arith)) at (definition_at_push rs (reading st b ch (Some (owner.Definition s i))) j h))
     (λ h. rw (eq-eqb i (0 + i) (omega arith)) at (definition_at_push rs (reading st b ch (Some (owner.Definition s i))) (0 + i) h))
 
@@ -142,13 +166,13 @@ next_definition : (rs : List Reading) (h : DefinitionLine) → AreMade rs → de
 next_definition rs h made =
     let others : All (λ r. is_of_definition (0 + length (definition_lines rs)) r.owner ≡ false) rs =
     All-weaker (IsMade rs) (λ r. is_of_definition (0 + length (definition_lines rs)) r.owner ≡ false) (λ r m. no_definition_yet rs r.owner m.owner) rs made in
-    rw (unsaid (is_of_definition (0 + length (definition_lines rs))) depends_in rs others, unsaid (is_of_definition (0 + length (definition_lines rs))) prompt_in rs others, unsaid (is_of_definition (0 + length (definition_lines rs))) default_in rs others, unsaid (is_of_definition (0 + length (definition_lines rs))) range_in rs others) refl
+    rw (unsaid (is_of_definition (0 + length (definition_lines rs))) depends_in rs others, unsaid (is_of_definition (0 + length (definition_lines rs))) prompt_in rs others, unsaid (is_of_definition (0 + length (definition_lines rs))) default_in rs others, unsaid (is_of_definition (0 + length (definition_lines rs))) range_in rs others, never_times (is_of_definition (0 + length (definition_lines rs))) says_select rs others, never_times (is_of_definition (0 + length (definition_lines rs))) says_imply rs others) refl
 
 pub definition_lines_push : (rs : List Reading) (st : Statement) (b : Option BlockId) (ch : Option ChoiceId) (o : Option Owner) → definition_lines (rs ++ reading st b ch o ∷ []) ≡ with_some (definition_lines rs) (definition_line b st)
 definition_lines_push rs st b ch o = filter_map_push (λ r. definition_line r.block r.statement) rs (reading st b ch o)
 
 -- where the line makes no definition
-definitions_changed : (rs : List Reading) (st : Statement) (b : Option BlockId) (ch : Option ChoiceId) (o : Option Owner) → defined_in st ≡ None → definitions_in (rs ++ reading st b ch o ∷ []) ≡ change_definition o (definition_after (depends_in st) (prompt_in st) (default_in st) (range_in st)) (definitions_in rs)
+definitions_changed : (rs : List Reading) (st : Statement) (b : Option BlockId) (ch : Option ChoiceId) (o : Option Owner) → defined_in st ≡ None → definitions_in (rs ++ reading st b ch o ∷ []) ≡ change_definition o (definition_after (depends_in st) (prompt_in st) (default_in st) (range_in st) (says_select st) (says_imply st)) (definitions_in rs)
 definitions_changed rs st b ch o none =
     let heads : definition_lines (rs ++ reading st b ch o ∷ []) ≡ definition_lines rs = rw none at (definition_lines_push rs st b ch o) in
     rw heads (definitions_after rs st b ch o (definition_lines rs))
@@ -169,7 +193,40 @@ definitions_push rs (statement.Prompt p) b ch o made = definitions_changed rs (s
 definitions_push rs (statement.Default v) b ch o made = definitions_changed rs (statement.Default v) b ch o refl
 definitions_push rs (statement.Range v) b ch o made = definitions_changed rs (statement.Range v) b ch o refl
 definitions_push rs (statement.DependsOn e) b ch o made = definitions_changed rs (statement.DependsOn e) b ch o refl
+definitions_push rs (statement.Select s e) b ch o made = definitions_changed rs (statement.Select s e) b ch o refl
+definitions_push rs (statement.Imply s e) b ch o made = definitions_changed rs (statement.Imply s e) b ch o refl
 definitions_push rs st b ch o made = definitions_changed rs st b ch o refl ∙ change_definition_same o (definitions_in rs)
+
+-- ---- how many lines of a definition select or imply
+-- the number of a definition that no reading makes, of the owner of one
+not_of_later : (rs : List Reading) (o : Option Owner) (j : ℕ) → length (definition_lines rs) ≤ j → IsMadeBy rs o → is_of_definition j o ≡ false
+not_of_later rs None j later made = refl
+not_of_later rs (Some (owner.Definition s i)) j later made = ne_eqb i j (λ e. omega (arith, later, made, e))
+not_of_later rs (Some (owner.Menu m)) j later made = refl
+not_of_later rs (Some (owner.Choice c m)) j later made = refl
+not_of_later rs (Some (owner.Comment c)) j later made = refl
+
+-- a count that a definition has is that of the lines that it owns, and without the definition there are none
+counted_at : (rs : List Reading) (says : Statement → Bool) (count : DefinitionValue → ℕ) (j : ℕ) → AreMade rs → ((i : ℕ) (h : DefinitionLine) → count (definition_at rs i h) ≡ times_said (is_of_definition i) says rs) → option_map_or count (slice_get (definitions_in rs) j) 0 ≡ times_said (is_of_definition j) says rs
+counted_at rs says count j made counts =
+    ap (λ d. option_map_or count d 0) (at_placed (definition_at rs) 0 (definition_lines rs) j)
+    ∙ of_line ((slice_get_cases (definition_lines rs) j).1)
+  where
+    of_line : (((h : DefinitionLine) × (j < length (definition_lines rs)) × (slice_get (definition_lines rs) j ≡ Some h) × (get_or (definition_lines rs) j h ≡ h)) ⊎ ((length (definition_lines rs) ≤ j) × (slice_get (definition_lines rs) j ≡ None))) → option_map_or count (option_map (definition_at rs (0 + j)) (slice_get (definition_lines rs) j)) 0 ≡ times_said (is_of_definition j) says rs
+    of_line (inl (h, within, there, same)) =
+        let place : 0 + j ≡ j = omega arith in
+        ap (λ line. option_map_or count (option_map (definition_at rs (0 + j)) line) 0) there
+        ∙ counts (0 + j) h
+        ∙ ap (λ i. times_said (is_of_definition i) says rs) place
+    of_line (inr (later, there)) =
+        ap (λ line. option_map_or count (option_map (definition_at rs (0 + j)) line) 0) there
+        ∙ sym (never_times (is_of_definition j) says rs (All-weaker (IsMade rs) (λ r. is_of_definition j r.owner ≡ false) (λ r m. not_of_later rs r.owner j later m.owner) rs made))
+
+pub selects_counted : (rs : List Reading) (j : ℕ) → AreMade rs → selects_of (definitions_in rs) j ≡ times_said (is_of_definition j) says_select rs
+selects_counted rs j made = counted_at rs says_select (λ d. d.select_count) j made (λ i h. refl)
+
+pub implies_counted : (rs : List Reading) (j : ℕ) → AreMade rs → implies_of (definitions_in rs) j ≡ times_said (is_of_definition j) says_imply rs
+implies_counted rs j made = counted_at rs says_imply (λ d. d.imply_count) j made (λ i h. refl)
 
 -- ---- blocks
 block_at_push : (rs : List Reading) (r : Reading) (j : ℕ) (h : BlockLine) → block_at (rs ++ r ∷ []) j h ≡ block_after (if is_of_block j r.owner then depends_in r.statement else None) (if is_of_block j r.owner then visible_in r.statement else None) (block_at rs j h)

@@ -17,10 +17,11 @@ use Rattle.kc_outline.specs.declared.context.Owner.TheVariants as owner
 use Rattle.kc_statement.specs.declared.statement.Statement.{Statement}
 use Rattle.kc_statement.specs.declared.statement.Statement.TheVariants as statement
 use Rattle.kc_outline.specs.TreeValue.{SymbolValue}
-use Rattle.kc_outline.specs.TreeOf.{Reading, is_of_symbol, type_in, says_selection, says_modules, says_yes_in_allnoconfig, definition_number, choice_at_definition, selection_of, implication_of, symbol_at, symbols_in}
+use Rattle.kc_outline.specs.TreeOf.{Reading, is_of_symbol, is_of_definition, times_said, type_in, says_select, says_imply, says_selection, says_modules, says_yes_in_allnoconfig, definition_number, choice_at_definition, selection_of, implication_of, symbol_at, symbols_in, definitions_in}
+use Rattle.kc_outline.specs.Outline.{AreMade}
 use Rattle.kc_outline.specs.Adding.{change_at, with_some, with_definition, standing_in, with_selection, with_implication, change_symbol, numbered, placed, selecting, selected, implied, symbols_with, new_symbol}
-use Rattle.kc_outline.proofs.ChangeLaws.{change_at_same, change_at_twice, map_range_same, map_range_changed, filter_map_push}
-use Rattle.kc_outline.proofs.AddingParts.{reading, keep_first, said_push, is_said_push, first_push, no_choice}
+use Rattle.kc_outline.proofs.ChangeLaws.{change_at_same, change_at_twice, map_range_same, map_range_changed, filter_map_push, found_after_push}
+use Rattle.kc_outline.proofs.AddingParts.{reading, keep_first, said_push, is_said_push, first_push, no_choice, selects_counted, implies_counted}
 
 -- ---- of no lines
 pub new_symbols_more : (n : ℕ) → symbols_in (n + 1) [] ≡ symbols_in n [] ++ new_symbol ∷ []
@@ -53,13 +54,13 @@ symbol_step k selects modules always number choice selection implication x = rec
   is_yes_in_allnoconfig = always || x.is_yes_in_allnoconfig;
 }
 
-symbol_at_push : (rs : List Reading) (r : Reading) (s : SymId) → symbol_at (rs ++ r ∷ []) s ≡ symbol_step (if is_of_symbol s r.owner then type_in r.statement else None) (is_of_symbol s r.owner && says_selection r.statement) (is_of_symbol s r.owner && says_modules r.statement) (is_of_symbol s r.owner && says_yes_in_allnoconfig r.statement) (definition_number s r) (choice_at_definition s r) (selection_of s r) (implication_of s r) (symbol_at rs s)
+symbol_at_push : (rs : List Reading) (r : Reading) (s : SymId) → symbol_at (rs ++ r ∷ []) s ≡ symbol_step (if is_of_symbol s r.owner then type_in r.statement else None) (is_of_symbol s r.owner && says_selection r.statement) (is_of_symbol s r.owner && says_modules r.statement) (is_of_symbol s r.owner && says_yes_in_allnoconfig r.statement) (definition_number s r) (choice_at_definition s r) (selection_of s rs r) (implication_of s rs r) (symbol_at rs s)
 symbol_at_push rs r s =
-    rw (said_push (is_of_symbol s) type_in rs r, filter_map_push (definition_number s) rs r, filter_map_push (choice_at_definition s) rs r, filter_map_push (selection_of s) rs r, filter_map_push (implication_of s) rs r, is_said_push (is_of_symbol s) says_selection rs r, is_said_push (is_of_symbol s) says_modules rs r, is_said_push (is_of_symbol s) says_yes_in_allnoconfig rs r)
+    rw (said_push (is_of_symbol s) type_in rs r, filter_map_push (definition_number s) rs r, filter_map_push (choice_at_definition s) rs r, found_after_push (selection_of s) [] rs r, found_after_push (implication_of s) [] rs r, is_said_push (is_of_symbol s) says_selection rs r, is_said_push (is_of_symbol s) says_modules rs r, is_said_push (is_of_symbol s) says_yes_in_allnoconfig rs r)
     (rw (first_push (filter_map (choice_at_definition s) rs) (choice_at_definition s r)) refl)
 
 -- of a statement that says at most that its owner's symbol selects
-quiet_push : (rs : List Reading) (st : Statement) (b : Option BlockId) (ch : Option ChoiceId) (o : Option Owner) (s : SymId) → type_in st ≡ None → says_modules st ≡ false → says_yes_in_allnoconfig st ≡ false → symbol_at (rs ++ reading st b ch o ∷ []) s ≡ symbol_step None (is_of_symbol s o && says_selection st) false false (definition_number s (reading st b ch o)) (choice_at_definition s (reading st b ch o)) (selection_of s (reading st b ch o)) (implication_of s (reading st b ch o)) (symbol_at rs s)
+quiet_push : (rs : List Reading) (st : Statement) (b : Option BlockId) (ch : Option ChoiceId) (o : Option Owner) (s : SymId) → type_in st ≡ None → says_modules st ≡ false → says_yes_in_allnoconfig st ≡ false → symbol_at (rs ++ reading st b ch o ∷ []) s ≡ symbol_step None (is_of_symbol s o && says_selection st) false false (definition_number s (reading st b ch o)) (choice_at_definition s (reading st b ch o)) (selection_of s rs (reading st b ch o)) (implication_of s rs (reading st b ch o)) (symbol_at rs s)
 quiet_push rs st b ch o s no_type no_modules no_always =
     symbol_at_push rs (reading st b ch o) s
     ∙ rw (no_type, no_modules, no_always) (rw (no_choice {A = Option SymbolType} (is_of_symbol s o) None, and-false (is_of_symbol s o)) refl)
@@ -73,18 +74,18 @@ change_symbol_same (Some (owner.Choice c m)) xs = refl
 change_symbol_same (Some (owner.Comment c)) xs = refl
 
 -- a statement that names no symbol
-pub record NamesNone (st : Statement) (b : Option BlockId) (ch : Option ChoiceId) (o : Option Owner) : Type 0 where
+pub record NamesNone (rs : List Reading) (st : Statement) (b : Option BlockId) (ch : Option ChoiceId) (o : Option Owner) : Type 0 where
   pub number : (s : SymId) → definition_number s (reading st b ch o) ≡ None
   pub choice : (s : SymId) → choice_at_definition s (reading st b ch o) ≡ None
-  pub selection : (s : SymId) → selection_of s (reading st b ch o) ≡ None
-  pub implication : (s : SymId) → implication_of s (reading st b ch o) ≡ None
+  pub selection : (s : SymId) → selection_of s rs (reading st b ch o) ≡ None
+  pub implication : (s : SymId) → implication_of s rs (reading st b ch o) ≡ None
 
-owned_push : (rs : List Reading) (st : Statement) (b : Option BlockId) (ch : Option ChoiceId) (o : Option Owner) (s : SymId) → NamesNone st b ch o → symbol_at (rs ++ reading st b ch o ∷ []) s ≡ symbol_after (if is_of_symbol s o then type_in st else None) (is_of_symbol s o && says_selection st) (is_of_symbol s o && says_modules st) (is_of_symbol s o && says_yes_in_allnoconfig st) (symbol_at rs s)
+owned_push : (rs : List Reading) (st : Statement) (b : Option BlockId) (ch : Option ChoiceId) (o : Option Owner) (s : SymId) → NamesNone rs st b ch o → symbol_at (rs ++ reading st b ch o ∷ []) s ≡ symbol_after (if is_of_symbol s o then type_in st else None) (is_of_symbol s o && says_selection st) (is_of_symbol s o && says_modules st) (is_of_symbol s o && says_yes_in_allnoconfig st) (symbol_at rs s)
 owned_push rs st b ch o s names =
     symbol_at_push rs (reading st b ch o) s
     ∙ rw (names.number s, names.choice s, names.selection s, names.implication s) refl
 
-symbols_owned : (n : ℕ) (rs : List Reading) (st : Statement) (b : Option BlockId) (ch : Option ChoiceId) (o : Option Owner) → NamesNone st b ch o → symbols_in n (rs ++ reading st b ch o ∷ []) ≡ change_symbol o (symbol_after (type_in st) (says_selection st) (says_modules st) (says_yes_in_allnoconfig st)) (symbols_in n rs)
+symbols_owned : (n : ℕ) (rs : List Reading) (st : Statement) (b : Option BlockId) (ch : Option ChoiceId) (o : Option Owner) → NamesNone rs st b ch o → symbols_in n (rs ++ reading st b ch o ∷ []) ≡ change_symbol o (symbol_after (type_in st) (says_selection st) (says_modules st) (says_yes_in_allnoconfig st)) (symbols_in n rs)
 symbols_owned n rs st b ch None names =
     map_range_same (λ k. symbol_at (rs ++ reading st b ch None ∷ []) (record { 0 = k })) (λ k. symbol_at rs (record { 0 = k })) 0 n
     (λ k late. owned_push rs st b ch None (record { 0 = k }) names)
@@ -156,56 +157,58 @@ symbols_noted n rs d =
     (λ k other. rw (ne_eqb d.0 k (λ e. omega arith)) refl)
     (rw (eq-eqb d.0 (0 + d.0) (omega arith)) refl)
 
-symbols_selected : (n : ℕ) (rs : List Reading) (s : SymId) (e : Option Expr) (b : Option BlockId) (ch : Option ChoiceId) (o : Option Owner) → symbols_in n (rs ++ reading (statement.Select (Some s) e) b ch o ∷ []) ≡ selected s e o (selecting o (symbols_in n rs))
-symbols_selected n rs s e b ch (Some (owner.Definition d i)) =
-    map_range_changed (λ k. symbol_at (rs ++ reading (statement.Select (Some s) e) b ch (Some (owner.Definition d i)) ∷ []) (record { 0 = k })) (noted rs d) (with_selection (record { by = d; definition = i; condition = e })) 0 s.0 n
+symbols_selected : (n : ℕ) (rs : List Reading) (s : SymId) (e : Option Expr) (b : Option BlockId) (ch : Option ChoiceId) (o : Option Owner) → AreMade rs → symbols_in n (rs ++ reading (statement.Select (Some s) e) b ch o ∷ []) ≡ selected s e o (definitions_in rs) (selecting o (symbols_in n rs))
+symbols_selected n rs s e b ch (Some (owner.Definition d i)) made =
+    map_range_changed (λ k. symbol_at (rs ++ reading (statement.Select (Some s) e) b ch (Some (owner.Definition d i)) ∷ []) (record { 0 = k })) (noted rs d) (with_selection (record { by = d; definition = i; number = times_said (is_of_definition i) says_select rs; condition = e })) 0 s.0 n
     (λ k other. quiet_push rs (statement.Select (Some s) e) b ch (Some (owner.Definition d i)) (record { 0 = k }) refl refl refl ∙ rw (and_true (d.0 == k), ne_eqb s.0 k (λ p. omega arith)) refl)
     (quiet_push rs (statement.Select (Some s) e) b ch (Some (owner.Definition d i)) (record { 0 = 0 + s.0 }) refl refl refl ∙ rw (and_true (d.0 == (0 + s.0)), eq-eqb s.0 (0 + s.0) (omega arith)) refl)
-    ∙ ap (λ xs. change_at xs s.0 (with_selection (record { by = d; definition = i; condition = e }))) (symbols_noted n rs d)
-symbols_selected n rs s e b ch None =
+    ∙ ap (λ xs. change_at xs s.0 (with_selection (record { by = d; definition = i; number = times_said (is_of_definition i) says_select rs; condition = e }))) (symbols_noted n rs d)
+    ∙ ap (λ count. change_at (change_at (symbols_in n rs) d.0 (symbol_after None true false false)) s.0 (with_selection (record { by = d; definition = i; number = count; condition = e }))) (sym (selects_counted rs i made))
+symbols_selected n rs s e b ch None made =
     map_range_same (λ k. symbol_at (rs ++ reading (statement.Select (Some s) e) b ch None ∷ []) (record { 0 = k })) (λ k. symbol_at rs (record { 0 = k })) 0 n
     (λ k late. quiet_push rs (statement.Select (Some s) e) b ch None (record { 0 = k }) refl refl refl)
-symbols_selected n rs s e b ch (Some (owner.Menu m)) =
+symbols_selected n rs s e b ch (Some (owner.Menu m)) made =
     map_range_same (λ k. symbol_at (rs ++ reading (statement.Select (Some s) e) b ch (Some (owner.Menu m)) ∷ []) (record { 0 = k })) (λ k. symbol_at rs (record { 0 = k })) 0 n
     (λ k late. quiet_push rs (statement.Select (Some s) e) b ch (Some (owner.Menu m)) (record { 0 = k }) refl refl refl)
-symbols_selected n rs s e b ch (Some (owner.Choice c m)) =
+symbols_selected n rs s e b ch (Some (owner.Choice c m)) made =
     map_range_same (λ k. symbol_at (rs ++ reading (statement.Select (Some s) e) b ch (Some (owner.Choice c m)) ∷ []) (record { 0 = k })) (λ k. symbol_at rs (record { 0 = k })) 0 n
     (λ k late. quiet_push rs (statement.Select (Some s) e) b ch (Some (owner.Choice c m)) (record { 0 = k }) refl refl refl)
-symbols_selected n rs s e b ch (Some (owner.Comment c)) =
+symbols_selected n rs s e b ch (Some (owner.Comment c)) made =
     map_range_same (λ k. symbol_at (rs ++ reading (statement.Select (Some s) e) b ch (Some (owner.Comment c)) ∷ []) (record { 0 = k })) (λ k. symbol_at rs (record { 0 = k })) 0 n
     (λ k late. quiet_push rs (statement.Select (Some s) e) b ch (Some (owner.Comment c)) (record { 0 = k }) refl refl refl)
 
-symbols_implied : (n : ℕ) (rs : List Reading) (s : SymId) (e : Option Expr) (b : Option BlockId) (ch : Option ChoiceId) (o : Option Owner) → symbols_in n (rs ++ reading (statement.Imply (Some s) e) b ch o ∷ []) ≡ implied s e o (selecting o (symbols_in n rs))
-symbols_implied n rs s e b ch (Some (owner.Definition d i)) =
-    map_range_changed (λ k. symbol_at (rs ++ reading (statement.Imply (Some s) e) b ch (Some (owner.Definition d i)) ∷ []) (record { 0 = k })) (noted rs d) (with_implication (record { by = d; definition = i; condition = e })) 0 s.0 n
+symbols_implied : (n : ℕ) (rs : List Reading) (s : SymId) (e : Option Expr) (b : Option BlockId) (ch : Option ChoiceId) (o : Option Owner) → AreMade rs → symbols_in n (rs ++ reading (statement.Imply (Some s) e) b ch o ∷ []) ≡ implied s e o (definitions_in rs) (selecting o (symbols_in n rs))
+symbols_implied n rs s e b ch (Some (owner.Definition d i)) made =
+    map_range_changed (λ k. symbol_at (rs ++ reading (statement.Imply (Some s) e) b ch (Some (owner.Definition d i)) ∷ []) (record { 0 = k })) (noted rs d) (with_implication (record { by = d; definition = i; number = times_said (is_of_definition i) says_imply rs; condition = e })) 0 s.0 n
     (λ k other. quiet_push rs (statement.Imply (Some s) e) b ch (Some (owner.Definition d i)) (record { 0 = k }) refl refl refl ∙ rw (and_true (d.0 == k), ne_eqb s.0 k (λ p. omega arith)) refl)
     (quiet_push rs (statement.Imply (Some s) e) b ch (Some (owner.Definition d i)) (record { 0 = 0 + s.0 }) refl refl refl ∙ rw (and_true (d.0 == (0 + s.0)), eq-eqb s.0 (0 + s.0) (omega arith)) refl)
-    ∙ ap (λ xs. change_at xs s.0 (with_implication (record { by = d; definition = i; condition = e }))) (symbols_noted n rs d)
-symbols_implied n rs s e b ch None =
+    ∙ ap (λ xs. change_at xs s.0 (with_implication (record { by = d; definition = i; number = times_said (is_of_definition i) says_imply rs; condition = e }))) (symbols_noted n rs d)
+    ∙ ap (λ count. change_at (change_at (symbols_in n rs) d.0 (symbol_after None true false false)) s.0 (with_implication (record { by = d; definition = i; number = count; condition = e }))) (sym (implies_counted rs i made))
+symbols_implied n rs s e b ch None made =
     map_range_same (λ k. symbol_at (rs ++ reading (statement.Imply (Some s) e) b ch None ∷ []) (record { 0 = k })) (λ k. symbol_at rs (record { 0 = k })) 0 n
     (λ k late. quiet_push rs (statement.Imply (Some s) e) b ch None (record { 0 = k }) refl refl refl)
-symbols_implied n rs s e b ch (Some (owner.Menu m)) =
+symbols_implied n rs s e b ch (Some (owner.Menu m)) made =
     map_range_same (λ k. symbol_at (rs ++ reading (statement.Imply (Some s) e) b ch (Some (owner.Menu m)) ∷ []) (record { 0 = k })) (λ k. symbol_at rs (record { 0 = k })) 0 n
     (λ k late. quiet_push rs (statement.Imply (Some s) e) b ch (Some (owner.Menu m)) (record { 0 = k }) refl refl refl)
-symbols_implied n rs s e b ch (Some (owner.Choice c m)) =
+symbols_implied n rs s e b ch (Some (owner.Choice c m)) made =
     map_range_same (λ k. symbol_at (rs ++ reading (statement.Imply (Some s) e) b ch (Some (owner.Choice c m)) ∷ []) (record { 0 = k })) (λ k. symbol_at rs (record { 0 = k })) 0 n
     (λ k late. quiet_push rs (statement.Imply (Some s) e) b ch (Some (owner.Choice c m)) (record { 0 = k }) refl refl refl)
-symbols_implied n rs s e b ch (Some (owner.Comment c)) =
+symbols_implied n rs s e b ch (Some (owner.Comment c)) made =
     map_range_same (λ k. symbol_at (rs ++ reading (statement.Imply (Some s) e) b ch (Some (owner.Comment c)) ∷ []) (record { 0 = k })) (λ k. symbol_at rs (record { 0 = k })) 0 n
     (λ k late. quiet_push rs (statement.Imply (Some s) e) b ch (Some (owner.Comment c)) (record { 0 = k }) refl refl refl)
 
 -- ---- all
-pub symbols_push : (n : ℕ) (rs : List Reading) (st : Statement) (b : Option BlockId) (ch : Option ChoiceId) (o : Option Owner) → symbols_in n (rs ++ reading st b ch o ∷ []) ≡ symbols_with st ch o (symbols_in n rs)
-symbols_push n rs (statement.Config (Some s)) b ch o = symbols_numbered n rs s b ch o
-symbols_push n rs (statement.Type k) b ch o = symbols_owned n rs (statement.Type k) b ch o (record { number = λ s. refl; choice = λ s. refl; selection = λ s. refl; implication = λ s. refl })
-symbols_push n rs (statement.TypeAndPrompt k p) b ch o = symbols_owned n rs (statement.TypeAndPrompt k p) b ch o (record { number = λ s. refl; choice = λ s. refl; selection = λ s. refl; implication = λ s. refl })
-symbols_push n rs (statement.TypeAndDefault k v) b ch o = symbols_owned n rs (statement.TypeAndDefault k v) b ch o (record { number = λ s. refl; choice = λ s. refl; selection = λ s. refl; implication = λ s. refl })
-symbols_push n rs (statement.Select (Some s) e) b ch o = symbols_selected n rs s e b ch o
-symbols_push n rs (statement.Imply (Some s) e) b ch o = symbols_implied n rs s e b ch o
-symbols_push n rs (statement.Select None e) b ch o = symbols_owned n rs (statement.Select None e) b ch o (record { number = λ s. refl; choice = λ s. refl; selection = λ s. refl; implication = λ s. refl })
-symbols_push n rs (statement.Imply None e) b ch o = symbols_owned n rs (statement.Imply None e) b ch o (record { number = λ s. refl; choice = λ s. refl; selection = λ s. refl; implication = λ s. refl })
-symbols_push n rs statement.Modules b ch o = symbols_owned n rs statement.Modules b ch o (record { number = λ s. refl; choice = λ s. refl; selection = λ s. refl; implication = λ s. refl })
-symbols_push n rs statement.AllNoConfigYes b ch o = symbols_owned n rs statement.AllNoConfigYes b ch o (record { number = λ s. refl; choice = λ s. refl; selection = λ s. refl; implication = λ s. refl })
-symbols_push n rs st b ch o =
+pub symbols_push : (n : ℕ) (rs : List Reading) (st : Statement) (b : Option BlockId) (ch : Option ChoiceId) (o : Option Owner) → AreMade rs → symbols_in n (rs ++ reading st b ch o ∷ []) ≡ symbols_with st ch o (definitions_in rs) (symbols_in n rs)
+symbols_push n rs (statement.Config (Some s)) b ch o made = symbols_numbered n rs s b ch o
+symbols_push n rs (statement.Type k) b ch o made = symbols_owned n rs (statement.Type k) b ch o (record { number = λ s. refl; choice = λ s. refl; selection = λ s. refl; implication = λ s. refl })
+symbols_push n rs (statement.TypeAndPrompt k p) b ch o made = symbols_owned n rs (statement.TypeAndPrompt k p) b ch o (record { number = λ s. refl; choice = λ s. refl; selection = λ s. refl; implication = λ s. refl })
+symbols_push n rs (statement.TypeAndDefault k v) b ch o made = symbols_owned n rs (statement.TypeAndDefault k v) b ch o (record { number = λ s. refl; choice = λ s. refl; selection = λ s. refl; implication = λ s. refl })
+symbols_push n rs (statement.Select (Some s) e) b ch o made = symbols_selected n rs s e b ch o made
+symbols_push n rs (statement.Imply (Some s) e) b ch o made = symbols_implied n rs s e b ch o made
+symbols_push n rs (statement.Select None e) b ch o made = symbols_owned n rs (statement.Select None e) b ch o (record { number = λ s. refl; choice = λ s. refl; selection = λ s. refl; implication = λ s. refl })
+symbols_push n rs (statement.Imply None e) b ch o made = symbols_owned n rs (statement.Imply None e) b ch o (record { number = λ s. refl; choice = λ s. refl; selection = λ s. refl; implication = λ s. refl })
+symbols_push n rs statement.Modules b ch o made = symbols_owned n rs statement.Modules b ch o (record { number = λ s. refl; choice = λ s. refl; selection = λ s. refl; implication = λ s. refl })
+symbols_push n rs statement.AllNoConfigYes b ch o made = symbols_owned n rs statement.AllNoConfigYes b ch o (record { number = λ s. refl; choice = λ s. refl; selection = λ s. refl; implication = λ s. refl })
+symbols_push n rs st b ch o made =
     symbols_owned n rs st b ch o (record { number = λ s. refl; choice = λ s. refl; selection = λ s. refl; implication = λ s. refl })
     ∙ change_symbol_same o (symbols_in n rs)

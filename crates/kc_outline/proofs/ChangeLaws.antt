@@ -1,9 +1,9 @@
 -- Lists of which one element is changed, and lists that are made by number.
-use Rattle.std.proofs.Common.{◌≡◌, ◌≢◌, ℕ, zero, suc, ◌+◌, ◌<◌, ◌≤◌, List, [], ◌∷◌, ◌++◌, Option, Some, None, length, map, get_or, set, refl, ap, sym, ◌∙◌, arith}
+use Rattle.std.proofs.Common.{◌≡◌, ◌≢◌, ℕ, zero, suc, ◌+◌, ◌<◌, ◌≤◌, List, [], ◌∷◌, ◌++◌, Option, Some, None, length, map, option_map, slice_get, get_or, set, refl, ap, sym, ◌∙◌, arith}
 use Rattle.std.specs.List.{range_with_len, filter_map, cons_option}
 use Rattle.std.proofs.lemmas.List.Elements.{filter_map-append}
 use Rattle.std.proofs.lemmas.List.{append-nil, append_assoc}
-use Rattle.kc_outline.specs.TreeOf.{map_placed}
+use Rattle.kc_outline.specs.TreeOf.{found_after, map_placed}
 use Rattle.kc_outline.specs.Adding.{change_at, with_some}
 
 -- ---- one element changed
@@ -85,6 +85,14 @@ map_placed_changed g f h k (suc j) (y ∷ xs) same here =
     map_placed_changed g f h (k + 1) j xs (λ i x other. same i x (λ p. other (p ∙ e))) (λ x. rw e at (here x)) in
     cc
 
+-- the element at a place
+pub at_placed : {A B : Type 0} (f : ℕ → A → B) (k : ℕ) (xs : List A) (n : ℕ) → slice_get (map_placed f k xs) n ≡ option_map (f (k + n)) (slice_get xs n)
+at_placed f k [] n = refl
+at_placed f k (x ∷ xs) zero = let same : k ≡ k + 0 = omega arith in ap (λ i. Some (f i x)) same
+at_placed f k (x ∷ xs) (suc n) =
+    let same : k + 1 + n ≡ k + suc n = omega arith in
+    at_placed f (k + 1) xs n ∙ ap (λ i. option_map (f i) (slice_get xs n)) same
+
 -- ---- one more element
 after_option : {B : Type 0} → (ys : List B) (o : Option B) → ys ++ cons_option o [] ≡ with_some ys o
 after_option ys None = append-nil ys
@@ -96,5 +104,18 @@ filter_map_push f xs x = filter_map-append f xs (x ∷ []) ∙ after_option (fil
 pub with_some-append : {A : Type 0} → (xs ys : List A) (o : Option A) → xs ++ with_some ys o ≡ with_some (xs ++ ys) o
 with_some-append xs ys None = refl
 with_some-append xs ys (Some y) = sym (append_assoc xs ys (y ∷ []))
+
+cons-with_some : {B : Type 0} → (first last : Option B) (ys : List B) → cons_option first (with_some ys last) ≡ with_some (cons_option first ys) last
+cons-with_some None last ys = refl
+cons-with_some (Some x) None ys = refl
+cons-with_some (Some x) (Some y) ys = refl
+
+pub found_after_push : {A B : Type 0} → (f : List A → A → Option B) (earlier xs : List A) (x : A) → found_after f earlier (xs ++ x ∷ []) ≡ with_some (found_after f earlier xs) (f (earlier ++ xs) x)
+found_after_push f earlier [] x =
+    after_option [] (f earlier x) ∙ ap (λ before. with_some [] (f before x)) (sym (append-nil earlier))
+found_after_push f earlier (y ∷ ys) x =
+    ap (cons_option (f earlier y)) (found_after_push f (earlier ++ y ∷ []) ys x)
+    ∙ cons-with_some (f earlier y) (f ((earlier ++ y ∷ []) ++ ys) x) (found_after f (earlier ++ y ∷ []) ys)
+    ∙ ap (λ before. with_some (found_after f earlier (y ∷ ys)) (f before x)) (append_assoc earlier (y ∷ []) ys)
 
 pub ruleset change_laws = (change_at_write, change_at_past)

@@ -29,6 +29,7 @@ use Rattle.kc_outline.specs.Reader.{AreReadingsBefore}
 use Rattle.kc_outline.specs.TreeOf.{Reading, IsReading, AreFirstReadings, AreReadings, IsOutlineOf, map_placed, DefinitionLine, BlockLine, CommentLine, definition_line, block_line, comment_line, block_lines, blocks_in, block_at, choice_block, choice_blocks, choice_at, choices_in, comment_lines, comment_at, comments_in, definition_lines, definition_at, definitions_in, defined_in, title_in, tree_of}
 use Rattle.kc_outline.specs.TreeValue.{TreeValue, BlockValue, DefinitionValue, ChoiceValue, CommentValue, blocks_from}
 use Rattle.kc_outline.proofs.BlockLaws.{slice_get_left, slice_get_seam, open_at}
+use Rattle.kc_outline.proofs.ChangeLaws.{at_placed}
 use Rattle.kc_outline.proofs.Counts.{count_reverse}
 use Rattle.kc_outline.proofs.OwnerLaws.{AreCounted, counted, one_block, blocks_made, the_choice}
 use Rattle.kc_outline.proofs.PlaceLaws.{fewer, read_in_order}
@@ -122,13 +123,6 @@ parents_append rs qs =
     ∙ map-append (λ h. h.parent) (block_lines rs) (block_lines qs)
 
 -- ---- a part of the tree and the reading that makes it
-pub at_placed : {A B : Type 0} (f : ℕ → A → B) (k : ℕ) (xs : List A) (n : ℕ) → slice_get (map_placed f k xs) n ≡ option_map (f (k + n)) (slice_get xs n)
-at_placed f k [] n = refl
-at_placed f k (x ∷ xs) zero = let same : k ≡ k + 0 = omega arith in ap (λ i. Some (f i x)) same
-at_placed f k (x ∷ xs) (suc n) =
-    let same : k + 1 + n ≡ k + suc n = omega arith in
-    at_placed f (k + 1) xs n ∙ ap (λ i. option_map (f i) (slice_get xs n)) same
-
 pub mapped_some : {A B : Type 0} (f : A → B) (o : Option A) (y : B) → option_map f o ≡ Some y → (x : A) × (o ≡ Some x) × (f x ≡ y)
 mapped_some f None y is = absurd (none-some y is)
 mapped_some f (Some x) y is = (x, refl, same_Some (f x) y is)

@@ -130,6 +130,8 @@ definition s depends bytes = record {
   prompts = text bytes ∷ [];
   defaults = [];
   ranges = [];
+  select_count = 0;
+  imply_count = 0;
 }
 
 -- `menu "m"`, `config A`, `bool "a"`, `depends on y`, `endmenu`

@@ -19,7 +19,8 @@ use Rattle.kc_outline.specs.TreeOf.{Reading, AreReadings, IsOutlineOf, BlockLine
 use Rattle.kc_outline.specs.TreeValue.{TreeValue, BlockValue, blocks_around, blocks_from}
 use Rattle.kc_outline.proofs.Counts.{count_reverse, length-map_placed}
 use Rattle.kc_outline.proofs.OwnerLaws.{AreCounted, counted}
-use Rattle.kc_outline.proofs.EnclosedLaws.{not_deep, AreChained, parents, chained, in_order, chain_at, counts, made_at, mapped_some, at_placed, parent_block, own_parent, numbered}
+use Rattle.kc_outline.proofs.ChangeLaws.{at_placed}
+use Rattle.kc_outline.proofs.EnclosedLaws.{not_deep, AreChained, parents, chained, in_order, chain_at, counts, made_at, mapped_some, parent_block, own_parent, numbered}
 
 -- the innermost of blocks that are chained is one of those that are made
 innermost_made : (ps : List (Option BlockId)) (bs : List OpenBlock) (p : BlockId) → AreChained ps bs → innermost bs ≡ Some p → p.0 < length ps

@@ -1,5 +1,5 @@
 -- Steps: what one more reading changes of a tree. No public contract reaches it.
-use Rattle.std.specs.Prelude.{ℕ, zero, suc, true, false, List, [], ◌∷◌, ◌++◌, Option, Some, None, option_map, slice_get}
+use Rattle.std.specs.Prelude.{ℕ, zero, suc, ◌+◌, true, false, List, [], ◌∷◌, ◌++◌, Option, Some, None, option_map, slice_get}
 use Rattle.std.specs.Option.{option_map_or, option_or}
 use Rattle.kc_statement.specs.declared.id.SymId.{SymId}
 use Rattle.kc_outline.specs.declared.id.BlockId.{BlockId}
@@ -43,6 +43,8 @@ new_definition s b = record {
   prompts = [];
   defaults = [];
   ranges = [];
+  select_count = 0;
+  imply_count = 0;
 }
 
 abbrev pub definition_with_depends : Expr → DefinitionValue → DefinitionValue
@@ -57,6 +59,12 @@ definition_with_default v d = record d { defaults = d.defaults ++ v ∷ [] }
 abbrev pub definition_with_range : Range → DefinitionValue → DefinitionValue
 definition_with_range r d = record d { ranges = d.ranges ++ r ∷ [] }
 
+abbrev pub definition_with_select : DefinitionValue → DefinitionValue
+definition_with_select d = record d { select_count = d.select_count + 1 }
+
+abbrev pub definition_with_imply : DefinitionValue → DefinitionValue
+definition_with_imply d = record d { imply_count = d.imply_count + 1 }
+
 -- the definition that owns a line
 abbrev pub change_definition : Option Owner → (DefinitionValue → DefinitionValue) → List DefinitionValue → List DefinitionValue
 change_definition (Some (owner.Definition s j)) f ds = change_at ds j f
@@ -70,6 +78,8 @@ definitions_with (statement.Prompt p) b o ds = change_definition o (definition_w
 definitions_with (statement.Default v) b o ds = change_definition o (definition_with_default v) ds
 definitions_with (statement.Range v) b o ds = change_definition o (definition_with_range v) ds
 definitions_with (statement.DependsOn e) b o ds = change_definition o (definition_with_depends e) ds
+definitions_with (statement.Select s e) b o ds = change_definition o definition_with_select ds
+definitions_with (statement.Imply s e) b o ds = change_definition o definition_with_imply ds
 definitions_with _ b o ds = ds
 
 -- ---- symbols
@@ -124,32 +134,41 @@ abbrev pub numbered : SymId → Option Owner → List SymbolValue → List Symbo
 numbered s (Some (owner.Definition d j)) xs = change_at xs s.0 (with_definition j)
 numbered s _ xs = xs
 
-abbrev pub selected : SymId → Option Expr → Option Owner → List SymbolValue → List SymbolValue
-selected s c (Some (owner.Definition by j)) xs =
-    change_at xs s.0 (with_selection (record { by = by; definition = j; condition = c }))
-selected s c _ xs = xs
+-- how many `select` lines the definition of a number has, and how many `imply` lines
+abbrev pub selects_of : List DefinitionValue → ℕ → ℕ
+selects_of ds j = option_map_or (λ d. d.select_count) (slice_get ds j) 0
 
-abbrev pub implied : SymId → Option Expr → Option Owner → List SymbolValue → List SymbolValue
-implied s c (Some (owner.Definition by j)) xs =
-    change_at xs s.0 (with_implication (record { by = by; definition = j; condition = c }))
-implied s c _ xs = xs
+abbrev pub implies_of : List DefinitionValue → ℕ → ℕ
+implies_of ds j = option_map_or (λ d. d.imply_count) (slice_get ds j) 0
+
+-- the number of a line is how many its definition has before it
+abbrev pub selected : SymId → Option Expr → Option Owner → List DefinitionValue → List SymbolValue → List SymbolValue
+selected s c (Some (owner.Definition by j)) ds xs =
+    change_at xs s.0 (with_selection (record { by = by; definition = j; number = selects_of ds j; condition = c }))
+selected s c _ ds xs = xs
+
+abbrev pub implied : SymId → Option Expr → Option Owner → List DefinitionValue → List SymbolValue → List SymbolValue
+implied s c (Some (owner.Definition by j)) ds xs =
+    change_at xs s.0 (with_implication (record { by = by; definition = j; number = implies_of ds j; condition = c }))
+implied s c _ ds xs = xs
 
 -- a `select` or an `imply` of its own
 abbrev pub selecting : Option Owner → List SymbolValue → List SymbolValue
 selecting o xs = change_symbol o symbol_that_selects xs
 
-abbrev pub symbols_with : Statement → Option ChoiceId → Option Owner → List SymbolValue → List SymbolValue
-symbols_with (statement.Config (Some s)) c o xs = numbered s o (placed s c xs)
-symbols_with (statement.Type k) c o xs = change_symbol o (symbol_with_type k) xs
-symbols_with (statement.TypeAndPrompt k p) c o xs = change_symbol o (symbol_with_type k) xs
-symbols_with (statement.TypeAndDefault k v) c o xs = change_symbol o (symbol_with_type k) xs
-symbols_with (statement.Select (Some s) e) c o xs = selected s e o (selecting o xs)
-symbols_with (statement.Select None e) c o xs = selecting o xs
-symbols_with (statement.Imply (Some s) e) c o xs = implied s e o (selecting o xs)
-symbols_with (statement.Imply None e) c o xs = selecting o xs
-symbols_with statement.Modules c o xs = change_symbol o symbol_with_modules xs
-symbols_with statement.AllNoConfigYes c o xs = change_symbol o symbol_yes_in_allnoconfig xs
-symbols_with _ c o xs = xs
+-- by the definitions before the line
+abbrev pub symbols_with : Statement → Option ChoiceId → Option Owner → List DefinitionValue → List SymbolValue → List SymbolValue
+symbols_with (statement.Config (Some s)) c o ds xs = numbered s o (placed s c xs)
+symbols_with (statement.Type k) c o ds xs = change_symbol o (symbol_with_type k) xs
+symbols_with (statement.TypeAndPrompt k p) c o ds xs = change_symbol o (symbol_with_type k) xs
+symbols_with (statement.TypeAndDefault k v) c o ds xs = change_symbol o (symbol_with_type k) xs
+symbols_with (statement.Select (Some s) e) c o ds xs = selected s e o ds (selecting o xs)
+symbols_with (statement.Select None e) c o ds xs = selecting o xs
+symbols_with (statement.Imply (Some s) e) c o ds xs = implied s e o ds (selecting o xs)
+symbols_with (statement.Imply None e) c o ds xs = selecting o xs
+symbols_with statement.Modules c o ds xs = change_symbol o symbol_with_modules xs
+symbols_with statement.AllNoConfigYes c o ds xs = change_symbol o symbol_yes_in_allnoconfig xs
+symbols_with _ c o ds xs = xs
 
 -- ---- blocks
 abbrev pub new_block : BlockKind → Option BlockId → List Expr → BlockValue
@@ -259,7 +278,7 @@ entry_with xs _ b o = None
 abbrev pub with_reading : TreeValue → Reading → TreeValue
 with_reading t r = record {
   names = t.names;
-  symbols = symbols_with r.statement r.choice r.owner t.symbols;
+  symbols = symbols_with r.statement r.choice r.owner t.definitions t.symbols;
   definitions = definitions_with r.statement r.block r.owner t.definitions;
   blocks = blocks_with r.statement r.block r.owner t.blocks;
   choices = choices_with r.statement r.choice r.owner t.choices;

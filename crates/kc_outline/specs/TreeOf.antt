@@ -1,7 +1,7 @@
 -- The tree of logical lines: kconfig-language.rst, "Menu entries", "Menu attributes", "Menu dependencies" and "Menu
 -- structure". Each part of the tree is found from the whole list of what the lines say and where they stand.
-use Rattle.std.specs.Prelude.{◌≡◌, ℕ, ◌+◌, ◌==◌, Bool, true, false, ◌&&◌, List, [], ◌∷◌, ◌++◌, Option, Some, None, option_map, if◌then◌else◌, option_and_then, length, map, filter_map, slice_get, take}
-use Rattle.std.specs.List.{list_any, range_with_len}
+use Rattle.std.specs.Prelude.{◌≡◌, ℕ, ◌+◌, ◌==◌, Bool, true, false, ◌&&◌, List, [], ◌∷◌, ◌++◌, Option, Some, None, option_map, if◌then◌else◌, option_and_then, length, map, filter_map, count_by, slice_get, take}
+use Rattle.std.specs.List.{cons_option, list_any, range_with_len}
 use Rattle.kc_text.specs.LineValue.{LineValue}
 use Rattle.kc_statement.specs.declared.id.SymId.{SymId}
 use Rattle.kc_outline.specs.declared.id.BlockId.{BlockId}
@@ -88,6 +88,16 @@ abbrev pub visible_in : Statement → Option Expr
 visible_in (statement.VisibleIf e) = Some e
 visible_in _ = None
 
+-- a `select`, of whatever
+abbrev pub says_select : Statement → Bool
+says_select (statement.Select s c) = true
+says_select _ = false
+
+-- an `imply`, of whatever
+abbrev pub says_imply : Statement → Bool
+says_imply (statement.Imply s c) = true
+says_imply _ = false
+
 -- a `select` or an `imply`, of whatever
 abbrev pub says_selection : Statement → Bool
 says_selection (statement.Select s c) = true
@@ -137,6 +147,10 @@ said is_owner say rs = filter_map (λ r. if is_owner r.owner then say r.statemen
 abbrev pub is_said : (Option Owner → Bool) → (Statement → Bool) → List Reading → Bool
 is_said is_owner says rs = list_any (λ r. is_owner r.owner && says r.statement) rs
 
+-- how many statements of an owner say so
+abbrev pub times_said : (Option Owner → Bool) → (Statement → Bool) → List Reading → ℕ
+times_said is_owner says rs = count_by (λ r. is_owner r.owner && says r.statement) rs
+
 -- ---- definitions
 abbrev pub defined_in : Statement → Option SymId
 defined_in (statement.Config s) = s
@@ -163,6 +177,8 @@ definition_at rs j line = record {
   prompts = said (is_of_definition j) prompt_in rs;
   defaults = said (is_of_definition j) default_in rs;
   ranges = said (is_of_definition j) range_in rs;
+  select_count = times_said (is_of_definition j) says_select rs;
+  imply_count = times_said (is_of_definition j) says_imply rs;
 }
 
 -- what a function makes of each element and its place, counted from a number
@@ -189,22 +205,28 @@ definition_number s r = if defines s r.statement then number_in r.owner else Non
 abbrev pub choice_at_definition : SymId → Reading → Option ChoiceId
 choice_at_definition s r = if defines s r.statement then r.choice else None
 
--- a `select` or an `imply` of a symbol, and where it is
-abbrev pub reverse_at : SymId → Option SymId → Option Expr → Option Owner → Option Reverse
-reverse_at s (Some target) c (Some (owner.Definition by j)) =
-    if target.0 == s.0 then Some (record { by = by; definition = j; condition = c }) else None
-reverse_at s _ c _ = None
+-- what a function finds in each element by those before it, which `earlier` begins
+abbrev pub found_after : {A B : Type 0} → (List A → A → Option B) → List A → List A → List B
+found_after f earlier [] = []
+found_after f earlier (x ∷ xs) = cons_option (f earlier x) (found_after f (earlier ++ x ∷ []) xs)
 
-abbrev pub selection_of : SymId → Reading → Option Reverse
-selection_of s r = in_statement r.statement where
+-- a `select` or an `imply` of a symbol, and where it is: its definition, and its number among the lines of that which say
+-- the same, as many as there are before it
+abbrev pub reverse_at : (Statement → Bool) → SymId → Option SymId → Option Expr → List Reading → Option Owner → Option Reverse
+reverse_at says s (Some target) c earlier (Some (owner.Definition by j)) =
+    if target.0 == s.0 then Some (record { by = by; definition = j; number = times_said (is_of_definition j) says earlier; condition = c }) else None
+reverse_at says s _ c earlier _ = None
+
+abbrev pub selection_of : SymId → List Reading → Reading → Option Reverse
+selection_of s earlier r = in_statement r.statement where
   in_statement : Statement → Option Reverse
-  in_statement (statement.Select target c) = reverse_at s target c r.owner
+  in_statement (statement.Select target c) = reverse_at says_select s target c earlier r.owner
   in_statement _ = None
 
-abbrev pub implication_of : SymId → Reading → Option Reverse
-implication_of s r = in_statement r.statement where
+abbrev pub implication_of : SymId → List Reading → Reading → Option Reverse
+implication_of s earlier r = in_statement r.statement where
   in_statement : Statement → Option Reverse
-  in_statement (statement.Imply target c) = reverse_at s target c r.owner
+  in_statement (statement.Imply target c) = reverse_at says_imply s target c earlier r.owner
   in_statement _ = None
 
 abbrev pub symbol_at : List Reading → SymId → SymbolValue
@@ -212,8 +234,8 @@ symbol_at rs s = record {
   types = said (is_of_symbol s) type_in rs;
   choice = slice_get (filter_map (choice_at_definition s) rs) 0;
   definitions = filter_map (definition_number s) rs;
-  selected = filter_map (selection_of s) rs;
-  implied = filter_map (implication_of s) rs;
+  selected = found_after (selection_of s) [] rs;
+  implied = found_after (implication_of s) [] rs;
   has_selections = is_said (is_of_symbol s) says_selection rs;
   has_modules = is_said (is_of_symbol s) says_modules rs;
   is_yes_in_allnoconfig = is_said (is_of_symbol s) says_yes_in_allnoconfig rs;

@@ -17,8 +17,8 @@ use Rattle.kc_outline.specs.declared.block.BlockKind.{BlockKind}
 use Rattle.kc_outline.specs.declared.entry.Entry.{Entry}
 use Rattle.kc_outline.specs.declared.limits.TheConstants.{MOST_OPEN_BLOCKS}
 
--- one definition of a symbol: the innermost block around it, and its own `depends on` lines, prompts, defaults and
--- ranges, each in the order of the lines
+-- one definition of a symbol: the innermost block around it, its own `depends on` lines, prompts, defaults and ranges,
+-- each in the order of the lines, and how many `select` and how many `imply` lines it has
 pub record DefinitionValue : Type 0 where
   pub symbol : SymId
   pub block : Option BlockId
@@ -26,6 +26,8 @@ pub record DefinitionValue : Type 0 where
   pub prompts : List Prompt
   pub defaults : List DefaultValue
   pub ranges : List Range
+  pub select_count : ℕ
+  pub imply_count : ℕ
 
 -- a symbol: the types that lines give it, in their order, the choice that it is a member of, the numbers of its
 -- definitions, the `select` and `imply` lines that name it, whether it has such lines of its own, and whether it has a

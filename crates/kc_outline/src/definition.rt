@@ -1,7 +1,7 @@
-ghost use Rattle.std.specs.Prelude.{◌≡◌, OnOk};
+ghost use Rattle.std.specs.Prelude.{◌≡◌, IfOk, OnOk};
 ghost use Rattle.std.specs.Option.{option_copied};
 ghost use Rattle.kc_outline.specs.TreeValue.{prompt_of};
-ghost use Rattle.kc_outline.specs.Adding.{new_definition, definition_with_default, definition_with_depends, definition_with_prompt, definition_with_range};
+ghost use Rattle.kc_outline.specs.Adding.{new_definition, definition_with_default, definition_with_depends, definition_with_imply, definition_with_prompt, definition_with_range, definition_with_select};
 
 use crate::id::BlockId;
 use crate::room::push_one;
@@ -20,6 +20,8 @@ pub struct Definition {
     pub(crate) prompts: SmallVec<Prompt, 1>,
     pub(crate) defaults: Vec<DefaultValue>,
     pub(crate) ranges: Vec<Range>,
+    pub(crate) select_count: usize,
+    pub(crate) imply_count: usize,
 }
 
 impl Model for Definition {
@@ -31,7 +33,7 @@ impl Model for Definition {
 
     ghost coded = { Prim.hlevel (codes, expr.the_row.coded) };
 
-    ghost view = { λ d. record { symbol = d.symbol; block = d.block; depends = d.depends.items; prompts = d.prompts.items; defaults = d.defaults.items; ranges = d.ranges.items } };
+    ghost view = { λ d. record { symbol = d.symbol; block = d.block; depends = d.depends.items; prompts = d.prompts.items; defaults = d.defaults.items; ranges = d.ranges.items; select_count = d.select_count; imply_count = d.imply_count } };
 }
 
 impl Definition {
@@ -46,6 +48,8 @@ impl Definition {
             prompts: SmallVec::new(alloc),
             defaults: Vec::new(alloc),
             ranges: Vec::new(alloc),
+            select_count: 0,
+            imply_count: 0,
         }
     }
 
@@ -76,6 +80,32 @@ impl Definition {
         ensures { OnOk result (self.new ≡ definition_with_range range self.old) }
     {
         push_one(&mut self.ranges, range)
+    }
+
+    /// Adds a `select` line, and returns its number among those of the definition.
+    pub(crate) fn add_select(&mut self) -> Result<usize, AllocError>
+        ensures number { IfOk result (λ number. number ≡ self.old.select_count) }
+        ensures added { OnOk result (self.new ≡ definition_with_select self.old) }
+    {
+        let number = self.select_count;
+        let Some(count) = number.checked_add(1) else {
+            return Err(AllocError);
+        };
+        self.select_count = count;
+        Ok(number)
+    }
+
+    /// Adds an `imply` line, and returns its number among those of the definition.
+    pub(crate) fn add_imply(&mut self) -> Result<usize, AllocError>
+        ensures number { IfOk result (λ number. number ≡ self.old.imply_count) }
+        ensures added { OnOk result (self.new ≡ definition_with_imply self.old) }
+    {
+        let number = self.imply_count;
+        let Some(count) = number.checked_add(1) else {
+            return Err(AllocError);
+        };
+        self.imply_count = count;
+        Ok(number)
     }
 
     /// The symbol that is defined.

@@ -16,6 +16,9 @@ pub struct Reverse {
     pub by: SymId,
     /// The number of that definition, whose dependencies are part of the condition.
     pub definition: usize,
+    /// The number of the line, from 0, among the `select` lines of that definition, or among its `imply` lines, whether
+    /// what they name is defined or not.
+    pub number: usize,
     /// The condition after `if`.
     pub condition: Option<Expr>,
 }

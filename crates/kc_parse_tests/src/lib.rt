@@ -1,5 +1,6 @@
 //! The tests of kc_text and kc_tree, over their public calls alone: lines of texts, all faults at once, what nodes
-//! use, and lists that were cut, as definitions and worked examples have them. What a case can show is in kc_cases.
+//! use, the numbers of `select` lines, and lists that were cut, as definitions and worked examples have them. What a
+//! case can show is in kc_cases.
 //!
 //! A crate with tests is proved twice, with them and without. With its tests here, each library is proved once.
 #![tactic(auto)]
@@ -18,6 +19,8 @@ mod lines;
 mod nodes;
 #[cfg(test)]
 mod parsing;
+#[cfg(test)]
+mod reverses;
 #[cfg(test)]
 mod sharing;
 #[cfg(test)]

@@ -7,6 +7,7 @@ use crate::fitting::show_taken;
 use crate::line_showing::{lines_of_files, lines_of_pairs, lines_with_pairs};
 use crate::nodes::show_all_uses;
 use crate::parsing::{fault_of_cut, faults_of, shown};
+use crate::reverses::show_reverses;
 use crate::sharing::show_size;
 use std::alloc::Global;
 use std::test::Fail;
@@ -28,6 +29,8 @@ pub(crate) enum Shown {
     Taken,
     /// What its nodes use, and what uses them.
     Uses,
+    /// By which `select` and `imply` lines its symbols are named.
+    Reverses,
     /// Whether the tables of its tree are small.
     Size,
 }
@@ -43,6 +46,7 @@ impl Shown {
             Shown::Cut => fault_of_cut(alloc, text),
             Shown::Taken => shown(alloc, text, show_taken),
             Shown::Uses => shown(alloc, text, show_all_uses),
+            Shown::Reverses => shown(alloc, text, show_reverses),
             Shown::Size => shown(alloc, text, show_size),
         }
     }

@@ -47,6 +47,8 @@ definition s prompts = record {
   prompts = prompts;
   defaults = [];
   ranges = [];
+  select_count = 0;
+  imply_count = 0;
 }
 
 abbrev prompted : List Prompt

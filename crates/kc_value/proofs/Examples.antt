@@ -73,6 +73,8 @@ definition s = record {
   prompts = record { text = codes "p"; condition = None } ∷ [];
   defaults = [];
   ranges = [];
+  select_count = 0;
+  imply_count = 0;
 }
 
 abbrev symbol : SymbolType → ℕ → List Reverse → SymbolValue
@@ -88,7 +90,7 @@ symbol kind number selected = record {
 }
 
 abbrev by_first : Reverse
-by_first = record { by = record { 0 = 0 }; definition = 0; condition = None }
+by_first = record { by = record { 0 = 0 }; definition = 0; number = 0; condition = None }
 
 abbrev two : TreeValue
 two = record {
@@ -130,6 +132,8 @@ with_range value low high = record {
   prompts = record { text = codes "p"; condition = None } ∷ [];
   defaults = record { value = atom (Text value); condition = None } ∷ [];
   ranges = record { low = Text low; high = Text high; condition = None } ∷ [];
+  select_count = 0;
+  imply_count = 0;
 }
 
 abbrev number : SymbolType → DefinitionValue → TreeValue

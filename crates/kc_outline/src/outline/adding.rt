@@ -1,13 +1,13 @@
 //! What one more line changes of an outline, a part at a time. A number that names nothing changes nothing.
 
-ghost use Rattle.std.specs.Prelude.{◌≡◌, [], ◌∷◌, ◌++◌, None, Some, true, false, option_map, OnOk};
+ghost use Rattle.std.specs.Prelude.{◌≡◌, [], ◌∷◌, ◌++◌, None, Some, true, false, option_map, IfOk, OnOk};
 ghost use Rattle.std.specs.Option.{option_map_or};
 ghost use Rattle.kc_outline.specs.declared.block.BlockKind.TheVariants.{Menu, If, Choice as ChoiceBlock};
 ghost use Rattle.kc_outline.specs.declared.entry.Entry.TheVariants.{EndMenu};
 ghost use Rattle.kc_outline.specs.TreeOf.{choice_default, menu_entry, choice_entry, comment_entry};
 ghost use Rattle.kc_outline.specs.Adding.{with_reading, with_some, change_at};
-ghost use Rattle.kc_outline.specs.Adding.{new_definition, definition_with_depends, definition_with_prompt, definition_with_default, definition_with_range, change_definition, definition_entry};
-ghost use Rattle.kc_outline.specs.Adding.{symbol_with_type, symbol_with_modules, symbol_yes_in_allnoconfig, change_symbol, numbered, placed, selecting, selected, implied};
+ghost use Rattle.kc_outline.specs.Adding.{new_definition, definition_with_depends, definition_with_prompt, definition_with_default, definition_with_range, definition_with_select, definition_with_imply, change_definition, definition_entry};
+ghost use Rattle.kc_outline.specs.Adding.{symbol_with_type, symbol_with_modules, symbol_yes_in_allnoconfig, change_symbol, numbered, placed, selecting, selected, implied, selects_of, implies_of};
 ghost use Rattle.kc_outline.specs.Adding.{new_block, block_with_depends, block_with_visible, change_block, new_comment, comment_with_depends, change_comment};
 ghost use Rattle.kc_outline.specs.Adding.{choice_with_prompt, choice_with_default, optional_choice, change_choice, with_member, with_choice};
 
@@ -459,7 +459,29 @@ impl Outline {
         block.add_visible(condition)
     }
 
-    /// Adds a `select` line to its owner's symbol and to the one that it names, if there is one.
+    /// Adds a `select` line to the definition of a number, and returns its own number among those of the definition.
+    fn add_select_line(&mut self, definition: usize) -> Result<usize, AllocError>
+        ensures number { IfOk result (λ number. number ≡ selects_of self.old.definitions definition) }
+        ensures added { OnOk result (self.new ≡ record self.old { definitions = change_at self.old.definitions definition definition_with_select }) }
+    {
+        let Some(found) = self.definitions.get_mut(definition) else {
+            return Ok(0);
+        };
+        found.add_select()
+    }
+
+    /// Adds an `imply` line to the definition of a number, and returns its own number among those of the definition.
+    fn add_imply_line(&mut self, definition: usize) -> Result<usize, AllocError>
+        ensures number { IfOk result (λ number. number ≡ implies_of self.old.definitions definition) }
+        ensures added { OnOk result (self.new ≡ record self.old { definitions = change_at self.old.definitions definition definition_with_imply }) }
+    {
+        let Some(found) = self.definitions.get_mut(definition) else {
+            return Ok(0);
+        };
+        found.add_imply()
+    }
+
+    /// Adds a `select` line to its owner, and to the symbol that it names, if there is one.
     #[inline(never)]
     pub(super) fn add_select(
         &mut self,
@@ -467,10 +489,17 @@ impl Outline {
         target: Option<SymId>,
         condition: Option<Expr>,
     ) -> Result<(), AllocError>
-        ensures { OnOk result (self.new ≡ record self.old { symbols = option_map_or (λ s. selected s condition owner (selecting owner self.old.symbols)) target (selecting owner self.old.symbols) }) }
+        ensures { OnOk result (self.new ≡ record self.old {
+          symbols = option_map_or (λ s. selected s condition owner self.old.definitions (selecting owner self.old.symbols)) target (selecting owner self.old.symbols);
+          definitions = change_definition owner definition_with_select self.old.definitions;
+        }) }
     {
         self.add_own_selection(owner);
-        let (Some(target), Some(Owner::Definition(by, definition))) = (target, owner) else {
+        let Some(Owner::Definition(by, definition)) = owner else {
+            return Ok(());
+        };
+        let number = self.add_select_line(definition)?;
+        let Some(target) = target else {
             return Ok(());
         };
         let Some(found) = self.symbols.get_mut(target.0 as usize) else {
@@ -479,11 +508,12 @@ impl Outline {
         found.add_selection(Reverse {
             by,
             definition,
+            number,
             condition,
         })
     }
 
-    /// Adds an `imply` line to its owner's symbol and to the one that it names, if there is one.
+    /// Adds an `imply` line to its owner, and to the symbol that it names, if there is one.
     #[inline(never)]
     pub(super) fn add_imply(
         &mut self,
@@ -491,10 +521,17 @@ impl Outline {
         target: Option<SymId>,
         condition: Option<Expr>,
     ) -> Result<(), AllocError>
-        ensures { OnOk result (self.new ≡ record self.old { symbols = option_map_or (λ s. implied s condition owner (selecting owner self.old.symbols)) target (selecting owner self.old.symbols) }) }
+        ensures { OnOk result (self.new ≡ record self.old {
+          symbols = option_map_or (λ s. implied s condition owner self.old.definitions (selecting owner self.old.symbols)) target (selecting owner self.old.symbols);
+          definitions = change_definition owner definition_with_imply self.old.definitions;
+        }) }
     {
         self.add_own_selection(owner);
-        let (Some(target), Some(Owner::Definition(by, definition))) = (target, owner) else {
+        let Some(Owner::Definition(by, definition)) = owner else {
+            return Ok(());
+        };
+        let number = self.add_imply_line(definition)?;
+        let Some(target) = target else {
             return Ok(());
         };
         let Some(found) = self.symbols.get_mut(target.0 as usize) else {
@@ -503,6 +540,7 @@ impl Outline {
         found.add_implication(Reverse {
             by,
             definition,
+            number,
             condition,
         })
     }
