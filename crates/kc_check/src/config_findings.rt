@@ -1,21 +1,21 @@
 //! What is found in a `.config`, line by line.
 
-use crate::config_names::named_lines;
 use crate::finding::Finding;
-use crate::inputs::{CheckInputs, Input};
-use crate::rivals::Rivals;
+use crate::inputs::CheckInputs;
+use crate::replaced::{Replaced, assign_at};
 use crate::selections::push_bracketed;
-use crate::shown_values::{push_asked, push_value};
-use kc_explain::{explain_warnings, shown_line};
-use kc_files::{
-    Assign, ConfigLine, LineSays, ReadFault, Warning, lines_without_effect, read_config_lines,
+use crate::shown_values::{has_no_value, push_asked, push_value};
+use kc_facts::{
+    Attribute, Family, FragmentLine, FragmentLines, Input, LineIndex, NamedLine, Outcome, Part,
+    View, outcomes_of, push_shortfall, read_fragments, shown_line,
 };
-use kc_report::{Places, View, push_shortfall, range_line};
+use kc_files::{Assign, LineSays, ReadFault};
 use kc_tree::{ChoiceId, SymId, Tree};
 use kc_value::{Reason, active_range, reason_over, spelled};
 use std::alloc::{AllocError, Global};
 
-/// Adds what is found in a `.config`: the lines that can't be used, and those without effect.
+/// Adds what is found in a `.config`: the lines that can't be used, those that take the place of others, and those without
+/// effect.
 ///
 /// # Errors
 ///
@@ -24,79 +24,36 @@ use std::alloc::{AllocError, Global};
 pub(crate) fn config_findings(
     alloc: Global,
     view: &View<'_>,
-    places: &Places<'_, '_>,
+    index: &LineIndex<'_, '_>,
     inputs: &CheckInputs<'_, '_>,
     config: Input<'_>,
     found: &mut Vec<Finding>,
 ) -> Result<(), ReadFault> {
-    let lines = read_config_lines(alloc, view.tree(), inputs.prefix, config.bytes)?;
-    let without = lines_without_effect(alloc, view.tree(), view.values(), lines.as_slice())?;
+    let tree = view.tree();
+    let read = read_fragments(alloc, tree, inputs.prefix, &[config])?;
+    let outcomes = outcomes_of(alloc, tree, view.values(), read.lines.as_slice())?;
+    let replaced = Replaced::of(alloc, read.lines.as_slice(), outcomes.as_slice())?;
     let report = Report {
         view,
-        places,
+        line_index: index,
         path: config.path,
-        lines: lines.as_slice(),
-        without: marks_of(alloc, lines.len(), without.as_slice())?,
-        rivals: Rivals::of(alloc, view.tree(), lines.as_slice())?,
+        lines: read.lines.as_slice(),
+        outcomes: outcomes.as_slice(),
+        replaced,
     };
-    let warned = warned_lines(alloc, inputs, config, lines.as_slice())?;
-    report.add(alloc, warned, found)?;
+    report.add(alloc, &read, inputs.unusable, found)?;
     Ok(())
-}
-
-/// A line that can't be used: its name, and why.
-#[derive(Drop)]
-struct Warned<'c> {
-    name: &'c str,
-    words: String,
-}
-
-/// The lines that can't be used, in their order.
-fn warned_lines<'c>(
-    alloc: Global,
-    inputs: &CheckInputs<'_, '_>,
-    config: Input<'c>,
-    lines: &[ConfigLine],
-) -> Result<Vec<Warned<'c>>, AllocError> {
-    let mut warnings = Vec::new(alloc);
-    let mut numbers = Vec::new(alloc);
-    for line in lines {
-        if let LineSays::Warned(kind) = &line.says {
-            let number = line.number;
-            warnings.push(Warning {
-                line: number,
-                kind: *kind,
-            })?;
-            numbers.push(number)?;
-        }
-    }
-    let prefix = inputs.prefix.as_str();
-    let named = named_lines(alloc, prefix, config.bytes, numbers.as_slice())?;
-    let explained = explain_warnings(
-        alloc,
-        inputs.lines,
-        prefix,
-        config.bytes,
-        warnings.as_slice(),
-    )?;
-    let mut warned = Vec::new(alloc);
-    for (words, line) in explained.into_iter().zip(named.as_slice()) {
-        let name = line.name;
-        warned.push(Warned { name, words })?;
-    }
-    Ok(warned)
 }
 
 /// The lines of a `.config`, and what became of them.
 #[derive(Drop)]
 struct Report<'r, 's, 'l, 'a> {
     view: &'r View<'s>,
-    places: &'r Places<'l, 'a>,
+    line_index: &'r LineIndex<'l, 'a>,
     path: &'r str,
-    lines: &'r [ConfigLine],
-    /// By the index of a line, whether it is without effect.
-    without: Vec<bool>,
-    rivals: Rivals,
+    lines: &'r [FragmentLine],
+    outcomes: &'r [Outcome],
+    replaced: Replaced,
 }
 
 impl Report<'_, '_, '_, '_> {
@@ -104,26 +61,18 @@ impl Report<'_, '_, '_, '_> {
     fn add(
         &self,
         alloc: Global,
-        warned: Vec<Warned<'_>>,
+        read: &FragmentLines<'_>,
+        unusable: &[String],
         found: &mut Vec<Finding>,
     ) -> Result<(), AllocError> {
-        let overtaken = self.overtaken(alloc)?;
-        let mut left = warned.into_iter();
+        let mut left = read.unusable.iter().zip(unusable);
         for (index, line) in self.lines.iter().enumerate() {
-            let is_overtaken = is_marked(overtaken.as_slice(), index);
-            match &line.says {
-                LineSays::Usable(_) if is_overtaken => {}
-                LineSays::Usable(assign) => self.add_usable(
-                    alloc,
-                    index,
-                    line.number,
-                    assign,
-                    found,
-                )?,
+            let number = line.line.number;
+            match &line.line.says {
+                LineSays::Usable(assign) => self.add_usable(alloc, index, number, assign, found)?,
                 LineSays::Warned(_) => {
-                    if let Some(next) = left.next() {
-                        let Warned { name, words } = next;
-                        found.push(Finding::in_line(alloc, self.path, line.number, name, words)?)?;
+                    if let Some((named, words)) = left.next() {
+                        self.add_unusable(alloc, number, named, words.as_str(), found)?;
                     }
                 }
             }
@@ -131,24 +80,21 @@ impl Report<'_, '_, '_, '_> {
         Ok(())
     }
 
-    /// By the index of a line, whether a later line with an effect takes the place of the member that it sets to y.
-    fn overtaken(&self, alloc: Global) -> Result<Vec<bool>, AllocError> {
-        let mut places = Vec::new(alloc);
-        for index in 0..self.lines.len() {
-            if let Some(earlier) = self
-                .rivals
-                .earlier(index)
-                .filter(|_| !self.is_without(index))
-            {
-                places.push(earlier)?;
-            }
+    /// Adds that a line can't be used, but for the line that kconf writes for a number without a value.
+    fn add_unusable(
+        &self,
+        alloc: Global,
+        number: usize,
+        named: &NamedLine<'_>,
+        words: &str,
+        found: &mut Vec<Finding>,
+    ) -> Result<(), AllocError> {
+        if named.value == Some("") && is_number_without_value(self.view, named.name) {
+            return Ok(());
         }
-        marks_of(alloc, self.lines.len(), places.as_slice())
-    }
-
-    /// Whether the line of an index is without effect.
-    fn is_without(&self, index: usize) -> bool {
-        is_marked(self.without.as_slice(), index)
+        let words = String::from_str(alloc, words)?;
+        found.push(Finding::in_line(alloc, self.path, number, named.name, words)?)?;
+        Ok(())
     }
 
     /// Adds what is found in a line that can be used.
@@ -160,14 +106,47 @@ impl Report<'_, '_, '_, '_> {
         assign: &Assign,
         found: &mut Vec<Finding>,
     ) -> Result<(), AllocError> {
-        let words = match self.rivals.earlier(index) {
-            _ if self.is_without(index) => self.effect_words(alloc, assign)?,
-            Some(earlier) => self.rival_words(alloc, earlier, assign)?,
-            None => return Ok(()),
-        };
         let name = self.view.tree().name(assign.symbol);
-        found.push(Finding::in_line(alloc, self.path, number, name, words)?)?;
+        if let Some(earlier) = self.replaced.same(index) {
+            let words = self.replaced_words(alloc, earlier, assign)?;
+            found.push(Finding::in_line(alloc, self.path, number, name, words)?)?;
+        }
+        if let Some(earlier) = self.replaced.rival(index) {
+            let words = self.rival_words(alloc, earlier, assign)?;
+            found.push(Finding::in_line(alloc, self.path, number, name, words)?)?;
+        }
+        if self.outcomes.get(index) == Some(&Outcome::Other) {
+            let words = self.effect_words(alloc, assign)?;
+            found.push(Finding::in_line(alloc, self.path, number, name, words)?)?;
+        }
         Ok(())
+    }
+
+    /// Adds the place of an earlier line in brackets: ` (PATH:LINE)`.
+    fn push_earlier(&self, words: &mut String, earlier: usize) -> Result<(), AllocError> {
+        let Some(line) = self.lines.get(earlier) else {
+            return Ok(());
+        };
+        let path = self.path;
+        let number = line.line.number;
+        write!(words, " ({path}:{number})")
+    }
+
+    /// What is said of a line that takes the place of an earlier one of its symbol.
+    fn replaced_words(
+        &self,
+        alloc: Global,
+        earlier: usize,
+        assign: &Assign,
+    ) -> Result<String, AllocError> {
+        let mut words = String::new(alloc);
+        push_asked(&mut words, self.view, assign.symbol, &assign.value)?;
+        words.push_str(" takes the place of ")?;
+        if let Some(before) = assign_at(self.lines, earlier) {
+            push_asked(&mut words, self.view, before.symbol, &before.value)?;
+        }
+        self.push_earlier(&mut words, earlier)?;
+        Ok(words)
     }
 
     /// What is said of a member that takes the place of that of an earlier line.
@@ -179,18 +158,15 @@ impl Report<'_, '_, '_, '_> {
     ) -> Result<String, AllocError> {
         let tree = self.view.tree();
         let mut words = String::from_str(alloc, "takes the place of ")?;
-        if let Some(line) = self.lines.get(earlier) {
-            if let LineSays::Usable(before) = &line.says {
-                let name = tree.name(before.symbol);
-                let path = self.path;
-                let number = line.number;
-                write!(words, "{name} ({path}:{number})")?;
-            }
+        if let Some(before) = assign_at(self.lines, earlier) {
+            words.push_str(tree.name(before.symbol))?;
         }
+        self.push_earlier(&mut words, earlier)?;
         words.push_str(" in the choice")?;
         if let Some(choice) = tree.choice_of(assign.symbol) {
             push_choice(&mut words, tree, choice)?;
-            push_bracketed(&mut words, self.places.choice(choice))?;
+            let part = Part::Owner(Family::Choice, choice.0 as usize);
+            push_bracketed(&mut words, self.line_index.line(part))?;
         }
         Ok(words)
     }
@@ -205,14 +181,7 @@ impl Report<'_, '_, '_, '_> {
             return Ok(words);
         }
         words.push_str(" has no effect: ")?;
-        push_shortfall(
-            alloc,
-            &mut words,
-            view,
-            self.places,
-            assign.symbol,
-            &assign.value,
-        )?;
+        push_shortfall(alloc, &mut words, view, assign.symbol, &assign.value)?;
         Ok(words)
     }
 
@@ -231,8 +200,14 @@ impl Report<'_, '_, '_, '_> {
         let low = spelled(alloc, kind, range.low)?;
         let high = spelled(alloc, kind, range.high)?;
         write!(words, " is outside the range {low} {high}")?;
-        let attributes = self.places.attributes_of_definition(range.place.definition);
-        push_bracketed(words, range_line(attributes, range.place.range))?;
+        let definition = range.place.definition;
+        let part = Part::Said(
+            Family::Definition,
+            definition,
+            Attribute::Range,
+            range.place.range,
+        );
+        push_bracketed(words, self.line_index.line(part))?;
         words.push_str("; its value is ")?;
         push_value(words, self.view, assign.symbol)
     }
@@ -261,21 +236,10 @@ fn push_choice(words: &mut String, tree: &Tree, choice: ChoiceId) -> Result<(), 
     Ok(())
 }
 
-/// A mark for each of a number of places: true at these, and false at the others.
-fn marks_of(alloc: Global, count: usize, marked: &[usize]) -> Result<Vec<bool>, AllocError> {
-    let mut marks = Vec::with_capacity(alloc, count)?;
-    for _ in 0..count {
-        marks.push(false)?;
+/// Whether a name is that of an int or a hex without a value.
+fn is_number_without_value(view: &View<'_>, name: &str) -> bool {
+    match view.tree().find(name) {
+        Some(symbol) => has_no_value(view, symbol),
+        None => false,
     }
-    for index in marked {
-        if let Some(mark) = marks.get_mut(*index) {
-            *mark = true;
-        }
-    }
-    Ok(marks)
-}
-
-/// Whether a place has a mark.
-fn is_marked(marks: &[bool], index: usize) -> bool {
-    marks.get(index).copied().unwrap_or(false)
 }

@@ -1,9 +1,7 @@
 //! The lines of a `.config` that had their effect before fragments were merged.
 
-use crate::inputs::Input;
-use crate::outcomes::{Outcome, outcomes_of};
-use kc_files::{Assign, ConfigLine, LineSays, Prefix, ReadFault, has_effect, read_config_lines};
-use kc_report::View;
+use kc_facts::{FragmentLine, Input, Outcome, View, outcomes_of, read_fragments};
+use kc_files::{Assign, ConfigLine, LineSays, Prefix, ReadFault, has_effect};
 use kc_text::Text;
 use kc_tree::Tree;
 use kc_value::NodeValues;
@@ -23,8 +21,8 @@ pub struct EffectsBefore {
     pub(crate) lines: Vec<UsableLine>,
 }
 
-/// The lines of a `.config` that have their effect: of each symbol the last usable line, where it has the value of that
-/// (this project's own).
+/// The lines of a `.config` that have their effect: those that no later one replaces, where the symbol has the value of the
+/// line (this project's own).
 ///
 /// # Errors
 ///
@@ -37,22 +35,22 @@ pub fn effects_before(
     config: &Input<'_>,
 ) -> Result<EffectsBefore, ReadFault> {
     let tree = view.tree();
-    let lines = read_config_lines(alloc, tree, prefix, config.bytes)?;
-    let outcomes = outcomes_of(alloc, tree, view.values(), lines.as_slice())?;
+    let read = read_fragments(alloc, tree, prefix, &[*config])?;
+    let outcomes = outcomes_of(alloc, tree, view.values(), read.lines.as_slice())?;
     let path = Text::copy_of(alloc, config.path)?;
-    let lines = lines_that_got(alloc, lines, outcomes.as_slice())?;
+    let lines = lines_that_got(alloc, read.lines, outcomes.as_slice())?;
     Ok(EffectsBefore { path, lines })
 }
 
 /// Of lines those that got the value which they give.
 fn lines_that_got(
     alloc: Global,
-    lines: Vec<ConfigLine>,
+    lines: Vec<FragmentLine>,
     outcomes: &[Outcome],
 ) -> Result<Vec<UsableLine>, AllocError> {
     let mut got = Vec::new(alloc);
     for (line, outcome) in lines.into_iter().zip(outcomes) {
-        let ConfigLine { number, says } = line;
+        let ConfigLine { number, says } = line.line;
         match says {
             LineSays::Usable(assign) if *outcome == Outcome::Got => {
                 got.push(UsableLine { number, assign })?;
@@ -74,7 +72,7 @@ impl EffectsBefore {
         alloc: Global,
         tree: &Tree,
         values: &NodeValues,
-        fragments: &[ConfigLine],
+        fragments: &[FragmentLine],
     ) -> Result<Vec<usize>, AllocError> {
         let named = named_symbols(alloc, tree, fragments)?;
         let mut lost = Vec::new(alloc);
@@ -93,11 +91,11 @@ impl EffectsBefore {
 fn named_symbols(
     alloc: Global,
     tree: &Tree,
-    lines: &[ConfigLine],
+    lines: &[FragmentLine],
 ) -> Result<Vec<bool>, AllocError> {
     let mut named = vec![in alloc; false; tree.symbols().len()]?;
     for line in lines {
-        if let LineSays::Usable(assign) = &line.says {
+        if let LineSays::Usable(assign) = &line.line.says {
             if let Some(mark) = named.get_mut(assign.symbol.0 as usize) {
                 *mark = true;
             }

@@ -1,14 +1,8 @@
 //! What is checked beside a tree and its values.
 
+use kc_facts::Input;
 use kc_files::Prefix;
 use kc_text::Line;
-
-/// A file by its path, with its bytes.
-#[derive(Clone, Copy)]
-pub struct Input<'a> {
-    pub path: &'a str,
-    pub bytes: &'a [u8],
-}
 
 /// A file of the Kconfig by its path, with its text.
 #[derive(Clone, Copy)]
@@ -26,6 +20,8 @@ pub struct CheckInputs<'a, 'l> {
     pub prefix: &'a Prefix,
     /// The `.config`, if there is one.
     pub config: Option<Input<'a>>,
+    /// What is said of each line of the `.config` that can't be used, in their order.
+    pub unusable: &'a [String],
     /// The names of the variables that were given.
     pub given: &'a [&'a str],
     /// The files of the Kconfig, each once.

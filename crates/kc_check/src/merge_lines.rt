@@ -1,28 +1,28 @@
 //! The lines of a report on fragments that were merged.
 
-use crate::config_names::NamedLine;
 use crate::earlier_effects::{EffectsBefore, UsableLine};
-use crate::fragments::FragmentLines;
-use crate::inputs::Input;
-use crate::outcomes::Outcome;
+use crate::replaced::{Replaced, assign_at};
 use crate::shown_values::{push_asked, push_value};
-use kc_explain::shown_line;
+use kc_facts::{
+    FragmentLines, Input, MergeCounts, NamedLine, Outcome, View, push_shortfall, shown_line,
+    type_words,
+};
 use kc_files::{Assign, LineSays, WarningKind};
-use kc_report::{Places, View, push_shortfall};
-use kc_tree::{SymbolType, UserVal};
+use kc_tree::SymbolType;
+use kc_value::is_same_user_value;
 use std::alloc::{AllocError, Global};
 
 /// What a report on fragments is written from.
 #[derive(Drop)]
-pub(crate) struct MergeText<'r, 's, 'l, 'a, 'f> {
+pub(crate) struct MergeText<'r, 's, 'f> {
     pub view: &'r View<'s>,
-    pub places: &'r Places<'l, 'a>,
     pub fragments: &'r [Input<'f>],
     pub read: &'r FragmentLines<'f>,
     pub outcomes: &'r [Outcome],
+    pub replaced: &'r Replaced,
 }
 
-impl MergeText<'_, '_, '_, '_, '_> {
+impl MergeText<'_, '_, '_> {
     /// The lines of the report on each line of the fragments, in their order.
     ///
     /// # Errors
@@ -30,46 +30,52 @@ impl MergeText<'_, '_, '_, '_, '_> {
     /// `AllocError` where memory is refused.
     pub fn written(&self, alloc: Global) -> Result<String, AllocError> {
         let mut left = self.read.unusable.iter();
-        let mut last = self.no_lines(alloc)?;
+        let got = self.lines_that_got(alloc)?;
         let mut text = String::new(alloc);
         for (index, line) in self.read.lines.iter().enumerate() {
-            match &line.says {
+            match &line.line.says {
                 LineSays::Warned(kind) => {
                     if let Some(named) = left.next() {
                         self.push_unusable(&mut text, index, *kind, named)?;
                     }
                 }
                 LineSays::Usable(assign) => {
-                    self.push_replaced(&mut text, last.as_slice(), index, assign)?;
-                    self.push_other(alloc, &mut text, index, assign)?;
-                    set_last(&mut last, assign, index);
+                    self.push_replaced(&mut text, index, assign)?;
+                    self.push_rival(&mut text, index, assign)?;
+                    self.push_other(alloc, &mut text, index, assign, got.as_slice())?;
                 }
             }
         }
         Ok(text)
     }
 
-    /// For each symbol, that no line names it.
-    fn no_lines(&self, alloc: Global) -> Result<Vec<Option<usize>>, AllocError> {
-        let mut last = Vec::new(alloc);
-        for _ in self.view.tree().symbols() {
-            last.push(None)?;
+    /// By the number of a symbol, the line that gives it the value that it has.
+    fn lines_that_got(&self, alloc: Global) -> Result<Vec<Option<usize>>, AllocError> {
+        let mut got = vec![in alloc; None; self.view.tree().symbols().len()]?;
+        for (index, outcome) in self.outcomes.iter().enumerate() {
+            if *outcome != Outcome::Got {
+                continue;
+            }
+            if let Some(assign) = assign_at(self.read.lines.as_slice(), index) {
+                if let Some(slot) = got.get_mut(assign.symbol.0 as usize) {
+                    *slot = Some(index);
+                }
+            }
         }
-        Ok(last)
+        Ok(got)
     }
 
     /// Adds the place of the line of an index: `PATH:LINE`.
     fn push_at(&self, text: &mut String, index: usize) -> Result<(), AllocError> {
-        let fragment = self.read.fragments.get(index).copied().unwrap_or(0);
-        if let (Some(input), Some(line)) = (
-            self.fragments.get(fragment),
-            self.read.lines.get(index),
-        ) {
-            let path = input.path;
-            let number = line.number;
-            write!(text, "{path}:{number}")?;
-        }
-        Ok(())
+        let Some(line) = self.read.lines.get(index) else {
+            return Ok(());
+        };
+        let Some(input) = self.fragments.get(line.fragment) else {
+            return Ok(());
+        };
+        let path = input.path;
+        let number = line.line.number;
+        write!(text, "{path}:{number}")
     }
 
     /// Adds the place of the line of an index and the name of its symbol.
@@ -108,43 +114,75 @@ impl MergeText<'_, '_, '_, '_, '_> {
         Ok(())
     }
 
-    /// Adds which line of a fragment a line takes the place of, where that gives another value.
+    /// Adds which line of its symbol a line takes the place of, where that gives another value.
     fn push_replaced(
         &self,
         text: &mut String,
-        last: &[Option<usize>],
         index: usize,
         assign: &Assign,
     ) -> Result<(), AllocError> {
-        let Some(before) = last.get(assign.symbol.0 as usize).copied().flatten() else {
+        let Some(before) = self.replaced.same(index) else {
             return Ok(());
         };
-        let Some(line) = self.read.lines.get(before) else {
+        let Some(earlier) = assign_at(self.read.lines.as_slice(), before) else {
             return Ok(());
         };
-        let LineSays::Usable(earlier) = &line.says else {
-            return Ok(());
-        };
-        if is_same(&earlier.value, &assign.value) {
+        if is_same_user_value(&earlier.value, &assign.value) {
             return Ok(());
         }
-        self.push_head(text, index, assign)?;
-        push_asked(text, self.view, assign.symbol, &assign.value)?;
-        text.push_str(" takes the place of ")?;
+        self.push_taken(text, index, assign)?;
         push_asked(text, self.view, assign.symbol, &earlier.value)?;
-        text.push_str(" (")?;
-        self.push_at(text, before)?;
-        text.push_str(")\n")?;
-        Ok(())
+        self.push_bracketed_at(text, before)
     }
 
-    /// Adds that a symbol has another value than a line gives it, and why.
+    /// Adds which other member of its choice a line takes the place of.
+    fn push_rival(
+        &self,
+        text: &mut String,
+        index: usize,
+        assign: &Assign,
+    ) -> Result<(), AllocError> {
+        let Some(before) = self.replaced.rival(index) else {
+            return Ok(());
+        };
+        let Some(earlier) = assign_at(self.read.lines.as_slice(), before) else {
+            return Ok(());
+        };
+        self.push_taken(text, index, assign)?;
+        text.push_str(self.view.tree().name(earlier.symbol))?;
+        text.push('=')?;
+        push_asked(text, self.view, earlier.symbol, &earlier.value)?;
+        self.push_bracketed_at(text, before)
+    }
+
+    /// Adds that what a line gives takes the place of something.
+    fn push_taken(
+        &self,
+        text: &mut String,
+        index: usize,
+        assign: &Assign,
+    ) -> Result<(), AllocError> {
+        self.push_head(text, index, assign)?;
+        push_asked(text, self.view, assign.symbol, &assign.value)?;
+        text.push_str(" takes the place of ")
+    }
+
+    /// Adds the place of the line of an index in brackets, at the end of a line: ` (PATH:LINE)`.
+    fn push_bracketed_at(&self, text: &mut String, index: usize) -> Result<(), AllocError> {
+        text.push_str(" (")?;
+        self.push_at(text, index)?;
+        text.push_str(")\n")
+    }
+
+    /// Adds that a symbol has another value than a line gives it, and why: where another line gives it that value, which
+    /// chose it in its choice, that one.
     fn push_other(
         &self,
         alloc: Global,
         text: &mut String,
         index: usize,
         assign: &Assign,
+        got: &[Option<usize>],
     ) -> Result<(), AllocError> {
         if self.outcomes.get(index) != Some(&Outcome::Other) {
             return Ok(());
@@ -155,32 +193,15 @@ impl MergeText<'_, '_, '_, '_, '_> {
         text.push_str(", got ")?;
         push_value(text, self.view, assign.symbol)?;
         text.push_str(": ")?;
-        push_shortfall(
-            alloc,
-            text,
-            self.view,
-            self.places,
-            assign.symbol,
-            &assign.value,
-        )?;
+        match got.get(assign.symbol.0 as usize).copied().flatten() {
+            Some(chooser) => {
+                self.push_at(text, chooser)?;
+                text.push_str(" chose it")?;
+            }
+            None => push_shortfall(alloc, text, self.view, assign.symbol, &assign.value)?,
+        }
         text.push('\n')?;
         Ok(())
-    }
-}
-
-/// Makes a line the last that names its symbol.
-fn set_last(last: &mut Vec<Option<usize>>, assign: &Assign, index: usize) {
-    if let Some(slot) = last.get_mut(assign.symbol.0 as usize) {
-        *slot = Some(index);
-    }
-}
-
-/// Whether two values are the same.
-fn is_same(value: &UserVal, other: &UserVal) -> bool {
-    match (value, other) {
-        (UserVal::Tri(value), UserVal::Tri(other)) => *value == *other,
-        (UserVal::Text(value), UserVal::Text(other)) => value.as_str() == other.as_str(),
-        (UserVal::Tri(_), UserVal::Text(_)) | (UserVal::Text(_), UserVal::Tri(_)) => false,
     }
 }
 
@@ -199,21 +220,17 @@ fn push_unusable_words(
         }
         WarningKind::BadString => text.push_str("a string without quotes"),
         WarningKind::BadValue => {
-            let name = type_words(symbol_type);
+            let name = kind_words(symbol_type);
             write!(text, "`{value}` is no value of {name}")
         }
         WarningKind::Malformed | WarningKind::Repeated => text.push_str("no line of a .config"),
     }
 }
 
-/// What a type is called.
-fn type_words(kind: Option<SymbolType>) -> &'static str {
+/// What a type is called, and what has none as far as is known.
+fn kind_words(kind: Option<SymbolType>) -> &'static str {
     match kind {
-        Some(SymbolType::Bool) => "a bool",
-        Some(SymbolType::Tristate) => "a tristate",
-        Some(SymbolType::String) => "a string",
-        Some(SymbolType::Int) => "an int",
-        Some(SymbolType::Hex) => "a hex",
+        Some(kind) => type_words(kind),
         None => "the symbol",
     }
 }
@@ -227,13 +244,12 @@ pub(crate) fn push_lost(
     alloc: Global,
     text: &mut String,
     view: &View<'_>,
-    places: &Places<'_, '_>,
     before: &EffectsBefore,
     lost: &[usize],
 ) -> Result<(), AllocError> {
     for index in lost {
         if let Some(line) = before.lines.get(*index) {
-            push_lost_line(alloc, text, view, places, before.path.as_str(), line)?;
+            push_lost_line(alloc, text, view, before.path.as_str(), line)?;
         }
     }
     Ok(())
@@ -244,7 +260,6 @@ fn push_lost_line(
     alloc: Global,
     text: &mut String,
     view: &View<'_>,
-    places: &Places<'_, '_>,
     path: &str,
     line: &UsableLine,
 ) -> Result<(), AllocError> {
@@ -256,7 +271,28 @@ fn push_lost_line(
     text.push_str(", is ")?;
     push_value(text, view, symbol)?;
     text.push_str(": ")?;
-    push_shortfall(alloc, text, view, places, symbol, &line.assign.value)?;
+    push_shortfall(alloc, text, view, symbol, &line.assign.value)?;
     text.push('\n')?;
     Ok(())
+}
+
+/// Adds the counts, as the last line of a report.
+pub(crate) fn push_counts(
+    text: &mut String,
+    counts: &MergeCounts,
+    config: &str,
+) -> Result<(), AllocError> {
+    let asked = counts.asked;
+    let got = counts.got;
+    let other = counts.other;
+    let unusable = counts.unusable;
+    let replaced = counts.replaced;
+    write!(
+        text,
+        "{asked} asked: {got} got, {other} got another value, {unusable} unusable, {replaced} replaced; "
+    )?;
+    match counts.lost {
+        1 => write!(text, "1 line of {config} lost\n"),
+        lost => write!(text, "{lost} lines of {config} lost\n"),
+    }
 }

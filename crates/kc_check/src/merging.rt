@@ -3,16 +3,13 @@
 ghost use Rattle.std.specs.Prelude.{◌≡◌, ◌+◌, IfOk, count_by, length};
 ghost use Rattle.kc_value.specs.Assignment.{assignment_of};
 ghost use Rattle.kc_value.specs.Solution.{AreSolved};
-ghost use Rattle.kc_check.specs.Outcomes.{fragment_lines, outcomes, is_got, is_other, is_unusable, is_replaced};
+ghost use Rattle.kc_facts.specs.Outcomes.{fragment_lines, outcomes, is_got, is_other, is_unusable, is_replaced};
 
-use crate::counts::MergeCounts;
 use crate::earlier_effects::EffectsBefore;
-use crate::fragments::read_fragments;
-use crate::inputs::Input;
-use crate::merge_lines::{MergeText, push_lost};
-use crate::outcomes::{Outcome, outcomes_of};
+use crate::merge_lines::{MergeText, push_counts, push_lost};
+use crate::replaced::Replaced;
+use kc_facts::{Input, MergeCounts, Outcome, View, outcomes_of, read_fragments};
 use kc_files::{Prefix, ReadFault};
-use kc_report::{Places, View};
 use std::alloc::Global;
 
 /// What became of the lines of fragments.
@@ -38,13 +35,12 @@ pub struct MergeReport {
 pub fn merge_report(
     alloc: Global,
     view: &View<'_>,
-    places: &Places<'_, '_>,
     prefix: &Prefix,
     before: &EffectsBefore,
     fragments: &[Input<'_>],
 ) -> Result<MergeReport, ReadFault>
     ensures outcomes { IfOk result (λ r. r.outcomes.items
-        ≡ outcomes (assignment_of view.now.tree view.now.values) (fragment_lines view.now.tree prefix.now fragments.now)) }
+        ≡ outcomes view.now.tree (assignment_of view.now.tree view.now.values) (fragment_lines view.now.tree prefix.now fragments.now)) }
     ensures asked { IfOk result (λ r. r.counts.asked ≡ length r.outcomes.items) }
     ensures got { IfOk result (λ r. r.counts.got ≡ count_by is_got r.outcomes.items) }
     ensures other { IfOk result (λ r. r.counts.other ≡ count_by is_other r.outcomes.items) }
@@ -57,18 +53,19 @@ pub fn merge_report(
     let values = view.values();
     let read = read_fragments(alloc, tree, prefix, fragments)?;
     let outcomes = outcomes_of(alloc, tree, values, read.lines.as_slice())?;
+    let replaced = Replaced::of(alloc, read.lines.as_slice(), outcomes.as_slice())?;
     let lost = before.lost(alloc, tree, values, read.lines.as_slice())?;
     let counts = MergeCounts::of(outcomes.as_slice(), lost.len());
     let lines = MergeText {
         view,
-        places,
         fragments,
         read: &read,
         outcomes: outcomes.as_slice(),
+        replaced: &replaced,
     };
     let mut text = lines.written(alloc)?;
-    push_lost(alloc, &mut text, view, places, before, lost.as_slice())?;
-    counts.push_line(&mut text, before.path.as_str())?;
+    push_lost(alloc, &mut text, view, before, lost.as_slice())?;
+    push_counts(&mut text, &counts, before.path.as_str())?;
     Ok(MergeReport {
         text,
         counts,

@@ -1,14 +1,15 @@
-//! Selects that have no effect, and symbols that are selected while their dependencies are n.
+//! Selects that have no effect, and symbols that are selected for more than their dependencies are worth.
 
 use crate::finding::Finding;
-use crate::forced::is_forced;
 use crate::tokens::word_of;
 use crate::walk::Placed;
-use kc_explain::shown_line;
-use kc_report::{Places, View, depends_line, push_expr, push_place, select_line};
+use kc_facts::{
+    Attribute, FactorLines, Family, LineIndex, Part, View, is_above, is_beyond, is_if, push_expr,
+    push_place, shown_line, worth_of_dependencies,
+};
 use kc_statement::Keyword;
 use kc_text::Line;
-use kc_tree::{BlockId, BlockKind, Expr, Reverse, Tree};
+use kc_tree::{Expr, Reverse, Symbol, Tree, Tri};
 use kc_value::{Factor, FactorPart, Origin, dependency_factors, reverse_value};
 use std::alloc::{AllocError, Global};
 
@@ -56,8 +57,8 @@ pub(crate) fn owner_name<'t>(tree: &'t Tree, placed: &Placed) -> &'t str {
     }
 }
 
-/// Adds that a symbol is selected while its dependencies are n, which a `select` passes over (docs/VALUES.md, "Select").
-/// It is said where the symbol is defined first.
+/// Adds that a symbol is selected for more than its dependencies are worth, which a `select` passes over (docs/VALUES.md,
+/// "Select"). It is said where the symbol is defined first.
 ///
 /// # Errors
 ///
@@ -65,7 +66,7 @@ pub(crate) fn owner_name<'t>(tree: &'t Tree, placed: &Placed) -> &'t str {
 pub(crate) fn check_selected(
     alloc: Global,
     view: &View<'_>,
-    places: &Places<'_, '_>,
+    index: &LineIndex<'_, '_>,
     line: &Line<'_>,
     number: usize,
     found: &mut Vec<Finding>,
@@ -78,70 +79,109 @@ pub(crate) fn check_selected(
     let Some(symbol) = tree.symbols().get(id.0 as usize) else {
         return Ok(());
     };
-    if symbol.definitions().first() != Some(&number) || !is_forced(alloc, view, id)? {
+    if symbol.definitions().first() != Some(&number) || !is_beyond(alloc, view, id)? {
         return Ok(());
     }
-    let Some(selection) = active_selection(view, symbol.selected()) else {
+    let worth = nearest_worth(alloc, view, symbol)?;
+    let Some(place) = selection_above(view, symbol.selected(), worth.value) else {
+        return Ok(());
+    };
+    let Some(selection) = symbol.selected().get(place) else {
         return Ok(());
     };
     let name = tree.name(id);
     let mut words = String::from_str(alloc, "selected by ")?;
-    push_selection(&mut words, tree, places, name, symbol.selected(), selection)?;
+    push_selection(&mut words, tree, index, selection)?;
     words.push_str(", while ")?;
-    push_unmet(alloc, &mut words, view, places, number)?;
-    words.push_str(" is n")?;
+    push_unmet(alloc, &mut words, view, index, worth)?;
     found.push(Finding::in_line(alloc, line.path(), line.number(), name, words)?)?;
     Ok(())
 }
 
-/// The first of the `select` lines of a symbol that gives it a value.
-fn active_selection(view: &View<'_>, selected: &[Reverse]) -> Option<usize> {
-    selected
-        .iter()
-        .position(|line| !reverse_value(view.known(), line).is_no())
+/// What the dependencies of a definition are worth.
+#[derive(Clone, Copy)]
+struct Worth {
+    /// The number of the definition.
+    definition: usize,
+    value: Tri,
 }
 
-/// Adds which symbol selects another by the `select` line of a number, and where: `U (Kconfig:26)`.
+/// Of the definitions of a symbol the one whose dependencies are worth most, the first of several.
+fn nearest_worth(alloc: Global, view: &View<'_>, symbol: &Symbol) -> Result<Worth, AllocError> {
+    let definition = symbol.definitions().first().copied().unwrap_or(0);
+    let mut nearest = Worth {
+        definition,
+        value: Tri::No,
+    };
+    for number in symbol.definitions() {
+        let value = worth_of_dependencies(alloc, view.known(), *number)?;
+        if is_above(value, nearest.value) {
+            nearest = Worth {
+                definition: *number,
+                value,
+            };
+        }
+    }
+    Ok(nearest)
+}
+
+/// The place of the first of the `select` lines of a symbol that gives more than a value.
+fn selection_above(view: &View<'_>, selected: &[Reverse], value: Tri) -> Option<usize> {
+    selected.iter().position(|reverse| is_above(reverse_value(view.known(), reverse), value))
+}
+
+/// Adds which symbol selects another by a `select` line, and where: `U (Kconfig:26)`.
 fn push_selection(
     words: &mut String,
     tree: &Tree,
-    places: &Places<'_, '_>,
-    name: &str,
-    selected: &[Reverse],
-    number: usize,
+    index: &LineIndex<'_, '_>,
+    selection: &Reverse,
 ) -> Result<(), AllocError> {
-    let Some(line) = selected.get(number) else {
-        return Ok(());
-    };
-    let before = selected
-        .iter()
-        .take(number)
-        .filter(|other| other.definition == line.definition)
-        .count();
-    words.push_str(tree.name(line.by))?;
-    let attributes = places.attributes_of_definition(line.definition);
-    push_bracketed(words, select_line(attributes, name, before))
+    words.push_str(tree.name(selection.by))?;
+    let part = Part::Said(
+        Family::Definition,
+        selection.definition,
+        Attribute::Select,
+        selection.number,
+    );
+    push_bracketed(words, index.line(part))
 }
 
-/// Adds the first line by which the dependencies of a definition are n, and where it is: `` its `depends on A` (Kconfig:23) ``.
+/// Adds the first line by which the dependencies of a definition are worth no more, where it is, and its value:
+/// `` its `depends on A` (Kconfig:23) is n ``.
 fn push_unmet(
     alloc: Global,
     words: &mut String,
     view: &View<'_>,
-    places: &Places<'_, '_>,
-    number: usize,
+    index: &LineIndex<'_, '_>,
+    worth: Worth,
 ) -> Result<(), AllocError> {
-    let factors = dependency_factors(alloc, view.known(), number)?;
-    let Some(factor) = factors.iter().find(|factor| factor.value.is_no()) else {
-        return words.push_str("what it depends on");
-    };
+    let factors = dependency_factors(alloc, view.known(), worth.definition)?;
+    match factors.iter().find(|factor| factor.value == worth.value) {
+        Some(factor) => push_factor_line(alloc, words, view, index, worth.definition, factor)?,
+        None => words.push_str("what it depends on")?,
+    }
+    words.push_str(" is ")?;
+    words.push_str(worth.value.letter())
+}
+
+/// Adds a factor of the dependencies of a definition as its line, and where that is.
+fn push_factor_line(
+    alloc: Global,
+    words: &mut String,
+    view: &View<'_>,
+    index: &LineIndex<'_, '_>,
+    definition: usize,
+    factor: &Factor<'_>,
+) -> Result<(), AllocError> {
     words.push_str("its `")?;
     words.push_str(keyword_of(view.tree(), factor.origin))?;
     if let FactorPart::Expression(expr) = factor.part {
         push_shown_expr(alloc, words, view.tree(), expr)?;
     }
     words.push('`')?;
-    push_bracketed(words, factor_line(view.tree(), places, number, factor))
+    let line = FactorLines::new(alloc, index).find(alloc, view.tree(), definition, factor)?;
+    push_bracketed(words, line)
 }
 
 /// Adds an expression, of a long one the first 160 bytes.
@@ -175,28 +215,5 @@ fn keyword_of(tree: &Tree, origin: Origin) -> &'static str {
         Origin::Block(block, _) if is_if(tree, block) => "if ",
         Origin::Visible(_, _) => "visible if ",
         _ => "depends on ",
-    }
-}
-
-/// Whether a block is an `if`.
-fn is_if(tree: &Tree, block: BlockId) -> bool {
-    match tree.blocks().get(block.0) {
-        Some(block) => matches!(block.kind(), BlockKind::If),
-        None => false,
-    }
-}
-
-/// The line of a factor of a definition's dependencies.
-fn factor_line<'l, 'a>(
-    tree: &Tree,
-    places: &Places<'l, 'a>,
-    number: usize,
-    factor: &Factor<'_>,
-) -> Option<&'l Line<'a>> {
-    match factor.origin {
-        Origin::Own(place) => depends_line(places.attributes_of_definition(number), place),
-        Origin::Block(block, _) if is_if(tree, block) => places.block(block),
-        Origin::Block(block, place) => depends_line(places.attributes_of_block(block), place),
-        _ => None,
     }
 }

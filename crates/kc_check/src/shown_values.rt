@@ -1,7 +1,6 @@
 //! Values as messages write them.
 
-use kc_explain::shown_line;
-use kc_report::View;
+use kc_facts::{View, shown_line};
 use kc_tree::{Node, SymId, SymbolType, UserVal};
 use std::alloc::{AllocError, Global};
 
@@ -37,6 +36,18 @@ pub(crate) fn push_value(
         None => "",
     };
     push_text(words, view.tree().symbol_type(symbol), text)
+}
+
+/// Whether a symbol is an int or a hex without a value, for which kconf writes a line that it can't use.
+pub(crate) fn has_no_value(view: &View<'_>, symbol: SymId) -> bool {
+    let is_number = matches!(
+        view.tree().symbol_type(symbol),
+        SymbolType::Int | SymbolType::Hex
+    );
+    match view.known().get(Node::Val(symbol)) {
+        Some(value) => is_number && value.as_text() == "",
+        None => false,
+    }
 }
 
 /// Adds the text of a value: that of a string in quotes.

@@ -1,7 +1,7 @@
 //! The tokens of a line that are names of symbols.
 
-use crate::walk::Placed;
-use kc_statement::Keyword;
+use crate::walk::{Part, Placed};
+use kc_statement::{Keyword, is_word};
 use kc_text::{Operator, Token};
 
 /// The word that a token is, also one that holds a reference.
@@ -23,6 +23,32 @@ pub(crate) fn names_start(placed: &Placed) -> Option<usize> {
         Keyword::Int | Keyword::Hex => Some(2),
         _ => None,
     }
+}
+
+/// The place of the one token that is the value of a default, also in parentheses; none in other lines.
+pub(crate) fn lone_value(tokens: &[Token<'_>], placed: &Placed) -> Option<usize> {
+    if !matches!(placed.part, Part::Default(_)) {
+        return None;
+    }
+    let values = tokens.get(1..)?;
+    let opened = values.iter().take_while(|token| is_open(token)).count();
+    let after = values.get(opened.saturating_add(1)..)?;
+    let closed = after.iter().take_while(|token| is_close(token)).count();
+    let is_all = match after.get(closed) {
+        Some(token) => is_word(token, "if"),
+        None => true,
+    };
+    (is_all && opened == closed).then_some(opened.saturating_add(1))
+}
+
+/// Whether a token is `(`.
+fn is_open(token: &Token<'_>) -> bool {
+    matches!(token, Token::Operator(Operator::Open))
+}
+
+/// Whether a token is `)`.
+fn is_close(token: &Token<'_>) -> bool {
+    matches!(token, Token::Operator(Operator::Close))
 }
 
 /// Whether the token at a place is a side of a comparison.

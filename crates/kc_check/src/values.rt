@@ -1,16 +1,16 @@
 //! Findings about defaults and ranges.
 
-use crate::defaults::{free_default_before, is_unread_text, meant_tri};
 use crate::finding::Finding;
-use crate::ranges::{certain_range, has_exchanged_sides, is_outside};
-use kc_explain::shown_line;
-use kc_report::{Places, default_line, push_expr, push_term};
+use kc_facts::{
+    certain_range, has_exchanged_sides, is_outside, is_unread_text, meant_tri, push_term,
+    shown_line,
+};
 use kc_statement::{DefaultValue, Range, SymbolType, Term, lone_term};
 use kc_text::Line;
 use kc_tree::{Definition, SymId, Tree};
 use std::alloc::{AllocError, Global};
 
-/// Adds what is wrong with the default of a number of a definition, which a line has.
+/// Adds what is wrong with the default at a place in the definition of a number, which a line has.
 ///
 /// # Errors
 ///
@@ -18,35 +18,22 @@ use std::alloc::{AllocError, Global};
 pub(crate) fn check_default(
     alloc: Global,
     tree: &Tree,
-    places: &Places<'_, '_>,
     line: &Line<'_>,
-    place: DefaultAt,
+    number: usize,
+    place: usize,
     found: &mut Vec<Finding>,
 ) -> Result<(), AllocError> {
-    let Some(definition) = tree.definitions().get(place.definition) else {
+    let Some(definition) = tree.definitions().get(number) else {
         return Ok(());
     };
-    let Some(default) = definition.defaults().get(place.number) else {
+    let Some(default) = definition.defaults().get(place) else {
         return Ok(());
     };
-    let name = tree.name(definition.symbol());
-    let path = line.path();
-    let number = line.number();
-    if let Some(words) = constant_words(alloc, tree, place.definition, definition, default)? {
-        found.push(Finding::in_line(alloc, path, number, name, words)?)?;
-    }
-    if let Some(free) = free_default_before(definition.defaults(), place.number) {
-        let words = unused_words(alloc, tree, places, default, place.definition, free)?;
-        found.push(Finding::in_line(alloc, path, number, name, words)?)?;
+    if let Some(words) = constant_words(alloc, tree, number, definition, default)? {
+        let name = tree.name(definition.symbol());
+        found.push(Finding::in_line(alloc, line.path(), line.number(), name, words)?)?;
     }
     Ok(())
-}
-
-/// A default, by the number of its definition and its own there.
-#[derive(Clone, Copy)]
-pub(crate) struct DefaultAt {
-    pub definition: usize,
-    pub number: usize,
 }
 
 /// What is said of a default, in the definition of a number, that is a constant which its symbol does not take as it is
@@ -132,29 +119,6 @@ fn number_words(
     words.push_str(" is outside the ")?;
     push_range(alloc, &mut words, tree, range)?;
     Ok(Some(words))
-}
-
-/// What is said of a default after one of a number that has no condition.
-fn unused_words(
-    alloc: Global,
-    tree: &Tree,
-    places: &Places<'_, '_>,
-    default: &DefaultValue,
-    definition: usize,
-    free: usize,
-) -> Result<String, AllocError> {
-    let mut value = String::new(alloc);
-    push_expr(&mut value, tree, &default.value)?;
-    let shown = shown_line(value.as_str());
-    match default_line(places.attributes_of_definition(definition), free) {
-        Some(line) => {
-            let number = line.number();
-            format!(in alloc;
-                "default {shown} is never used: the one of line {number} has no condition"
-            )
-        }
-        None => format!(in alloc; "default {shown} is never used"),
-    }
 }
 
 /// Adds that the sides of the range of a definition are exchanged, which a line has.

@@ -1,94 +1,86 @@
-//! Variables that nobody gave, and given ones that no file uses.
+//! The variables that the files of a Kconfig refer to and define.
 
 use crate::finding::Finding;
 use crate::inputs::SourceText;
-use kc_explain::references_in;
+use kc_facts::{references_in, value_references_in};
+use kc_text::{FileItem, leading_item};
 use std::alloc::{AllocError, Global};
 use std::collections::{BTreeMap, BTreeSet};
 
-/// The distance between the places to which a tab leads.
-const TAB: usize = 8;
-
-/// Where a variable is referred to first.
-#[derive(Clone, Copy)]
-struct Use<'i> {
-    path: &'i str,
-    line: usize,
-}
-
-/// The variables of texts: where each is referred to first, and which a line defines.
+/// What a line of a file does that the order of findings rests on.
 #[derive(Drop)]
-pub(crate) struct Variables<'i> {
-    used: BTreeMap<&'i str, Use<'i>>,
-    /// The names that are used, in the order of their first uses.
-    in_order: Vec<&'i str>,
-    defined: BTreeSet<&'i str>,
+pub(crate) struct Mark {
+    /// The number of the line.
+    pub line: usize,
+    /// The variable to which it refers as the first line of its file; none where the line is a `source` line.
+    pub name: Option<String>,
 }
 
-/// Whether a line is one of a help text, by the lines before it.
-#[derive(Clone, Copy, PartialEq, Eq)]
-enum Help {
-    /// No help text is open.
-    None,
-    /// A `help` line was the last that is not empty.
-    Begun,
-    /// A help text is open, whose first line has this indentation.
-    Open(usize),
+/// The marks of a file, in the order of its lines.
+#[derive(Drop)]
+pub(crate) struct MarkedFile {
+    pub path: String,
+    pub marks: Vec<Mark>,
 }
 
-/// Names as a set.
-fn names_of<'i>(alloc: Global, names: &[&'i str]) -> Result<BTreeSet<&'i str>, AllocError> {
-    let mut set = BTreeSet::new(alloc);
-    for name in names {
-        set.insert(*name)?;
+impl MarkedFile {
+    /// How many of its marks after so many are in lines up to that of a number.
+    pub fn count_up_to(&self, passed: usize, line: usize) -> usize {
+        let left = self.marks.as_slice().get(passed..).unwrap_or(&[]);
+        left.iter().take_while(|mark| mark.line <= line).count()
     }
-    Ok(set)
+
+    /// How many of its marks after so many come up to its next `source` line, with that line.
+    pub fn count_up_to_source(&self, passed: usize) -> usize {
+        let left = self.marks.as_slice().get(passed..).unwrap_or(&[]);
+        match left.iter().position(|mark| mark.name.is_none()) {
+            Some(before) => before.saturating_add(1),
+            None => 0,
+        }
+    }
 }
 
-impl<'i> Variables<'i> {
-    /// Those of the texts of a Kconfig. What a comment or a help text says is no reference.
+/// The variables of the files of a Kconfig.
+#[derive(Drop)]
+pub(crate) struct Variables {
+    /// The names that are referred to, each with the number of the last file that does.
+    used: BTreeMap<String, usize>,
+    defined: BTreeSet<String>,
+    files: Vec<MarkedFile>,
+}
+
+impl Variables {
+    /// Those of the files of a Kconfig, each of whose texts is taken apart as the reader does. What a comment or a help
+    /// text says is no reference and no definition.
     ///
     /// # Errors
     ///
     /// `AllocError` where memory is refused.
-    pub fn of(alloc: Global, sources: &[SourceText<'i>]) -> Result<Variables<'i>, AllocError> {
+    pub fn of(alloc: Global, sources: &[SourceText<'_>]) -> Result<Variables, AllocError> {
         let mut variables = Variables {
             used: BTreeMap::new(alloc),
-            in_order: Vec::new(alloc),
             defined: BTreeSet::new(alloc),
+            files: Vec::new(alloc),
         };
         for source in sources {
-            variables.add_text(alloc, *source)?;
+            let marks = variables.marks_of(alloc, source.text)?;
+            let path = String::from_str(alloc, source.path)?;
+            variables.files.push(MarkedFile { path, marks })?;
         }
         Ok(variables)
     }
 
-    /// Adds the variables that nobody gave and no line defines, each where it is referred to first.
-    ///
-    /// # Errors
-    ///
-    /// `AllocError` where memory is refused.
-    pub fn add_missing(
-        &self,
-        alloc: Global,
-        given: &[&str],
-        found: &mut Vec<Finding>,
-    ) -> Result<(), AllocError> {
-        let given = names_of(alloc, given)?;
-        for name in &self.in_order {
-            if given.contains(*name) || self.defined.contains(*name) {
-                continue;
-            }
-            if let Some(first) = self.used.get(*name) {
-                let words = String::from_str(alloc, "not given, and no line defines it")?;
-                let finding = Finding::in_line(alloc, first.path, first.line, name, words)?;
-                found.push(finding)?;
-            }
-        }
-        Ok(())
+    /// The files, in the order in which they were passed in.
+    pub fn files(&self) -> &[MarkedFile] {
+        self.files.as_slice()
     }
 
-    /// Adds the given variables that are used nowhere.
+    /// Whether a line of a file defines a variable of a name.
+    pub fn defines(&self, name: &str) -> bool {
+        self.defined.contains(name)
+    }
+
+    /// Adds the given variables that are used nowhere, each once.
     ///
     /// # Errors
     ///
@@ -99,119 +91,81 @@ impl<'i> Variables<'i> {
         given: &[&str],
         found: &mut Vec<Finding>,
     ) -> Result<(), AllocError> {
+        let mut passed = BTreeSet::new(alloc);
         for name in given {
-            if !self.used.contains_key(*name) {
+            if !self.used.contains_key(*name) && !passed.contains(*name) {
                 let words = String::from_str(alloc, "given, and used nowhere")?;
                 found.push(Finding::of_name(alloc, name, words)?)?;
+                passed.insert(*name)?;
             }
         }
         Ok(())
     }
 
-    /// Adds those of a text.
-    fn add_text(&mut self, alloc: Global, source: SourceText<'i>) -> Result<(), AllocError> {
-        let mut help = Help::None;
-        for (index, line) in source.text.lines().enumerate() {
-            help = help.after(line);
-            if !matches!(help, Help::Open(_)) {
-                let number = index.saturating_add(1);
-                self.add_line(alloc, source.path, number, line)?;
-            }
+    /// Takes over the references and definitions of a text, and gives its marks.
+    fn marks_of(&mut self, alloc: Global, text: &str) -> Result<Vec<Mark>, AllocError> {
+        let mut marks = Vec::new(alloc);
+        let mut rest = text;
+        let mut line = 1usize;
+        while let Some((item, after)) = leading_item(alloc, rest)? {
+            self.add_item(alloc, &item, line, &mut marks)?;
+            line = line.saturating_add(item.more()).saturating_add(1);
+            rest = after;
         }
-        Ok(())
+        Ok(marks)
     }
 
-    /// Adds those of a line.
-    fn add_line(
+    /// Takes over what an item refers to and defines, which begins in the line of a number.
+    fn add_item(
         &mut self,
         alloc: Global,
-        path: &'i str,
+        item: &FileItem<'_>,
         line: usize,
-        text: &'i str,
+        marks: &mut Vec<Mark>,
     ) -> Result<(), AllocError> {
-        if let Some(name) = defined_name(text) {
+        if let Some(definition) = item.definition() {
+            let name = String::from_str(alloc, definition.name.as_str())?;
             self.defined.insert(name)?;
+            let names = value_references_in(alloc, definition.value.as_str())?;
+            return self.add_uses(alloc, names.as_slice(), line, marks);
         }
-        if !text.contains('$') {
-            return Ok(());
+        let text = item.text();
+        if text.contains('$') {
+            let names = references_in(alloc, text)?;
+            self.add_uses(alloc, names.as_slice(), line, marks)?;
         }
-        for name in references_in(alloc, before_comment(text))?.as_slice() {
-            if !self.used.contains_key(*name) {
-                self.used.insert(*name, Use { path, line })?;
-                self.in_order.push(*name)?;
+        if is_source(text) {
+            marks.push(Mark { line, name: None })?;
+        }
+        Ok(())
+    }
+
+    /// Takes over references, of which those get marks that are the first of their names in the file.
+    fn add_uses(
+        &mut self,
+        alloc: Global,
+        names: &[&str],
+        line: usize,
+        marks: &mut Vec<Mark>,
+    ) -> Result<(), AllocError> {
+        let file = self.files.len();
+        for name in names {
+            if self.used.get(*name) == Some(&file) {
+                continue;
             }
+            self.used.insert(String::from_str(alloc, name)?, file)?;
+            let name = Some(String::from_str(alloc, name)?);
+            marks.push(Mark { line, name })?;
         }
         Ok(())
     }
 }
 
-impl Help {
-    /// What is open at a line, by what was open before it. A line is one of a help text where that is open.
-    fn after(self, line: &str) -> Help {
-        let is_blank = line.trim() == "";
-        match self {
-            Help::Begun if is_blank => Help::Begun,
-            Help::Open(column) if is_blank => Help::Open(column),
-            Help::Begun if indentation(line) > 0 => Help::Open(indentation(line)),
-            Help::Open(column) if indentation(line) >= column => Help::Open(column),
-            _ if is_help_line(line) => Help::Begun,
-            _ => Help::None,
-        }
+/// Whether a statement begins with the word `source`.
+fn is_source(statement: &str) -> bool {
+    let statement = statement.trim_start_matches([' ', '\t']);
+    match statement.strip_prefix("source") {
+        Some(after) => after.starts_with([' ', '\t', '"', '\'']),
+        None => false,
     }
-}
-
-/// Whether a line begins a help text.
-fn is_help_line(line: &str) -> bool {
-    let word = line.trim().split(' ').next().unwrap_or("");
-    word == "help" || word == "---help---"
-}
-
-/// How far a line is indented, where a tab leads to the next place that is a multiple of 8.
-fn indentation(line: &str) -> usize {
-    let mut column = 0usize;
-    for byte in line.bytes() {
-        if byte == b' ' {
-            column = column.saturating_add(1);
-        } else if byte == b'\t' {
-            column = (column / TAB).saturating_add(1).saturating_mul(TAB);
-        } else {
-            break;
-        }
-    }
-    column
-}
-
-/// A line up to its comment.
-fn before_comment(line: &str) -> &str {
-    let mut quote = None;
-    let mut is_escaped = false;
-    for (place, character) in line.char_indices() {
-        if is_escaped {
-            is_escaped = false;
-        } else if quote == Some(character) {
-            quote = None;
-        } else if quote.is_some() {
-            is_escaped = character == '\\';
-        } else if character == '"' || character == '\'' {
-            quote = Some(character);
-        } else if character == '#' {
-            return line.get(..place).unwrap_or(line);
-        }
-    }
-    line
-}
-
-/// The name of the variable that a line defines: its first word, before `=`, `:=` or `+=`.
-fn defined_name(line: &str) -> Option<&str> {
-    let line = line.trim_start_matches([' ', '\t']);
-    let len = line.bytes().take_while(|byte| is_name_byte(*byte)).count();
-    let name = line.get(..len)?;
-    let after = line.get(len..)?.trim_start_matches([' ', '\t']);
-    let is_defined = after.starts_with('=') || after.starts_with(":=") || after.starts_with("+=");
-    (is_defined && name != "").then_some(name)
-}
-
-/// Whether a byte is one of the name of a variable.
-fn is_name_byte(byte: u8) -> bool {
-    byte.is_ascii_alphanumeric() || byte == b'_' || byte == b'-'
 }

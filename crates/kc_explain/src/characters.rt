@@ -40,7 +40,7 @@ pub(crate) struct Spot {
 
 /// What is read of a line that may go on over line ends.
 #[derive(Clone, Copy)]
-pub(crate) struct Reading {
+struct Reading {
     /// The quote that is open.
     quote: Option<Spot>,
     /// Whether a backslash is before the next character.
@@ -50,38 +50,16 @@ pub(crate) struct Reading {
 }
 
 impl Reading {
-    /// At the beginning of a line.
-    fn start() -> Reading {
-        Reading {
-            quote: None,
-            is_escaped: false,
-            half: None,
-        }
-    }
-
     /// Goes past a character, which `next` follows. Gives whether it is one that is not allowed.
     fn pass(&mut self, spot: Spot, next: Option<char>) -> bool {
-        match self.quote {
-            Some(quote) => {
-                self.pass_quoted(spot.character, quote.character);
-                false
-            }
-            None => self.pass_plain(spot, next),
-        }
-    }
-
-    fn pass_quoted(&mut self, character: char, quote: char) {
-        if self.is_escaped {
-            self.is_escaped = false;
-        } else if character == '\\' {
-            self.is_escaped = true;
-        } else if character == quote {
-            self.quote = None;
-        }
-    }
-
-    fn pass_plain(&mut self, spot: Spot, next: Option<char>) -> bool {
         let character = spot.character;
+        if let Some(quote) = self.quote {
+            if character == quote.character && !self.is_escaped {
+                self.quote = None;
+            }
+            self.is_escaped = character == '\\' && !self.is_escaped;
+            return false;
+        }
         if self.half.take() == Some(character) {
             return false;
         }
@@ -103,38 +81,27 @@ fn is_allowed(character: char) -> bool {
         )
 }
 
-/// What is at fault in a line that may go on over line ends.
-#[derive(Clone, Copy)]
-pub(crate) struct Found {
-    /// The first character that is not allowed.
-    pub(crate) bad: Option<Spot>,
-    /// The quote that is open at the end.
-    pub(crate) open: Option<Spot>,
-}
-
-/// What is at fault in the line of a number, which goes on after a line end before which a backslash is.
-pub(crate) fn find_faults(text: &str, number: usize) -> Found {
-    let mut reading = Reading::start();
-    let mut bad = None;
+/// The first character that is not allowed in the line of a number, and the quote that is open at its end. The line goes
+/// on after a line end before which a backslash is.
+pub(crate) fn find_faults(text: &str, number: usize) -> (Option<Spot>, Option<Spot>) {
+    let mut reading = Reading {
+        quote: None,
+        is_escaped: false,
+        half: None,
+    };
     let first = number.saturating_sub(1);
     for (count, line) in text.lines().skip(first).enumerate() {
-        let goes_on = line.ends_with('\\');
         let line_number = number.saturating_add(count);
-        let found = read_line(&mut reading, without_backslash(line), line_number);
-        bad = bad.or(found);
-        if bad.is_some() || !goes_on {
-            break;
+        let bad = read_line(
+            &mut reading,
+            line.strip_suffix('\\').unwrap_or(line),
+            line_number,
+        );
+        if bad.is_some() || !line.ends_with('\\') {
+            return (bad, reading.quote);
         }
     }
-    Found {
-        bad,
-        open: reading.quote,
-    }
-}
-
-/// A line without the backslash at its end.
-fn without_backslash(line: &str) -> &str {
-    line.strip_suffix('\\').unwrap_or(line)
+    (None, reading.quote)
 }
 
 /// Reads a line, up to the first character that is not allowed, or up to a comment.
@@ -158,10 +125,6 @@ fn read_line(reading: &mut Reading, line: &str, number: usize) -> Option<Spot> {
 }
 
 /// Adds what a character is: itself, or its code and its name.
-///
-/// # Errors
-///
-/// `AllocError` where memory is refused.
 pub(crate) fn push_character(words: &mut String, character: char) -> Result<(), AllocError> {
     if character.is_ascii_graphic() {
         return write!(words, "`{character}`");

@@ -1,22 +1,29 @@
 //! What is said of a fault of a choice.
 
 ghost use Rattle.std.specs.Prelude.{IfOk};
-ghost use Rattle.kc_explain.specs.Named.{AreRemarksOf};
-ghost use Rattle.kc_explain.specs.Shown.{choice_shown_by};
+ghost use Rattle.kc_facts.specs.declared.shown.Fault.TheVariants.{Choice};
+ghost use Rattle.kc_facts.specs.Named.{AreRemarksOf};
 
-use crate::explanation::Explanation;
-use crate::mention::Finding;
-use crate::shown::Fault;
-use crate::statements::Statements;
-use crate::words::type_words;
+use crate::said::{Said, Unsaid, or_meaning};
+use crate::statements::{Definition, Statements};
+use kc_facts::{Explanation, Fault, type_words};
 use kc_statement::{Keyword, SymbolType};
 use kc_text::Line;
-use kc_tree::ChoiceProblem;
+use kc_tree::{ChoiceProblem, Problem};
 use std::alloc::{AllocError, Global};
 use std::collections::{BTreeMap, BTreeSet};
 
 /// The most members of a choice that a message names.
 const MOST_NAMED: usize = 8;
+
+/// A choice by its line, with the definitions in it, and their names.
+#[derive(Drop)]
+struct Own<'s, 'l, 'a> {
+    statements: &'s Statements<'l, 'a>,
+    line: usize,
+    definitions: Vec<Definition<'l>>,
+    members: BTreeSet<&'l str>,
+}
 
 /// What is said of a fault of a choice, by the place of its `choice` line and the lines of its Kconfig: what is wrong,
 /// and the lines that make it wrong (this project's own words). Of several such lines it is the first.
@@ -31,249 +38,172 @@ pub fn explain_choice(
     path: &str,
     line: usize,
 ) -> Result<Explanation, AllocError>
-    ensures { IfOk result (λ e. AreRemarksOf (choice_shown_by problem) lines.now e.remarks.items) }
+    ensures { IfOk result (λ e. AreRemarksOf (Choice problem) lines.now e.remarks.items) }
 {
     let statements = Statements::read(alloc, lines)?;
-    let finding = match choice_at(&statements, path, line) {
-        Some(choice) => finding_of(alloc, &statements, problem, choice)?,
-        None => Finding::of_meaning(alloc, 17)?,
+    let said = match choice_at(&statements, path, line) {
+        Some(choice) => Own::read(&statements, choice)?.say(problem),
+        None => Err(Unsaid::Nothing),
     };
+    let finding = or_meaning(alloc, said, Problem::Choice(problem).number())?;
     finding.explain(alloc, Fault::Choice(problem), lines)
-}
-
-/// What is found of a fault of the choice that begins at a line.
-fn finding_of(
-    alloc: Global,
-    statements: &Statements<'_, '_>,
-    problem: ChoiceProblem,
-    choice: usize,
-) -> Result<Finding, AllocError> {
-    match problem {
-        ChoiceProblem::NoPrompt => no_prompt(alloc, choice),
-        ChoiceProblem::SecondPrompt => second_prompt(alloc, statements, choice),
-        ChoiceProblem::ForeignDefault => foreign_default(alloc, statements, choice),
-        ChoiceProblem::MemberType => member_type(alloc, statements, choice),
-        ChoiceProblem::MemberWithoutPrompt => member_without_prompt(alloc, statements, choice),
-        ChoiceProblem::MemberDefinedAgain => member_defined_again(alloc, statements, choice),
-    }
 }
 
 /// The line that begins a choice at a place.
 fn choice_at(statements: &Statements<'_, '_>, path: &str, number: usize) -> Option<usize> {
-    for (place, line) in statements.lines().iter().enumerate() {
-        let is_there = line.number() == number && line.path() == path;
-        if is_there && statements.keyword(place) == Some(Keyword::Choice) {
-            return Some(place);
+    for choice in statements.choices() {
+        let line = statements.lines.get(*choice)?;
+        if line.number() == number && line.path() == path {
+            return Some(*choice);
         }
     }
     None
 }
 
-/// Whether a line is an attribute of a choice.
-fn is_attribute(statements: &Statements<'_, '_>, choice: usize, line: usize) -> bool {
-    statements.owner(line) == Some(choice)
-}
+impl<'s, 'l, 'a> Own<'s, 'l, 'a> {
+    /// The choice that a line begins.
+    fn read(
+        statements: &'s Statements<'l, 'a>,
+        line: usize,
+    ) -> Result<Own<'s, 'l, 'a>, AllocError> {
+        let mut definitions = Vec::new(statements.alloc);
+        let mut members = BTreeSet::new(statements.alloc);
+        for definition in statements.definitions.as_slice() {
+            if statements.choice(definition.line) == Some(line) {
+                definitions.push(*definition)?;
+                members.insert(definition.name)?;
+            }
+        }
+        Ok(Own {
+            statements,
+            line,
+            definitions,
+            members,
+        })
+    }
 
-/// The member of a choice that a line begins a definition of.
-fn member<'a>(statements: &Statements<'a, '_>, choice: usize, line: usize) -> Option<&'a str> {
-    let name = statements.defined(line)?;
-    (statements.choice(line) == Some(choice)).then_some(name)
-}
-
-/// The members of a choice.
-fn members<'a>(
-    alloc: Global,
-    statements: &Statements<'a, '_>,
-    choice: usize,
-) -> Result<BTreeSet<&'a str>, AllocError> {
-    let mut members = BTreeSet::new(alloc);
-    for line in choice..statements.end(choice) {
-        if let Some(name) = member(statements, choice, line) {
-            members.insert(name)?;
+    /// What is said of a fault of it.
+    fn say(&self, problem: ChoiceProblem) -> Said {
+        match problem {
+            ChoiceProblem::NoPrompt => {
+                self.statements
+                    .say("this choice has no prompt", &[self.line])
+            }
+            ChoiceProblem::SecondPrompt => self.second_prompt(),
+            ChoiceProblem::ForeignDefault => self.foreign_default(),
+            ChoiceProblem::MemberType => self.member_type(),
+            ChoiceProblem::MemberWithoutPrompt => self.member_without_prompt(),
+            ChoiceProblem::MemberDefinedAgain => self.member_defined_again(),
         }
     }
-    Ok(members)
-}
 
-fn no_prompt(alloc: Global, choice: usize) -> Result<Finding, AllocError> {
-    let words = String::from_str(alloc, "this choice has no prompt")?;
-    Finding::of_lines(alloc, words, [choice].as_slice())
-}
+    fn second_prompt(&self) -> Said {
+        let prompts = self.statements.two_prompts(self.line);
+        let (first, second) = prompts.ok_or(Unsaid::Nothing)?;
+        self.statements
+            .say("this choice has two prompts", &[first, second])
+    }
 
-fn second_prompt(
-    alloc: Global,
-    statements: &Statements<'_, '_>,
-    choice: usize,
-) -> Result<Finding, AllocError> {
-    let words = String::from_str(alloc, "this choice has two prompts")?;
-    let mut before = None;
-    for line in choice..statements.end(choice) {
-        if !statements.has_prompt(line) || !is_attribute(statements, choice, line) {
-            continue;
+    /// The default, with the members that there are.
+    fn foreign_default(&self) -> Said {
+        let alloc = self.statements.alloc;
+        for line in self.statements.attributes(self.line) {
+            if self.statements.keyword(line) != Some(Keyword::Default) {
+                continue;
+            }
+            let name = self.statements.second_word(line).unwrap_or("");
+            if !self.members.contains(name) {
+                let members = self.member_words()?;
+                let words = format!(in alloc;
+                    "the default {name} is no member of this choice; {members}"
+                )?;
+                return self.statements.say(words.as_str(), &[line]);
+            }
         }
-        if let Some(first) = before {
-            return Finding::of_lines(alloc, words, [first, line].as_slice());
-        }
-        before = Some(line);
+        Err(Unsaid::Nothing)
     }
-    Finding::of_meaning(alloc, 17)
-}
 
-/// The default, with the members that there are.
-fn foreign_default(
-    alloc: Global,
-    statements: &Statements<'_, '_>,
-    choice: usize,
-) -> Result<Finding, AllocError> {
-    let members = members(alloc, statements, choice)?;
-    for line in choice..statements.end(choice) {
-        let Some(name) = default_name(statements, choice, line) else {
-            continue;
-        };
-        if members.contains(name) {
-            continue;
-        }
-        let members = member_words(alloc, statements, choice)?;
-        let members = members.as_str();
-        let words = format!(in alloc; "the default {name} is no member of this choice; {members}")?;
-        return Finding::of_lines(alloc, words, [line].as_slice());
-    }
-    Finding::of_meaning(alloc, 17)
-}
-
-/// The name that a default of a choice has.
-fn default_name<'a>(
-    statements: &Statements<'a, '_>,
-    choice: usize,
-    line: usize,
-) -> Option<&'a str> {
-    if !is_attribute(statements, choice, line) {
-        return None;
-    }
-    match statements.keyword(line)? {
-        Keyword::Default => statements.word(line, 1),
-        _ => None,
-    }
-}
-
-/// The members of a choice in the order of their lines, in words: of many the first alone.
-fn member_words(
-    alloc: Global,
-    statements: &Statements<'_, '_>,
-    choice: usize,
-) -> Result<String, AllocError> {
-    let mut names = String::new(alloc);
-    let mut count = 0usize;
-    for line in choice..statements.end(choice) {
-        let Some(name) = member(statements, choice, line) else {
-            continue;
-        };
-        if count < MOST_NAMED {
-            let comma = if count == 0 { "" } else { ", " };
+    /// The members in the order of their lines, in words: of many the first alone.
+    fn member_words(&self) -> Result<String, AllocError> {
+        let alloc = self.statements.alloc;
+        let mut names = String::new(alloc);
+        for definition in self.definitions.iter().take(MOST_NAMED) {
+            let comma = if names.is_empty() { "" } else { ", " };
+            let name = definition.name;
             write!(names, "{comma}{name}")?;
         }
-        count = count.saturating_add(1);
-    }
-    counted_words(alloc, names.as_str(), count)
-}
-
-/// The words for a number of members, with the names of the first ones.
-fn counted_words(alloc: Global, names: &str, count: usize) -> Result<String, AllocError> {
-    match count {
-        0 => String::from_str(alloc, "it has no members"),
-        1 => format!(in alloc; "its only member is {names}"),
-        _ if count <= MOST_NAMED => format!(in alloc; "its members are {names}"),
-        _ => {
-            let more = count - MOST_NAMED;
-            format!(in alloc; "its members are {names} and {more} more")
+        let names = names.as_str();
+        match self.definitions.len() {
+            0 => String::from_str(alloc, "it has no members"),
+            1 => format!(in alloc; "its only member is {names}"),
+            count if count <= MOST_NAMED => format!(in alloc; "its members are {names}"),
+            count => {
+                let more = count.saturating_sub(MOST_NAMED);
+                format!(in alloc; "its members are {names} and {more} more")
+            }
         }
     }
-}
 
-/// The first type of a member that is no bool.
-fn member_type(
-    alloc: Global,
-    statements: &Statements<'_, '_>,
-    choice: usize,
-) -> Result<Finding, AllocError> {
-    let members = members(alloc, statements, choice)?;
-    let mut typed = BTreeSet::new(alloc);
-    for line in 0..statements.len() {
-        let Some((name, kind)) = type_of_line(statements, line) else {
-            continue;
-        };
-        let is_first = members.contains(name) && typed.insert(name)?;
-        if is_first && kind != SymbolType::Bool {
-            let article = type_words(kind);
-            let words = format!(in alloc; "the member {name} is {article}, and has to be a bool")?;
-            return Finding::of_lines(alloc, words, [line].as_slice());
+    /// The first type of a member that is no bool.
+    fn member_type(&self) -> Said {
+        let mut typed = BTreeSet::new(self.statements.alloc);
+        for definition in self.statements.definitions.as_slice() {
+            let name = definition.name;
+            let Some((line, kind)) = self.statements.first_type(definition) else {
+                continue;
+            };
+            if self.members.contains(name) && typed.insert(name)? && kind != SymbolType::Bool {
+                let article = type_words(kind);
+                let words = format!(in self.statements.alloc;
+                    "the member {name} is {article}, and has to be a bool"
+                )?;
+                return self.statements.say(words.as_str(), &[line]);
+            }
         }
+        Err(Unsaid::Nothing)
     }
-    Finding::of_meaning(alloc, 17)
-}
 
-/// The symbol that a line gives a type, and the type.
-fn type_of_line<'a>(statements: &Statements<'a, '_>, line: usize) -> Option<(&'a str, SymbolType)> {
-    let kind = statements.kind(line)?;
-    Some((statements.symbol(line)?, kind))
-}
-
-/// The definition of a member that no line gives a prompt.
-fn member_without_prompt(
-    alloc: Global,
-    statements: &Statements<'_, '_>,
-    choice: usize,
-) -> Result<Finding, AllocError> {
-    let prompted = prompted_names(alloc, statements)?;
-    for line in choice..statements.end(choice) {
-        let Some(name) = member(statements, choice, line) else {
-            continue;
-        };
-        if !prompted.contains(name) {
-            let words = format!(in alloc; "the member {name} has no prompt")?;
-            return Finding::of_lines(alloc, words, [line].as_slice());
+    /// The definition of a member that no line gives a prompt.
+    fn member_without_prompt(&self) -> Said {
+        let prompted = self.prompted_names()?;
+        for definition in self.definitions.as_slice() {
+            let name = definition.name;
+            if !prompted.contains(name) {
+                let words = format!(in self.statements.alloc; "the member {name} has no prompt")?;
+                return self.statements.say(words.as_str(), &[definition.line]);
+            }
         }
+        Err(Unsaid::Nothing)
     }
-    Finding::of_meaning(alloc, 17)
-}
 
-/// The symbols that have prompts.
-fn prompted_names<'a>(
-    alloc: Global,
-    statements: &Statements<'a, '_>,
-) -> Result<BTreeSet<&'a str>, AllocError> {
-    let mut names = BTreeSet::new(alloc);
-    for line in 0..statements.len() {
-        let Some(name) = statements.symbol(line) else {
-            continue;
-        };
-        if statements.has_prompt(line) {
-            names.insert(name)?;
+    /// The symbols that have prompts.
+    fn prompted_names(&self) -> Result<BTreeSet<&'l str>, AllocError> {
+        let mut names = BTreeSet::new(self.statements.alloc);
+        for definition in self.statements.definitions.as_slice() {
+            let mut lines = definition.line..=definition.end;
+            if lines.any(|line| self.statements.has_prompt(line)) {
+                names.insert(definition.name)?;
+            }
         }
+        Ok(names)
     }
-    Ok(names)
-}
 
-/// The first two definitions of a member.
-fn member_defined_again(
-    alloc: Global,
-    statements: &Statements<'_, '_>,
-    choice: usize,
-) -> Result<Finding, AllocError> {
-    let members = members(alloc, statements, choice)?;
-    let mut firsts: BTreeMap<&str, usize> = BTreeMap::new(alloc);
-    for line in 0..statements.len() {
-        let Some(name) = statements
-            .defined(line)
-            .filter(|name| members.contains(*name))
-        else {
-            continue;
-        };
-        if let Some(first) = firsts.get(name).copied() {
-            let words = format!(in alloc; "the member {name} has a second definition")?;
-            return Finding::of_lines(alloc, words, [first, line].as_slice());
+    /// The first two definitions of a member.
+    fn member_defined_again(&self) -> Said {
+        let alloc = self.statements.alloc;
+        let mut firsts: BTreeMap<&str, usize> = BTreeMap::new(alloc);
+        for definition in self.statements.definitions.as_slice() {
+            let name = definition.name;
+            if let Some(first) = firsts.get(name).copied() {
+                let words = format!(in alloc; "the member {name} has a second definition")?;
+                return self
+                    .statements
+                    .say(words.as_str(), &[first, definition.line]);
+            }
+            if self.members.contains(name) {
+                firsts.insert(name, definition.line)?;
+            }
         }
-        firsts.insert(name, line)?;
+        Err(Unsaid::Nothing)
     }
-    Finding::of_meaning(alloc, 17)
 }

@@ -1,7 +1,7 @@
 //! What is said of a line that does not have the form of its statement (K05).
 
-use crate::context::Context;
-use crate::said::Said;
+use crate::lines::Suspect;
+use crate::said::{Said, Unsaid};
 use crate::spelling::{first_word, token_text, tokens_text};
 use kc_statement::{Keyword, Mistake, Names, Seed, Unread, Wanted, read_keyword, read_statement};
 use kc_text::{Line, Token};
@@ -9,7 +9,7 @@ use std::alloc::{AllocError, Global};
 
 /// How each statement and attribute is written, where E is an expression and `[..]` may be missing, as in
 /// docs/LANGUAGE.md.
-static FORMS: [(&str, &str); 29] = [
+pub(crate) static FORMS: [(&str, &str); 29] = [
     ("config", "config NAME"),
     ("menuconfig", "menuconfig NAME"),
     ("menu", "menu \"title\""),
@@ -43,36 +43,31 @@ static FORMS: [(&str, &str); 29] = [
 
 /// What is said of a line whose tokens are not those of its statement's form: what was wanted, and what was found
 /// there.
-///
-/// # Errors
-///
-/// `AllocError` where memory is refused.
-pub(crate) fn explain_form(
-    alloc: Global,
-    context: &Context<'_, '_>,
-    line: &Line<'_>,
-) -> Result<Option<Said>, AllocError> {
-    let Some(keyword) = read_keyword(line) else {
-        return Ok(None);
-    };
-    let words = match mistake_of(alloc, line)? {
-        Some(mistake) => mistake_words(alloc, &mistake, line)?,
-        None if is_default_of_choice(keyword, context) => String::from_str(
-            alloc,
-            "the default of a choice is the name of a member alone: default NAME [if E]",
-        )?,
-        None => return Ok(None),
-    };
-    let mut said = Said::new(alloc, words);
-    said.name(context.at())?;
-    Ok(Some(said))
+pub(crate) fn explain_form(suspect: &Suspect<'_, '_, '_>) -> Said {
+    let alloc = suspect.statements.alloc;
+    let keyword = read_keyword(suspect.line).ok_or(Unsaid::Nothing)?;
+    if let Some(mistake) = mistake_of(suspect)? {
+        let words = mistake_words(alloc, &mistake, suspect.line)?;
+        return suspect.say(words.as_str());
+    }
+    if keyword != Keyword::Default || suspect.owner() != Some(Keyword::Choice) {
+        return Err(Unsaid::Nothing);
+    }
+    suspect.say("the default of a choice is the name of a member alone: default NAME [if E]")
 }
 
 /// The first place in which a line goes another way than its form, if it does. That depends on no names. A `source` that
 /// is as it is to be has no form, and no mistake.
-fn mistake_of(alloc: Global, line: &Line<'_>) -> Result<Option<Mistake>, AllocError> {
-    let names = Names::with_capacity(alloc, Seed::fixed(), 0)?;
-    match read_statement(alloc, &names, line, read_keyword(line), 0) {
+fn mistake_of(suspect: &Suspect<'_, '_, '_>) -> Result<Option<Mistake>, AllocError> {
+    let line = suspect.line;
+    let names = Names::with_capacity(suspect.statements.alloc, Seed::fixed(), 0)?;
+    match read_statement(
+        suspect.statements.alloc,
+        &names,
+        line,
+        read_keyword(line),
+        0,
+    ) {
         Ok(_) => Ok(None),
         Err(Unread::At(mistake)) if mistake.left == 0 && mistake.wanted == Wanted::Nothing => {
             Ok(None)
@@ -82,23 +77,18 @@ fn mistake_of(alloc: Global, line: &Line<'_>) -> Result<Option<Mistake>, AllocEr
     }
 }
 
-fn is_default_of_choice(keyword: Keyword, context: &Context<'_, '_>) -> bool {
-    keyword == Keyword::Default && context.owner() == Some(Keyword::Choice)
-}
-
 /// What is said of a mistake in a line.
 fn mistake_words(alloc: Global, mistake: &Mistake, line: &Line<'_>) -> Result<String, AllocError> {
     let tokens = line.tokens();
-    let word = first_word(line).unwrap_or("");
+    let word = first_word(line);
     if mistake.wanted == Wanted::On {
         let rest = tokens_text(alloc, tokens.get(1..).unwrap_or(&[]))?;
         return format!(in alloc; "`depends` wants `on`: depends on {rest}");
     }
     let mut words = String::new(alloc);
     push_wanted(alloc, &mut words, mistake, tokens)?;
-    match FORMS.iter().find(|row| row.0 == word) {
-        Some((_, form)) => write!(words, ": {form}")?,
-        None => {}
+    if let Some((_, form)) = FORMS.iter().find(|row| row.0 == word) {
+        write!(words, ": {form}")?;
     }
     Ok(words)
 }

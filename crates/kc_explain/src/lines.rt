@@ -1,22 +1,50 @@
 //! What is said of a fault of a line.
 
 ghost use Rattle.std.specs.Prelude.{IfOk};
-ghost use Rattle.kc_explain.specs.Named.{AreAmong};
+ghost use Rattle.kc_facts.specs.declared.shown.Fault.TheVariants.{Line as OfLine};
+ghost use Rattle.kc_facts.specs.Named.{AreRemarksOf};
 
 use crate::blocks::explain_block;
-use crate::context::Context;
-use crate::explanation::Explanation;
 use crate::forms::explain_form;
 use crate::limits::explain_limit;
-use crate::meanings::fault_meaning;
-use crate::said::Said;
+use crate::said::{Said, Unsaid, or_meaning};
+use crate::statements::Statements;
 use crate::strays::explain_stray;
 use crate::unknown::explain_unknown;
 use crate::unsupported::explain_unsupported;
+use kc_facts::{Explanation, Fault};
 use kc_outline::LineProblem;
+use kc_statement::Keyword;
 use kc_text::Line;
 use kc_tree::Problem;
 use std::alloc::{AllocError, Global};
+
+/// A line that may be at fault, among the others.
+#[derive(Clone, Copy)]
+pub(crate) struct Suspect<'s, 'l, 'a> {
+    pub statements: &'s Statements<'l, 'a>,
+    pub line: &'l Line<'a>,
+    /// Its number among all lines, from 0.
+    pub at: usize,
+}
+
+impl<'s, 'l, 'a> Suspect<'s, 'l, 'a> {
+    /// Words that it shows.
+    pub fn say(&self, words: &str) -> Said {
+        self.statements.say(words, &[self.at])
+    }
+
+    /// Words that another line shows, and then it.
+    pub fn say_after(&self, words: &str, line: usize) -> Said {
+        self.statements.say(words, &[line, self.at])
+    }
+
+    /// The keyword of the nearest line before it that is no attribute.
+    pub fn owner(&self) -> Option<Keyword> {
+        let statement = self.statements.statement_before(self.at)?;
+        self.statements.keyword(statement)
+    }
+}
 
 /// What is said of the fault of the line of a number in a file, by the lines of its Kconfig and the text of that file.
 /// Where the text can't be had, it is empty. Of a file that is read more than once the line is meant where it is at
@@ -33,36 +61,47 @@ pub fn explain_line(
     path: &str,
     number: usize,
 ) -> Result<Explanation, AllocError>
-    ensures { IfOk result (λ e. AreAmong lines.now e.remarks.items) }
+    ensures { IfOk result (λ e. AreRemarksOf OfLine lines.now e.remarks.items) }
 {
-    let mut context = Context::new(alloc, lines);
-    for line in lines {
-        if line.number() == number && line.path() == path {
-            let found = explain_here(alloc, text, problem, &context, line)?;
-            if let Some(said) = found {
-                return said.explain(alloc, lines);
-            }
+    let statements = Statements::read(alloc, lines)?;
+    let said = explain_first(&statements, text, problem, path, number);
+    let finding = or_meaning(alloc, said, Problem::Line(problem).number())?;
+    finding.explain(alloc, Fault::Line, lines)
+}
+
+/// What is said of the first of the lines of a number in a file of which something is said.
+fn explain_first(
+    statements: &Statements<'_, '_>,
+    text: &str,
+    problem: LineProblem,
+    path: &str,
+    number: usize,
+) -> Said {
+    for (at, line) in statements.lines.iter().enumerate() {
+        if line.number() != number || line.path() != path {
+            continue;
         }
-        context.pass(line)?;
+        let suspect = Suspect {
+            statements,
+            line,
+            at,
+        };
+        match explain_here(&suspect, text, problem) {
+            Err(Unsaid::Nothing) => {}
+            said => return said,
+        }
     }
-    let number = Problem::Line(problem).number();
-    Explanation::of_words(alloc, fault_meaning(number).unwrap_or(""))
+    Err(Unsaid::Nothing)
 }
 
 /// What is said of the fault of a line, if it is at fault in this place.
-fn explain_here(
-    alloc: Global,
-    text: &str,
-    problem: LineProblem,
-    context: &Context<'_, '_>,
-    line: &Line<'_>,
-) -> Result<Option<Said>, AllocError> {
+fn explain_here(suspect: &Suspect<'_, '_, '_>, text: &str, problem: LineProblem) -> Said {
     match problem {
-        LineProblem::Limit => explain_limit(alloc, context, line),
-        LineProblem::UnknownStatement => explain_unknown(alloc, text, context, line),
-        LineProblem::Malformed => explain_form(alloc, context, line),
-        LineProblem::StrayAttribute => explain_stray(alloc, context, line),
-        LineProblem::UnbalancedBlock => explain_block(alloc, context, line),
-        LineProblem::Unsupported => explain_unsupported(alloc, context, line),
+        LineProblem::Limit => explain_limit(suspect),
+        LineProblem::UnknownStatement => explain_unknown(suspect, text),
+        LineProblem::Malformed => explain_form(suspect),
+        LineProblem::StrayAttribute => explain_stray(suspect),
+        LineProblem::UnbalancedBlock => explain_block(suspect),
+        LineProblem::Unsupported => explain_unsupported(suspect),
     }
 }

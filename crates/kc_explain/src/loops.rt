@@ -1,17 +1,15 @@
 //! What is said of a dependency loop.
 
 ghost use Rattle.std.specs.Prelude.{IfOk};
-ghost use Rattle.kc_explain.specs.Named.{AreRemarksOf};
-ghost use Rattle.kc_explain.specs.Shown.{loop_shown_by};
+ghost use Rattle.kc_facts.specs.declared.shown.Fault.TheVariants.{Loop};
+ghost use Rattle.kc_facts.specs.Named.{AreRemarksOf};
 
 use crate::causes::{Cause, Way, causes_of};
-use crate::explanation::Explanation;
 use crate::meanings::fault_meaning;
-use crate::mention::{Finding, Mention};
-use crate::shown::Fault;
+use crate::spelling::repeated;
 use crate::statements::Statements;
 use crate::steps::Steps;
-use crate::words::repeated;
+use kc_facts::{Explanation, Fault, Finding, Mention};
 use kc_statement::Keyword;
 use kc_text::Line;
 use kc_tree::{NamedNode, Node};
@@ -24,75 +22,76 @@ use std::alloc::{AllocError, Global};
 /// # Errors
 ///
 /// `AllocError` where memory is refused.
-pub fn explain_loop<'a>(
+pub fn explain_loop<'l>(
     alloc: Global,
-    lines: &'a [Line<'_>],
-    nodes: &'a [NamedNode],
+    lines: &'l [Line<'_>],
+    nodes: &'l [NamedNode],
 ) -> Result<Explanation, AllocError>
-    ensures { IfOk result (λ e. AreRemarksOf loop_shown_by lines.now e.remarks.items) }
+    ensures { IfOk result (λ e. AreRemarksOf Loop lines.now e.remarks.items) }
 {
     let statements = Statements::read(alloc, lines)?;
-    let steps = Steps::read(alloc, &statements, nodes)?;
-    let causes = causes_of(alloc, &statements, &steps)?;
-    let mentions = step_mentions(alloc, &statements, nodes, causes.as_slice())?;
+    let steps = Steps::read(&statements, nodes)?;
+    let causes = causes_of(&statements, &steps)?;
     let words = String::from_str(alloc, fault_meaning(19).unwrap_or(""))?;
-    Finding { words, mentions }.explain(alloc, Fault::Loop, lines)
+    let mut finding = Finding::of_lines(alloc, words, &[])?;
+    add_steps(&mut finding.mentions, &statements, nodes, causes.as_slice())?;
+    finding.explain(alloc, Fault::Loop, lines)
 }
 
-/// The lines that make the steps of a loop.
-fn step_mentions(
-    alloc: Global,
+/// Adds the lines that make the steps of a loop.
+fn add_steps(
+    mentions: &mut Vec<Mention>,
     statements: &Statements<'_, '_>,
     nodes: &[NamedNode],
     causes: &[Option<Cause>],
-) -> Result<Vec<Mention>, AllocError> {
-    let mut mentions = Vec::new(alloc);
+) -> Result<(), AllocError> {
     for (node, cause) in nodes.iter().zip(causes) {
         if let Some(cause) = cause {
-            add_mentions(alloc, &mut mentions, statements, node, cause)?;
+            add_step(mentions, statements, node, cause)?;
         }
     }
-    Ok(mentions)
+    Ok(())
 }
 
 /// Adds the line by which a node uses the next, after the line that selects or implies its symbol, if it is by that.
-fn add_mentions(
-    alloc: Global,
+fn add_step(
     mentions: &mut Vec<Mention>,
     statements: &Statements<'_, '_>,
     node: &NamedNode,
     cause: &Cause,
 ) -> Result<(), AllocError> {
     if let Way::OfSelecting(line) | Way::AroundSelecting(line) = cause.way {
-        let words = selected_words(alloc, statements, node, line)?;
+        let words = selected_words(statements, node, line)?;
         mentions.push(Mention { words, line })?;
     }
-    let words = cause_words(alloc, statements, node, cause)?;
-    mentions.push(Mention {
-        words,
-        line: cause.line,
-    })?;
+    let words = cause_words(statements, node, cause)?;
+    let line = cause.line;
+    mentions.push(Mention { words, line })?;
     Ok(())
 }
 
 /// The words before the line by which a node uses the next.
 fn cause_words(
-    alloc: Global,
     statements: &Statements<'_, '_>,
     node: &NamedNode,
     cause: &Cause,
 ) -> Result<String, AllocError> {
+    let alloc = statements.alloc;
     let block = block_words(statements, cause.line);
     match cause.way {
-        Way::Own => by(alloc, node, own_blanks(node)),
-        Way::Around => by_block(alloc, node, block),
-        Way::Selected => selected_words(alloc, statements, node, cause.line),
+        Way::Own if matches!(node.node, Node::Vis(_)) => by(alloc, node, "   "),
+        Way::Own => by(alloc, node, ""),
+        Way::Around => {
+            let what = format!(in alloc; "the {block} around it, ")?;
+            by(alloc, node, what.as_str())
+        }
+        Way::Selected => selected_words(statements, node, cause.line),
         Way::OfSelecting(line) => {
-            let selecting = statements.symbol(line).unwrap_or("");
+            let selecting = statements.symbol(line);
             format!(in alloc; "and {selecting}'s ")
         }
         Way::AroundSelecting(line) => {
-            let selecting = statements.symbol(line).unwrap_or("");
+            let selecting = statements.symbol(line);
             format!(in alloc; "and the {block} around {selecting}, ")
         }
         Way::Type => by(alloc, node, "its type, "),
@@ -103,7 +102,7 @@ fn cause_words(
     }
 }
 
-/// What a node has, and by what.
+/// What a node has, and by what. Blanks after `visible by` have the places of visibilities and values in one column.
 fn by(alloc: Global, node: &NamedNode, what: &str) -> Result<String, AllocError> {
     let name = repeated(node.name.as_str());
     match node.node {
@@ -114,36 +113,20 @@ fn by(alloc: Global, node: &NamedNode, what: &str) -> Result<String, AllocError>
     }
 }
 
-/// The blanks before a line of a node's own, by which the places of visibilities and values are in one column.
-fn own_blanks(node: &NamedNode) -> &'static str {
-    match node.node {
-        Node::Vis(_) => "   ",
-        Node::Val(_) | Node::Mode(_) | Node::Sel(_) => "",
-    }
-}
-
-/// What a node has by a block around it.
-fn by_block(alloc: Global, node: &NamedNode, block: &str) -> Result<String, AllocError> {
-    let what = format!(in alloc; "the {block} around it, ")?;
-    by(alloc, node, what.as_str())
-}
-
 /// What a node has by a line of another symbol that selects or implies its own.
 fn selected_words(
-    alloc: Global,
     statements: &Statements<'_, '_>,
     node: &NamedNode,
     line: usize,
 ) -> Result<String, AllocError> {
-    let selecting = statements.symbol(line).unwrap_or("");
-    let what = format!(in alloc; "{selecting}'s ")?;
-    by(alloc, node, what.as_str())
+    let selecting = statements.symbol(line);
+    let what = format!(in statements.alloc; "{selecting}'s ")?;
+    by(statements.alloc, node, what.as_str())
 }
 
 /// The word for the block that a line belongs to.
 fn block_words(statements: &Statements<'_, '_>, line: usize) -> &'static str {
-    let owner = statements.owner(line).unwrap_or(line);
-    match statements.keyword(owner) {
+    match statements.keyword(statements.owner(line)) {
         Some(Keyword::Menu) => "menu",
         Some(Keyword::Choice) => "choice",
         _ => "`if`",

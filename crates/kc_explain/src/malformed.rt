@@ -1,7 +1,7 @@
 //! What is said of a line that a `.config` does not have (warning 4).
 
 use crate::meanings::warning_meaning;
-use crate::showing::shown_line;
+use kc_facts::{has_name_bytes, shown_line};
 use std::alloc::{AllocError, Global};
 
 /// How a tool of version control marks the two sides of a conflict.
@@ -9,10 +9,6 @@ static CONFLICT_MARKS: [&str; 4] = ["<<<<<<<", "=======", ">>>>>>>", "|||||||"];
 
 /// What is said of a line that a `.config` does not have: what is wrong with it, and how it may be meant. A line that
 /// is no UTF-8 has no text.
-///
-/// # Errors
-///
-/// `AllocError` where memory is refused.
 pub(crate) fn malformed_words(
     alloc: Global,
     prefix: &str,
@@ -39,7 +35,7 @@ fn assignment_words(
 ) -> Result<String, AllocError> {
     let bare = name.trim();
     let shown = shown_line(value);
-    if bare.is_empty() || !bare.bytes().all(is_name_byte) {
+    if bare.is_empty() || !has_name_bytes(bare) {
         let name = shown_line(name);
         return format!(in alloc; "`{name}` is no name: {prefix} and letters, digits and _");
     }
@@ -53,9 +49,4 @@ fn assignment_words(
             format!(in alloc; "the name does not begin with {prefix}; write {prefix}{bare}={shown}")
         }
     }
-}
-
-/// Whether a byte is one of a name: an ASCII letter, a digit or `_`.
-fn is_name_byte(byte: u8) -> bool {
-    byte.is_ascii_alphanumeric() || byte == b'_'
 }

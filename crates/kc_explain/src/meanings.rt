@@ -1,5 +1,5 @@
-//! What the numbers of faults and warnings mean, in a few words each. docs/ERRORS.md has the same words, which
-//! `tools/check_explanations.py` compares. They are this project's own.
+//! What the numbers of faults, warnings and refusals mean, in a few words each. docs/ERRORS.md has the same words of the
+//! first two, which `tools/check_explanations.py` compares. They are this project's own.
 
 /// The words of a fault, by its number, as 3 in `K03`.
 static FAULTS: [(u8, &str); 20] = [
@@ -52,6 +52,29 @@ static WARNINGS: [(u8, &str); 5] = [
     (5, "the symbol had a usable line before; this one counts"),
 ];
 
+/// The words of a refusal of a session, by its number: those of docs/COMMANDS.md, in short.
+static REFUSALS: [(u8, &str); 7] = [
+    (
+        1,
+        "not UTF-8, no such command, or an argument missing or too many",
+    ),
+    (
+        2,
+        "no symbol has this name, which is written without the prefix, as in the Kconfig",
+    ),
+    (3, "not a value of the symbol's type"),
+    (4, "a member of a choice takes `y` alone"),
+    (
+        5,
+        "the count is not one to seven digits, or the input ended before so many lines",
+    ),
+    (
+        6,
+        "the command line, or the lines of the load, are too long",
+    ),
+    (7, "out of memory"),
+];
+
 /// The words of a fault by its number, as 3 of K03. There are none of another number than those from 1 to 20.
 pub fn fault_meaning(number: u8) -> Option<&'static str> {
     words_of(FAULTS.as_slice(), number)
@@ -60,6 +83,11 @@ pub fn fault_meaning(number: u8) -> Option<&'static str> {
 /// The words of a warning of a `.config` by its number. There are none of another number than those from 1 to 5.
 pub fn warning_meaning(number: u8) -> Option<&'static str> {
     words_of(WARNINGS.as_slice(), number)
+}
+
+/// The words of a refusal of a session by its number. There are none of another number than those from 1 to 7.
+pub fn refusal_meaning(number: u8) -> Option<&'static str> {
+    words_of(REFUSALS.as_slice(), number)
 }
 
 /// The words of a number in a table.

@@ -1,87 +1,41 @@
-//! What is said of a line, with the lines that show it by their numbers among all lines.
+//! What is said of a fault, or why nothing is.
 
-ghost use Rattle.std.specs.Prelude.{IfOk, IfSome};
-ghost use Rattle.kc_explain.specs.Named.{AreAmong, IsAmong};
+use crate::meanings::fault_meaning;
+use kc_facts::Finding;
+use std::alloc::{AllocError, AllocFailed, Global};
 
-use crate::explanation::{Explanation, Place, Remark};
-use kc_text::{Line, Text};
-use std::alloc::{AllocError, Global};
-
-/// Words, and the lines that show what they say, each by its number among all lines, from 0.
-#[derive(Drop)]
-pub(crate) struct Said {
-    pub words: String,
-    pub lines: Vec<usize>,
+/// Why nothing is said.
+#[derive(Clone, Copy, Debug, PartialEq, Eq)]
+pub(crate) enum Unsaid {
+    /// Memory was refused.
+    NoMemory,
+    /// No line shows the fault.
+    Nothing,
 }
 
-impl Said {
-    /// Words that no line shows.
-    pub fn new(alloc: Global, words: String) -> Said {
-        Said {
-            words,
-            lines: Vec::new(alloc),
+/// Words for a fault and the lines that show it, if there are some.
+pub(crate) type Said = Result<Finding, Unsaid>;
+
+impl From<AllocError> for Unsaid {
+    fn from(_refused: AllocError) -> Unsaid {
+        Unsaid::NoMemory
+    }
+}
+
+impl<T: Drop> From<AllocFailed<T>> for Unsaid {
+    fn from(_refused: AllocFailed<T>) -> Unsaid {
+        Unsaid::NoMemory
+    }
+}
+
+/// What is said of a fault, or what its number means where nothing is.
+pub(crate) fn or_meaning(alloc: Global, said: Said, number: u8) -> Result<Finding, AllocError> {
+    match said {
+        Ok(finding) => Ok(finding),
+        Err(Unsaid::NoMemory) => Err(AllocError),
+        Err(Unsaid::Nothing) => {
+            let words = String::from_str(alloc, fault_meaning(number).unwrap_or(""))?;
+            Finding::of_lines(alloc, words, &[])
         }
     }
-
-    /// Has a line show it, after those that do.
-    ///
-    /// # Errors
-    ///
-    /// `AllocError` where memory is refused.
-    pub fn name(&mut self, line: usize) -> Result<(), AllocError> {
-        self.lines.push(line)?;
-        Ok(())
-    }
-
-    /// The explanation, which names some of all lines and no other.
-    ///
-    /// # Errors
-    ///
-    /// `AllocError` where memory is refused.
-    pub fn explain(self, alloc: Global, lines: &[Line<'_>]) -> Result<Explanation, AllocError>
-        ensures { IfOk result (λ e. AreAmong lines.now e.remarks.items) }
-    {
-        let Said {
-            words,
-            lines: numbers,
-        } = self;
-        let remarks = remarks_at(alloc, lines, numbers.as_slice())?;
-        Ok(Explanation { words, remarks })
-    }
-}
-
-/// The lines of numbers, each with its place.
-fn remarks_at(
-    alloc: Global,
-    lines: &[Line<'_>],
-    numbers: &[usize],
-) -> Result<Vec<Remark>, AllocError>
-    ensures { IfOk result (λ remarks. AreAmong lines.now remarks.items) }
-{
-    let mut remarks = Vec::new(alloc);
-    for number in numbers {
-        let Some(remark) = remark_at(alloc, lines, *number)? else {
-            continue;
-        };
-        remarks.push(remark)?;
-    }
-    Ok(remarks)
-}
-
-/// The line of a number, with its place.
-fn remark_at(alloc: Global, lines: &[Line<'_>], number: usize) -> Result<Option<Remark>, AllocError>
-    ensures { IfOk result (λ found. IfSome found (IsAmong lines.now)) }
-{
-    let Some(line) = lines.get(number) else {
-        return Ok(None);
-    };
-    let path = Text::copy_of(alloc, line.path())?;
-    let place = Place {
-        path,
-        line: line.number(),
-    };
-    Ok(Some(Remark {
-        words: String::new(alloc),
-        place,
-    }))
 }

@@ -1,24 +1,23 @@
-//! Lines and tokens as messages quote them.
+//! Lines, tokens and texts as messages quote them.
 
-use crate::showing::shown_line;
+ghost use Rattle.std.specs.Prelude.{◌≤◌, length};
+
+use kc_facts::shown_line;
 use kc_text::{Line, Operator, Token};
 use std::alloc::{AllocError, Global};
 
-/// A line as it is quoted: its tokens with a blank between them, without comments, and of at most 160 bytes.
-///
-/// # Errors
-///
-/// `AllocError` where memory is refused.
-pub(crate) fn line_text(alloc: Global, line: &Line<'_>) -> Result<String, AllocError> {
-    tokens_text(alloc, line.tokens())
+/// The most bytes of a text of a Kconfig that a message repeats.
+const MOST_REPEATED: usize = 80;
+
+/// The first 80 bytes of a text, or fewer where these end within a character.
+pub(crate) fn repeated(text: &str) -> &str
+    ensures { length result.now ≤ 80 }
+{
+    &text[..text.floor_char_boundary(MOST_REPEATED)]
 }
 
 /// Tokens as they are quoted: with a blank between them, but after `(` and `!` and before `)`, and of at most 160
 /// bytes.
-///
-/// # Errors
-///
-/// `AllocError` where memory is refused.
 pub(crate) fn tokens_text(alloc: Global, tokens: &[Token<'_>]) -> Result<String, AllocError> {
     let mut text = String::new(alloc);
     let mut is_close = true;
@@ -33,10 +32,6 @@ pub(crate) fn tokens_text(alloc: Global, tokens: &[Token<'_>]) -> Result<String,
 }
 
 /// A token as it is quoted.
-///
-/// # Errors
-///
-/// `AllocError` where memory is refused.
 pub(crate) fn token_text(alloc: Global, token: &Token<'_>) -> Result<String, AllocError> {
     let mut text = String::new(alloc);
     push_token(&mut text, token)?;
@@ -68,10 +63,10 @@ fn sign_of(operator: Operator) -> &'static str {
     }
 }
 
-/// The first word of a line, which an end of file does not have.
-pub(crate) fn first_word<'l>(line: &'l Line<'_>) -> Option<&'l str> {
-    match line.tokens().first()? {
-        Token::Word(word) => Some(word.as_str()),
-        Token::Expanded(_) | Token::Quoted(_) | Token::Operator(_) => None,
+/// The first word of a line, which is empty where it begins with none, or with one that holds a reference.
+pub(crate) fn first_word<'l>(line: &'l Line<'_>) -> &'l str {
+    match line.tokens().first() {
+        Some(Token::Word(word)) => word.as_str(),
+        _ => "",
     }
 }

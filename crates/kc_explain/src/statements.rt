@@ -1,251 +1,296 @@
-//! What each line of a Kconfig is, and which statement it belongs to.
+//! The lines of a Kconfig, by what they define, and by what is around them.
 
 ghost use Rattle.std.specs.Prelude.{◌≡◌, option_map};
 ghost use Rattle.kc_statement.specs.Names.{token_word};
 
+use crate::said::{Said, Unsaid};
+use kc_facts::{Attribute, Family, Finding, LineIndex, is_attribute, says};
 use kc_statement::{Keyword, SymbolType, is_word, read_keyword};
-use kc_text::{Line, Token};
+use kc_text::{Line, LineKind, Token};
 use std::alloc::{AllocError, Global};
+use std::ops::Range;
 
-/// What a line is. Other lines are named by their numbers among all lines, from 0.
-#[derive(Clone, Copy, PartialEq, Eq)]
-pub(crate) struct Statement {
-    /// Its first word. The end of a file has none.
-    pub keyword: Option<Keyword>,
-    /// The line that begins the statement that it belongs to: its own line, if it begins one.
-    pub owner: Option<usize>,
-    /// The line of the choice around it.
-    pub choice: Option<usize>,
-    /// The last line of what it begins: of a definition its last attribute, of a block the line that closes it.
+/// A definition of a symbol, with the numbers of its first and its last line.
+#[derive(Clone, Copy)]
+pub(crate) struct Definition<'l> {
+    pub name: &'l str,
+    pub line: usize,
     pub end: usize,
 }
 
-/// A block that is open.
+/// A block that is opened by the line of the same number in the list of those that open blocks.
 #[derive(Clone, Copy)]
-struct OpenBlock {
-    /// The line that opened it.
-    line: usize,
-    /// The line of the choice that it is, or that is around it.
-    choice: Option<usize>,
+struct Block {
+    /// The line that closes it.
+    end: Option<usize>,
+    /// The block around it, by its number.
+    outer: Option<usize>,
 }
 
-/// The lines so far, and what is open after them.
+/// The lines of a Kconfig. They are named by their numbers among all lines, from 0.
 #[derive(Drop)]
-struct Walk {
-    statements: Vec<Statement>,
-    blocks: Vec<OpenBlock>,
-    /// The statement that attributes belong to.
-    owner: Option<usize>,
+pub(crate) struct Statements<'l, 'a> {
+    pub alloc: Global,
+    pub lines: &'l [Line<'a>],
+    pub definitions: Vec<Definition<'l>>,
+    index: LineIndex<'l, 'a>,
+    blocks: Vec<Block>,
 }
 
-impl Walk {
-    fn new(alloc: Global) -> Walk {
-        Walk {
-            statements: Vec::new(alloc),
-            blocks: Vec::new(alloc),
-            owner: None,
-        }
-    }
-
-    /// Makes a line the last of what another one begins.
-    fn set_end(&mut self, of: usize, end: usize) {
-        if let Some(statement) = self.statements.get_mut(of) {
-            statement.end = end;
-        }
-    }
-
-    /// The innermost choice that is open.
-    fn choice(&self) -> Option<usize> {
-        self.blocks.last().and_then(|block| block.choice)
-    }
-
-    /// Adds a line of this first word.
-    fn add(&mut self, keyword: Option<Keyword>) -> Result<(), AllocError> {
-        let line = self.statements.len();
-        let choice = self.choice();
-        match keyword {
-            Some(word) if word.is_attribute() => self.add_attribute(line),
-            Some(word) => self.add_statement(line, word)?,
-            None => self.owner = None,
-        }
-        self.statements.push(Statement {
-            keyword,
-            owner: self.owner,
-            choice,
-            end: line,
-        })?;
-        Ok(())
-    }
-
-    fn add_attribute(&mut self, line: usize) {
-        if let Some(owner) = self.owner {
-            self.set_end(owner, line);
-        }
-    }
-
-    fn add_statement(&mut self, line: usize, word: Keyword) -> Result<(), AllocError> {
-        self.owner = Some(line);
-        if word.opens() {
-            let choice = if word == Keyword::Choice {
-                Some(line)
-            } else {
-                self.choice()
-            };
-            self.blocks.push(OpenBlock { line, choice })?;
-        } else if word.closes() {
-            if let Some(block) = self.blocks.pop() {
-                self.set_end(block.line, line);
-            }
-        }
-        Ok(())
-    }
-}
-
-/// The lines of a Kconfig, each with what it is.
-#[derive(Drop)]
-pub(crate) struct Statements<'a, 'b> {
-    lines: &'a [Line<'b>],
-    statements: Vec<Statement>,
-}
-
-impl<'a, 'b> Statements<'a, 'b> {
-    /// Of lines that have the forms of statements and close each block.
-    pub fn read(alloc: Global, lines: &'a [Line<'b>]) -> Result<Statements<'a, 'b>, AllocError> {
-        let mut walk = Walk::new(alloc);
-        for line in lines {
-            walk.add(read_keyword(line))?;
-        }
+impl<'l, 'a> Statements<'l, 'a> {
+    /// Of lines, which may be at fault.
+    pub fn read(alloc: Global, lines: &'l [Line<'a>]) -> Result<Statements<'l, 'a>, AllocError> {
+        let index = LineIndex::of(alloc, lines)?;
+        let definitions = read_definitions(alloc, lines, &index)?;
+        let blocks = read_blocks(alloc, lines)?;
         Ok(Statements {
+            alloc,
             lines,
-            statements: walk.statements,
+            definitions,
+            index,
+            blocks,
         })
     }
 
-    /// All lines.
-    pub fn lines(&self) -> &'a [Line<'b>] {
-        self.lines
+    /// Words, and the lines that show them.
+    pub fn say(&self, words: &str, lines: &[usize]) -> Said {
+        let words = String::from_str(self.alloc, words)?;
+        Ok(Finding::of_lines(self.alloc, words, lines)?)
     }
 
-    /// How many lines there are.
-    pub fn len(&self) -> usize {
-        self.statements.len()
+    /// The lines that begin choices.
+    pub fn choices(&self) -> &[usize] {
+        self.index.starts(Family::Choice)
+    }
+
+    /// The line of a number.
+    pub fn get(&self, line: usize) -> Result<&'l Line<'a>, Unsaid> {
+        self.lines.get(line).ok_or(Unsaid::Nothing)
     }
 
     /// The first word of a line.
     pub fn keyword(&self, line: usize) -> Option<Keyword> {
-        self.statements.get(line)?.keyword
-    }
-
-    /// The line that begins the statement that a line belongs to.
-    pub fn owner(&self, line: usize) -> Option<usize> {
-        self.statements.get(line)?.owner
-    }
-
-    /// Whether a line is an attribute of a choice, or begins one.
-    pub fn is_of_choice(&self, line: usize) -> bool {
-        match self.owner(line) {
-            Some(owner) => self.keyword(owner) == Some(Keyword::Choice),
-            None => false,
-        }
-    }
-
-    /// Whether two lines belong to one statement.
-    pub fn have_one_owner(&self, line: usize, other: usize) -> bool {
-        self.owner(line) == self.owner(other)
-    }
-
-    /// The line of the choice around a line.
-    pub fn choice(&self, line: usize) -> Option<usize> {
-        self.statements.get(line)?.choice
-    }
-
-    /// The last line of what a line begins.
-    pub fn end(&self, line: usize) -> usize {
-        match self.statements.get(line) {
-            Some(statement) => statement.end,
-            None => line,
-        }
+        read_keyword(self.lines.get(line)?)
     }
 
     /// The tokens of a line.
-    pub fn tokens(&self, line: usize) -> Option<&'a [Token<'b>]> {
+    pub fn tokens(&self, line: usize) -> Option<&'l [Token<'a>]> {
         let line = self.lines.get(line)?;
         Some(line.tokens())
     }
 
-    /// The word of a line at a place among its tokens.
-    pub fn word(&self, line: usize, place: usize) -> Option<&'a str> {
-        word_of(self.tokens(line)?.get(place)?)
-    }
-
-    /// The symbol that a line begins a definition of.
-    pub fn defined(&self, line: usize) -> Option<&'a str> {
-        match self.keyword(line)? {
-            Keyword::Config => self.word(line, 1),
-            _ => None,
-        }
-    }
-
-    /// The symbol whose definition a line belongs to.
-    pub fn symbol(&self, line: usize) -> Option<&'a str> {
-        self.defined(self.owner(line)?)
-    }
-
-    /// Whether a line belongs to a definition of a symbol.
-    pub fn is_of(&self, line: usize, name: &str) -> bool {
-        self.symbol(line).is_some_and(|symbol| symbol == name)
-    }
-
-    /// The type that a line gives its symbol.
-    pub fn kind(&self, line: usize) -> Option<SymbolType> {
-        self.symbol(line)?;
-        kind_of(self.keyword(line)?)
+    /// The second word of a line.
+    pub fn second_word(&self, line: usize) -> Option<&'l str> {
+        second_word_of(self.lines.get(line)?)
     }
 
     /// The symbol that a line selects or implies.
-    pub fn selected(&self, line: usize) -> Option<&'a str> {
+    pub fn selected(&self, line: usize) -> Option<&'l str> {
         match self.keyword(line)? {
-            Keyword::Select | Keyword::Imply => self.word(line, 1),
+            Keyword::Select | Keyword::Imply => self.second_word(line),
             _ => None,
         }
     }
 
-    /// Whether a line gives its statement a prompt.
+    /// The type that a line gives its symbol or its choice.
+    pub fn kind(&self, line: usize) -> Option<SymbolType> {
+        match self.keyword(line)? {
+            Keyword::Bool | Keyword::DefBool => Some(SymbolType::Bool),
+            Keyword::Tristate | Keyword::DefTristate => Some(SymbolType::Tristate),
+            Keyword::String => Some(SymbolType::String),
+            Keyword::Int => Some(SymbolType::Int),
+            Keyword::Hex => Some(SymbolType::Hex),
+            _ => None,
+        }
+    }
+
+    /// Whether a line gives what it belongs to a prompt.
     pub fn has_prompt(&self, line: usize) -> bool {
-        match self.keyword(line) {
-            Some(Keyword::Prompt) => true,
-            Some(Keyword::Bool | Keyword::Tristate | Keyword::String) => self.has_text(line),
-            Some(Keyword::Int | Keyword::Hex) => self.has_text(line),
-            _ => false,
+        match self.lines.get(line) {
+            Some(line) => says(Attribute::Prompt, line),
+            None => false,
         }
     }
 
-    fn has_text(&self, line: usize) -> bool {
-        self.tokens(line).is_some_and(|tokens| tokens.len() > 1)
+    /// The first two prompts in what a line begins, if it begins a definition or a choice.
+    pub fn two_prompts(&self, line: usize) -> Option<(usize, usize)> {
+        let mut prompts = self.attributes(line).filter(|line| self.has_prompt(*line));
+        Some((prompts.next()?, prompts.next()?))
     }
 
-    /// Whether a line says that its symbol switches modules.
-    pub fn has_modules(&self, line: usize) -> bool {
-        match self.keyword(line) {
-            Some(Keyword::Modules) => true,
-            Some(Keyword::Option) => self.word(line, 1).is_some_and(|word| word == "modules"),
-            _ => false,
+    /// Whether a line is an attribute.
+    fn is_attribute(&self, line: usize) -> bool {
+        match self.lines.get(line) {
+            Some(line) => is_attribute(line),
+            None => false,
         }
     }
 
-    /// The first line that gives a symbol a type.
-    pub fn first_type(&self, name: &str) -> Option<(usize, SymbolType)> {
-        for line in 0..self.len() {
-            if let Some(kind) = self.kind(line).filter(|_| self.is_of(line, name)) {
+    /// The lines of the attributes of what a line begins; none where it is an attribute.
+    pub fn attributes(&self, line: usize) -> Range<usize> {
+        let first = line.saturating_add(1);
+        let attributes = self.lines.get(first..).unwrap_or(&[]).iter();
+        let is_owner = !self.is_attribute(line);
+        let count = attributes
+            .take_while(|line| is_owner && is_attribute(line))
+            .count();
+        first..first.saturating_add(count)
+    }
+
+    /// The first line of a definition that gives its symbol a type, and the type.
+    pub fn first_type(&self, definition: &Definition<'_>) -> Option<(usize, SymbolType)> {
+        for line in definition.line..=definition.end {
+            if let Some(kind) = self.kind(line) {
                 return Some((line, kind));
             }
         }
         None
     }
+
+    /// The definition that a line belongs to.
+    pub fn definition(&self, line: usize) -> Option<Definition<'l>> {
+        let count = self
+            .definitions
+            .partition_point(|definition| definition.line <= line);
+        let definition = self.definitions.get(count.checked_sub(1)?)?;
+        (line <= definition.end).then_some(*definition)
+    }
+
+    /// The symbol whose definition a line belongs to, which is empty where it belongs to none.
+    pub fn symbol(&self, line: usize) -> &'l str {
+        match self.definition(line) {
+            Some(definition) => definition.name,
+            None => "",
+        }
+    }
+
+    /// The line that begins what a line belongs to: its own, if it is no attribute. It is asked of lines without faults.
+    pub fn owner(&self, line: usize) -> usize {
+        let mut owner = 0;
+        if !self.is_attribute(line) {
+            return line;
+        }
+        for family in [Family::Definition, Family::Block, Family::Comment] {
+            owner = last_up_to(self.index.starts(family), line)
+                .unwrap_or(0)
+                .max(owner);
+        }
+        owner
+    }
+
+    /// The nearest line before a line that is no attribute, which may be the end of a file.
+    pub fn statement_before(&self, line: usize) -> Option<usize> {
+        let before = self.lines.get(..line)?;
+        before.iter().rposition(|line| !is_attribute(line))
+    }
+
+    /// The last line of what a line begins: of a block the one that closes it, of a definition its last attribute.
+    pub fn end(&self, line: usize) -> usize {
+        match self.index.starts(Family::Block).binary_search(&line) {
+            Ok(block) => match self.blocks.get(block) {
+                Some(block) => block.end.unwrap_or(self.lines.len()),
+                None => line,
+            },
+            Err(_) => match self.definition(line) {
+                Some(definition) => definition.end,
+                None => line,
+            },
+        }
+    }
+
+    /// The line of the choice around a line.
+    pub fn choice(&self, line: usize) -> Option<usize> {
+        let choice = last_up_to(self.choices(), line.checked_sub(1)?)?;
+        (line < self.end(choice)).then_some(choice)
+    }
+
+    /// The lines of the blocks that are open before a line, the innermost first.
+    pub fn open_before(&self, line: usize) -> Result<Vec<usize>, AllocError> {
+        let starts = self.index.starts(Family::Block);
+        let mut open = Vec::new(self.alloc);
+        let mut next = starts.partition_point(|start| *start < line).checked_sub(1);
+        for _ in starts {
+            let Some(number) = next else {
+                break;
+            };
+            let (Some(start), Some(block)) = (starts.get(number), self.blocks.get(number)) else {
+                break;
+            };
+            if block.end.is_none_or(|end| end >= line) {
+                open.push(*start)?;
+            }
+            next = block.outer;
+        }
+        Ok(open)
+    }
+}
+
+/// The definitions of symbols.
+fn read_definitions<'l>(
+    alloc: Global,
+    lines: &'l [Line<'_>],
+    index: &LineIndex<'_, '_>,
+) -> Result<Vec<Definition<'l>>, AllocError> {
+    let mut definitions = Vec::new(alloc);
+    for (number, line) in index.starts(Family::Definition).iter().enumerate() {
+        let attributes = index.attributes(Family::Definition, number).len();
+        let Some(statement) = lines.get(*line) else {
+            continue;
+        };
+        if let Some(name) = second_word_of(statement) {
+            let end = line.saturating_add(attributes);
+            let line = *line;
+            definitions.push(Definition { name, line, end })?;
+        }
+    }
+    Ok(definitions)
+}
+
+/// The blocks, in the order of the lines that open them.
+fn read_blocks(alloc: Global, lines: &[Line<'_>]) -> Result<Vec<Block>, AllocError> {
+    let mut blocks: Vec<Block> = Vec::new(alloc);
+    let mut innermost = None;
+    for (number, line) in lines.iter().enumerate() {
+        let keyword = read_keyword(line);
+        if keyword.is_some_and(|keyword| keyword.opens()) {
+            blocks.push(Block {
+                end: None,
+                outer: innermost,
+            })?;
+            innermost = blocks.len().checked_sub(1);
+        }
+        if keyword.is_some_and(|keyword| keyword.closes()) {
+            innermost = close(blocks.as_mut_slice(), innermost, number);
+        }
+    }
+    Ok(blocks)
+}
+
+/// Closes a block, by its number, and gives the one around it.
+fn close(blocks: &mut [Block], block: Option<usize>, line: usize) -> Option<usize> {
+    let block = blocks.get_mut(block?)?;
+    block.end = Some(line);
+    block.outer
+}
+
+/// The last of numbers, which rise, that is not more than another.
+fn last_up_to(numbers: &[usize], most: usize) -> Option<usize> {
+    let count = numbers.partition_point(|number| *number <= most);
+    numbers.get(count.checked_sub(1)?).copied()
+}
+
+/// Whether a line is the end of its file.
+pub(crate) fn is_end(line: &Line<'_>) -> bool {
+    line.kind() == LineKind::EndOfFile
+}
+
+/// The second word of a line.
+fn second_word_of<'l>(line: &'l Line<'_>) -> Option<&'l str> {
+    word_of(line.tokens().get(1)?)
 }
 
 /// The word that a token is, also one that holds a reference.
-pub(crate) fn word_of<'a>(token: &'a Token<'_>) -> Option<&'a str>
+pub(crate) fn word_of<'t>(token: &'t Token<'_>) -> Option<&'t str>
     ensures { option_map (λ word. word.now) result ≡ token_word token.now }
 {
     match token {
@@ -256,21 +301,9 @@ pub(crate) fn word_of<'a>(token: &'a Token<'_>) -> Option<&'a str>
 }
 
 /// The tokens before an `if`.
-pub(crate) fn before_if<'a, 'b>(tokens: &'a [Token<'b>]) -> &'a [Token<'b>] {
-    let Some(end) = tokens.iter().position(|token| is_word(token, "if")) else {
-        return tokens;
-    };
-    tokens.get(..end).unwrap_or(tokens)
-}
-
-/// The type that a keyword gives.
-fn kind_of(keyword: Keyword) -> Option<SymbolType> {
-    match keyword {
-        Keyword::Bool | Keyword::DefBool => Some(SymbolType::Bool),
-        Keyword::Tristate | Keyword::DefTristate => Some(SymbolType::Tristate),
-        Keyword::String => Some(SymbolType::String),
-        Keyword::Int => Some(SymbolType::Int),
-        Keyword::Hex => Some(SymbolType::Hex),
-        _ => None,
+pub(crate) fn before_if<'t, 'a>(tokens: &'t [Token<'a>]) -> &'t [Token<'a>] {
+    match tokens.iter().position(|token| is_word(token, "if")) {
+        Some(end) => tokens.get(..end).unwrap_or(tokens),
+        None => tokens,
     }
 }

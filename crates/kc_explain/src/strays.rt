@@ -1,11 +1,11 @@
 //! What is said of an attribute that the nearest statement does not take (K06).
 
-use crate::context::{Context, is_end};
-use crate::said::Said;
-use crate::spelling::{first_word, line_text};
+use crate::lines::Suspect;
+use crate::said::{Said, Unsaid};
+use crate::spelling::{first_word, tokens_text};
+use crate::statements::is_end;
 use kc_statement::{Keyword, read_keyword};
-use kc_text::Line;
-use std::alloc::{AllocError, Global};
+use std::alloc::AllocError;
 
 /// The statements that take attributes, each with how it is written.
 static OWNERS: [(Keyword, &str); 4] = [
@@ -16,55 +16,31 @@ static OWNERS: [(Keyword, &str); 4] = [
 ];
 
 /// What is said of an attribute that the statement before it does not take, and nothing of one that it takes.
-///
-/// # Errors
-///
-/// `AllocError` where memory is refused.
-pub(crate) fn explain_stray(
-    alloc: Global,
-    context: &Context<'_, '_>,
-    line: &Line<'_>,
-) -> Result<Option<Said>, AllocError> {
-    let Some(attribute) = read_keyword(line) else {
-        return Ok(None);
-    };
-    if context.owner().is_some_and(|owner| owner.takes(attribute)) {
-        return Ok(None);
+pub(crate) fn explain_stray(suspect: &Suspect<'_, '_, '_>) -> Said {
+    let attribute = read_keyword(suspect.line).ok_or(Unsaid::Nothing)?;
+    if suspect.owner().is_some_and(|owner| owner.takes(attribute)) {
+        return Err(Unsaid::Nothing);
     }
-    let mut words = String::new(alloc);
-    let word = first_word(line).unwrap_or("");
-    write!(words, "`{word}` is an attribute of ")?;
+    let alloc = suspect.statements.alloc;
+    let word = first_word(suspect.line);
+    let mut words = format!(in alloc; "`{word}` is an attribute of ")?;
     push_owners(&mut words, attribute)?;
-    let mut said = Said::new(alloc, words);
-    match context.statement() {
-        None => said.words.push_str(", and no statement is before it")?,
-        Some(number) => add_statement(alloc, &mut said, context, number)?,
-    }
-    said.name(context.at())?;
-    Ok(Some(said))
-}
-
-/// Adds the statement before the attribute, which does not take it.
-fn add_statement(
-    alloc: Global,
-    said: &mut Said,
-    context: &Context<'_, '_>,
-    number: usize,
-) -> Result<(), AllocError> {
-    let Some(statement) = context.get(number) else {
-        return Ok(());
+    let Some(number) = suspect.statements.statement_before(suspect.at) else {
+        words.push_str(", and no statement is before it")?;
+        return suspect.say(words.as_str());
     };
-    let words = &mut said.words;
+    let statement = suspect.statements.get(number)?;
     if is_end(statement) {
         let path = statement.path();
-        return write!(
+        write!(
             words,
             ", and the end of {path} has ended the entry before it"
-        );
+        )?;
+        return suspect.say(words.as_str());
     }
-    let text = line_text(alloc, statement)?;
+    let text = tokens_text(alloc, statement.tokens())?;
     write!(words, ", and the statement before it is `{text}`")?;
-    said.name(number)
+    suspect.say_after(words.as_str(), number)
 }
 
 /// Adds the statements that take an attribute.

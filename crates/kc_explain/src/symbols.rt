@@ -1,19 +1,25 @@
 //! What is said of a fault of a symbol.
 
 ghost use Rattle.std.specs.Prelude.{IfOk};
-ghost use Rattle.kc_explain.specs.Named.{AreRemarksOf};
-ghost use Rattle.kc_explain.specs.Shown.{symbol_shown_by};
+ghost use Rattle.kc_facts.specs.declared.shown.Fault.TheVariants.{Symbol};
+ghost use Rattle.kc_facts.specs.Named.{AreRemarksOf};
 
-use crate::explanation::Explanation;
-use crate::mention::Finding;
-use crate::shown::Fault;
+use crate::said::{Said, Unsaid, or_meaning};
 use crate::statements::Statements;
-use crate::values::{defined_names, unfit_line};
-use crate::words::type_words;
+use crate::values::Fitting;
+use kc_facts::{Explanation, Fault, type_words};
 use kc_statement::{Keyword, SymbolType};
 use kc_text::Line;
-use kc_tree::SymbolProblem;
+use kc_tree::{Problem, SymbolProblem};
 use std::alloc::{AllocError, Global};
+
+/// A symbol by its name, and the lines of its definitions.
+#[derive(Drop)]
+struct Own<'s, 'l, 'a> {
+    statements: &'s Statements<'l, 'a>,
+    name: &'s str,
+    lines: Vec<usize>,
+}
 
 /// What is said of a fault of a symbol, by its name and the lines of its Kconfig: what is wrong, and the lines that
 /// make it wrong (this project's own words). Of several such lines it is the first.
@@ -27,196 +33,192 @@ pub fn explain_symbol(
     problem: SymbolProblem,
     name: &str,
 ) -> Result<Explanation, AllocError>
-    ensures { IfOk result (λ e. AreRemarksOf (symbol_shown_by problem) lines.now e.remarks.items) }
+    ensures { IfOk result (λ e. AreRemarksOf (Symbol problem) lines.now e.remarks.items) }
 {
     let statements = Statements::read(alloc, lines)?;
-    let finding = match problem {
-        SymbolProblem::NoType => no_type(alloc, &statements, name)?,
-        SymbolProblem::TypeConflict => type_conflict(alloc, &statements, name)?,
-        SymbolProblem::SecondPrompt => second_prompt(alloc, &statements, name)?,
-        SymbolProblem::UnfitDefault => unfit_default(alloc, &statements, name)?,
-        SymbolProblem::UnfitSelect => unfit_select(alloc, &statements, name)?,
-        SymbolProblem::BadModules => bad_modules(alloc, &statements, name)?,
+    let own = Own::read(&statements, name)?;
+    let said = match problem {
+        SymbolProblem::NoType => own.no_type(),
+        SymbolProblem::TypeConflict => own.type_conflict(),
+        SymbolProblem::SecondPrompt => own.second_prompt(),
+        SymbolProblem::UnfitDefault => own.unfit_default(),
+        SymbolProblem::UnfitSelect => own.unfit_select(),
+        SymbolProblem::BadModules if name == "MODULES" => own.no_bool(),
+        SymbolProblem::BadModules => own.bad_modules(),
     };
+    let finding = or_meaning(alloc, said, Problem::Symbol(problem).number())?;
     finding.explain(alloc, Fault::Symbol(problem), lines)
 }
 
-/// K12: all definitions of the symbol.
-fn no_type(
-    alloc: Global,
-    statements: &Statements<'_, '_>,
-    name: &str,
-) -> Result<Finding, AllocError> {
-    let mut definitions = Vec::new(alloc);
-    for line in 0..statements.len() {
-        if statements
-            .defined(line)
-            .is_some_and(|defined| defined == name)
-        {
-            definitions.push(line)?;
+impl<'s, 'l, 'a> Own<'s, 'l, 'a> {
+    /// The symbol of a name.
+    fn read(
+        statements: &'s Statements<'l, 'a>,
+        name: &'s str,
+    ) -> Result<Own<'s, 'l, 'a>, AllocError> {
+        let mut lines = Vec::new(statements.alloc);
+        for line in 0..statements.lines.len() {
+            if statements.symbol(line) == name {
+                lines.push(line)?;
+            }
         }
+        Ok(Own {
+            statements,
+            name,
+            lines,
+        })
     }
-    let words = String::from_str(alloc, "no definition of it has a type")?;
-    Finding::of_lines(alloc, words, definitions.as_slice())
-}
 
-/// K13: the first type, and the first other one.
-fn type_conflict(
-    alloc: Global,
-    statements: &Statements<'_, '_>,
-    name: &str,
-) -> Result<Finding, AllocError> {
-    let Some((line, kind)) = statements.first_type(name) else {
-        return Finding::of_meaning(alloc, 13);
-    };
-    let Some((other_line, other)) = other_type(statements, name, kind) else {
-        return Finding::of_meaning(alloc, 13);
-    };
-    let first = type_words(kind);
-    let second = type_words(other);
-    let words = format!(in alloc; "{first} and {second}")?;
-    Finding::of_lines(alloc, words, [line, other_line].as_slice())
-}
-
-/// The first line that gives a symbol another type.
-fn other_type(
-    statements: &Statements<'_, '_>,
-    name: &str,
-    kind: SymbolType,
-) -> Option<(usize, SymbolType)> {
-    for line in 0..statements.len() {
-        let found = statements.kind(line).filter(|other| *other != kind);
-        if let Some(other) = found.filter(|_| statements.is_of(line, name)) {
-            return Some((line, other));
+    /// The first line that gives it a type, and the type.
+    fn first_type(&self) -> Option<(usize, SymbolType)> {
+        for line in self.lines.as_slice() {
+            if let Some(kind) = self.statements.kind(*line) {
+                return Some((*line, kind));
+            }
         }
+        None
     }
-    None
-}
 
-/// K14: the two prompts.
-fn second_prompt(
-    alloc: Global,
-    statements: &Statements<'_, '_>,
-    name: &str,
-) -> Result<Finding, AllocError> {
-    let words = String::from_str(alloc, "two prompts in one definition")?;
-    let mut before = None;
-    for line in 0..statements.len() {
-        if !statements.has_prompt(line) || !statements.is_of(line, name) {
-            continue;
+    /// K12: all definitions of the symbol.
+    fn no_type(&self) -> Said {
+        let mut lines = Vec::new(self.statements.alloc);
+        for line in self.lines.as_slice() {
+            if self.statements.keyword(*line) == Some(Keyword::Config) {
+                lines.push(*line)?;
+            }
         }
-        if let Some(first) = before.filter(|first| statements.have_one_owner(*first, line)) {
-            return Finding::of_lines(alloc, words, [first, line].as_slice());
-        }
-        before = Some(line);
+        self.statements
+            .say("no definition of it has a type", lines.as_slice())
     }
-    Finding::of_meaning(alloc, 14)
-}
 
-/// K15: the default or the range, and the type.
-fn unfit_default(
-    alloc: Global,
-    statements: &Statements<'_, '_>,
-    name: &str,
-) -> Result<Finding, AllocError> {
-    let names = defined_names(alloc, statements)?;
-    let (type_line, kind) = match statements.first_type(name) {
-        Some((line, kind)) => (Some(line), kind),
-        None => (None, SymbolType::Bool),
-    };
-    for line in 0..statements.len() {
-        if !statements.is_of(line, name) {
-            continue;
+    /// K13: the first type, and the first other one.
+    fn type_conflict(&self) -> Said {
+        let (first_line, kind) = self.first_type().ok_or(Unsaid::Nothing)?;
+        for line in self.lines.as_slice() {
+            let Some(other) = self.statements.kind(*line).filter(|other| *other != kind) else {
+                continue;
+            };
+            let first = type_words(kind);
+            let second = type_words(other);
+            let words = format!(in self.statements.alloc; "{first} and {second}")?;
+            return self.statements.say(words.as_str(), &[first_line, *line]);
         }
-        let Some(unfit) = unfit_line(statements, &names, kind, line) else {
-            continue;
-        };
-        let words = unfit.words(alloc, kind)?;
-        return match type_line {
-            Some(type_line) => Finding::of_lines(alloc, words, [line, type_line].as_slice()),
-            None => Finding::of_lines(alloc, words, [line].as_slice()),
-        };
+        Err(Unsaid::Nothing)
     }
-    Finding::of_meaning(alloc, 15)
-}
 
-/// K16: the `select` or the `imply`, and the type.
-fn unfit_select(
-    alloc: Global,
-    statements: &Statements<'_, '_>,
-    name: &str,
-) -> Result<Finding, AllocError> {
-    let Some((type_line, kind)) = statements.first_type(name) else {
-        return Finding::of_meaning(alloc, 16);
-    };
-    let Some(line) = first_selection(statements, name) else {
-        return Finding::of_meaning(alloc, 16);
-    };
-    let words = selection_words(alloc, statements, line, name, kind)?;
-    Finding::of_lines(alloc, words, [line, type_line].as_slice())
-}
-
-/// The first `select` or `imply` in a symbol or of it.
-fn first_selection(statements: &Statements<'_, '_>, name: &str) -> Option<usize> {
-    for line in 0..statements.len() {
-        let Some(selected) = statements.selected(line) else {
-            continue;
-        };
-        if selected == name || statements.is_of(line, name) {
-            return Some(line);
+    /// K14: the two prompts.
+    fn second_prompt(&self) -> Said {
+        let words = "two prompts in one definition";
+        for line in self.lines.as_slice() {
+            if let Some((first, second)) = self.statements.two_prompts(*line) {
+                return self.statements.say(words, &[first, second]);
+            }
         }
+        Err(Unsaid::Nothing)
     }
-    None
+
+    /// K15: the default or the range, and the type.
+    fn unfit_default(&self) -> Said {
+        let first_type = self.first_type();
+        let kind = first_type.map_or(SymbolType::Bool, |(_, kind)| kind);
+        let fitting = Fitting::of(self.statements, kind)?;
+        for line in self.lines.as_slice() {
+            let words = match fitting.unfit_line(self.statements, *line) {
+                Err(Unsaid::Nothing) => continue,
+                unfit => unfit?,
+            };
+            return match first_type {
+                Some((type_line, _)) => self.statements.say(words.as_str(), &[*line, type_line]),
+                None => self.statements.say(words.as_str(), &[*line]),
+            };
+        }
+        Err(Unsaid::Nothing)
+    }
+
+    /// K16: the first `select` or `imply` in the symbol or of it, and the type.
+    fn unfit_select(&self) -> Said {
+        let (type_line, kind) = self.first_type().ok_or(Unsaid::Nothing)?;
+        for line in 0..self.statements.lines.len() {
+            let Some(selected) = self.statements.selected(line) else {
+                continue;
+            };
+            if selected == self.name || self.statements.symbol(line) == self.name {
+                let words = self.selection_words(line, selected, type_words(kind))?;
+                return self.statements.say(words.as_str(), &[line, type_line]);
+            }
+        }
+        Err(Unsaid::Nothing)
+    }
+
+    /// The words for a line that selects or implies a symbol, where one of the two has a type, with its article.
+    fn selection_words(
+        &self,
+        line: usize,
+        selected: &str,
+        kind: &str,
+    ) -> Result<String, AllocError> {
+        let alloc = self.statements.alloc;
+        let is_imply = self.statements.keyword(line) == Some(Keyword::Imply);
+        if selected == self.name {
+            let by = self.statements.symbol(line);
+            return selected_words(alloc, is_imply, by, self.name, kind);
+        }
+        selecting_words(alloc, is_imply, selected, self.name, kind)
+    }
+
+    /// K18: the `modules` of a symbol that is not MODULES.
+    fn bad_modules(&self) -> Said {
+        for line in self.lines.as_slice() {
+            let is_modules = match self.statements.keyword(*line) {
+                Some(Keyword::Modules) => true,
+                Some(Keyword::Option) => self.statements.second_word(*line) == Some("modules"),
+                _ => false,
+            };
+            if is_modules {
+                let words = "`modules` in a symbol that is not MODULES";
+                return self.statements.say(words, &[*line]);
+            }
+        }
+        Err(Unsaid::Nothing)
+    }
+
+    /// K18: the type of MODULES.
+    fn no_bool(&self) -> Said {
+        let (line, kind) = self.first_type().ok_or(Unsaid::Nothing)?;
+        let article = type_words(kind);
+        let words = format!(in self.statements.alloc;
+            "MODULES is {article}, and has to be a bool"
+        )?;
+        self.statements.say(words.as_str(), &[line])
+    }
 }
 
-/// The words for a `select` or an `imply` in a symbol of a type or of it.
-fn selection_words(
+/// The words for a symbol with a type that a line of another one selects or implies.
+fn selected_words(
     alloc: Global,
-    statements: &Statements<'_, '_>,
-    line: usize,
+    is_imply: bool,
+    by: &str,
     name: &str,
-    kind: SymbolType,
+    kind: &str,
 ) -> Result<String, AllocError> {
-    let article = type_words(kind);
-    let is_imply = statements.keyword(line) == Some(Keyword::Imply);
-    let selected = statements.selected(line).unwrap_or("");
-    let by = statements.symbol(line).unwrap_or("");
-    if selected == name {
-        let done = if is_imply { "implied" } else { "selected" };
-        return format!(in alloc; "{done} by {by}, but {name} is {article}");
+    if is_imply {
+        format!(in alloc; "implied by {by}, but {name} is {kind}")
+    } else {
+        format!(in alloc; "selected by {by}, but {name} is {kind}")
     }
-    let does = if is_imply { "implies" } else { "selects" };
-    format!(in alloc; "{does} {selected}, but {name} is {article}")
 }
 
-/// K18: the type of MODULES, or the `modules` of another symbol.
-fn bad_modules(
+/// The words for a symbol with a type that selects or implies another one.
+fn selecting_words(
     alloc: Global,
-    statements: &Statements<'_, '_>,
+    is_imply: bool,
+    selected: &str,
     name: &str,
-) -> Result<Finding, AllocError> {
-    if name == "MODULES" {
-        return no_bool(alloc, statements, name);
+    kind: &str,
+) -> Result<String, AllocError> {
+    if is_imply {
+        format!(in alloc; "implies {selected}, but {name} is {kind}")
+    } else {
+        format!(in alloc; "selects {selected}, but {name} is {kind}")
     }
-    let words = String::from_str(alloc, "`modules` in a symbol that is not MODULES")?;
-    for line in 0..statements.len() {
-        if statements.has_modules(line) && statements.is_of(line, name) {
-            return Finding::of_lines(alloc, words, [line].as_slice());
-        }
-    }
-    Finding::of_meaning(alloc, 18)
-}
-
-/// The type of a symbol that should be a bool.
-fn no_bool(
-    alloc: Global,
-    statements: &Statements<'_, '_>,
-    name: &str,
-) -> Result<Finding, AllocError> {
-    let Some((line, kind)) = statements.first_type(name) else {
-        return Finding::of_meaning(alloc, 18);
-    };
-    let article = type_words(kind);
-    let words = format!(in alloc; "{name} is {article}, and has to be a bool")?;
-    Finding::of_lines(alloc, words, [line].as_slice())
 }

@@ -1,11 +1,11 @@
 //! What is said of a line that begins with no known word (K04).
 
-use crate::context::Context;
 use crate::indentation::{help_indentation, indentation, line_of};
+use crate::lines::Suspect;
 use crate::nearest::nearest_keyword;
 use crate::said::Said;
-use crate::spelling::{first_word, token_text};
-use kc_text::{Line, Token};
+use crate::spelling::token_text;
+use kc_text::Token;
 use std::alloc::{AllocError, Global};
 
 /// How a line after a help text is indented.
@@ -20,28 +20,35 @@ struct AfterHelp {
 }
 
 /// What is said of a line that begins with no known word, by the text of its file.
-///
-/// # Errors
-///
-/// `AllocError` where memory is refused.
-pub(crate) fn explain_unknown(
-    alloc: Global,
-    text: &str,
-    context: &Context<'_, '_>,
-    line: &Line<'_>,
-) -> Result<Option<Said>, AllocError> {
-    let words = match first_word(line) {
-        Some(word) => word_words(alloc, word, after_help(text, context, line))?,
-        None => other_words(alloc, line.tokens())?,
+pub(crate) fn explain_unknown(suspect: &Suspect<'_, '_, '_>, text: &str) -> Said {
+    let alloc = suspect.statements.alloc;
+    let Some(token) = suspect.line.tokens().first() else {
+        return suspect.say("the line has no word");
     };
-    let mut said = Said::new(alloc, words);
-    said.name(context.at())?;
-    Ok(Some(said))
+    let word = token_text(alloc, token)?;
+    let words = match token {
+        Token::Word(word) => word_words(alloc, word.as_str(), after_help(suspect, text))?,
+        Token::Operator(_) => format!(in alloc; "`{word}` begins no statement")?,
+        Token::Quoted(_) => {
+            format!(in alloc; "{word} begins no statement, as a text in quotes is no keyword")?
+        }
+        Token::Expanded(_) => {
+            format!(in alloc;
+                "`{word}` begins no statement, as a word with a reference is no keyword"
+            )?
+        }
+    };
+    suspect.say(words.as_str())
 }
 
-/// How a line is indented, where a help text is before it and it is indented less than that.
-fn after_help(text: &str, context: &Context<'_, '_>, line: &Line<'_>) -> Option<AfterHelp> {
-    let number = context.help_before()?.number();
+/// How a line is indented, where a help text is before it in the same file and it is indented less than that.
+fn after_help(suspect: &Suspect<'_, '_, '_>, text: &str) -> Option<AfterHelp> {
+    let line = suspect.line;
+    let help = suspect.statements.lines.get(suspect.at.checked_sub(1)?)?;
+    if help.run() != line.run() || help.help().is_none() {
+        return None;
+    }
+    let number = help.number();
     let after = AfterHelp {
         number,
         of_help: indentation(line_of(text, number)),
@@ -58,15 +65,12 @@ fn word_words(
     word: &str,
     after_help: Option<AfterHelp>,
 ) -> Result<String, AllocError> {
-    if word == "allnoconfig_y" {
-        return String::from_str(
-            alloc,
-            "`allnoconfig_y` begins no statement; did you mean `option allnoconfig_y`?",
-        );
-    }
-    let nearest = nearest_keyword(alloc, word)?;
     let mut words = format!(in alloc; "`{word}` begins no statement")?;
-    match (nearest, after_help) {
+    if word == "allnoconfig_y" {
+        words.push_str("; did you mean `option allnoconfig_y`?")?;
+        return Ok(words);
+    }
+    match (nearest_keyword(word), after_help) {
         (Some(keyword), None) => write!(words, "; did you mean `{keyword}`?")?,
         (Some(keyword), Some(after)) if after.of_line == after.of_help => {
             write!(words, "; did you mean `{keyword}`?")?;
@@ -86,23 +90,4 @@ fn push_help(words: &mut String, after: &AfterHelp) -> Result<(), AllocError> {
         words,
         "; the line is indented by {of_line}, the help text of line {number} by {of_text}, so that ended"
     )
-}
-
-/// What is said of a line that begins with no plain word.
-fn other_words(alloc: Global, tokens: &[Token<'_>]) -> Result<String, AllocError> {
-    let Some(token) = tokens.first() else {
-        return String::from_str(alloc, "the line has no word");
-    };
-    let text = token_text(alloc, token)?;
-    match token {
-        Token::Word(_) | Token::Operator(_) => format!(in alloc; "`{text}` begins no statement"),
-        Token::Quoted(_) => {
-            format!(in alloc; "{text} begins no statement, as a text in quotes is no keyword")
-        }
-        Token::Expanded(_) => {
-            format!(in alloc;
-                "`{text}` begins no statement, as a word with a reference is no keyword"
-            )
-        }
-    }
 }

@@ -3,25 +3,26 @@
 use crate::statements::{Statements, word_of};
 use kc_statement::{Keyword, is_word};
 use kc_text::{Operator, Token};
-use std::alloc::{AllocError, Global};
+use std::alloc::AllocError;
 
 /// The symbol that a condition uses by an m that is alone.
 pub(crate) const MODULES: &str = "MODULES";
 
 /// The names in the expressions of a line, of symbols and of none.
-pub(crate) fn used_names<'a>(
-    alloc: Global,
-    statements: &Statements<'a, '_>,
+pub(crate) fn used_names<'l>(
+    statements: &Statements<'l, '_>,
     line: usize,
-) -> Result<Vec<&'a str>, AllocError> {
-    let mut names = Vec::new(alloc);
+) -> Result<Vec<&'l str>, AllocError> {
+    let mut names = Vec::new(statements.alloc);
+    let keyword = statements.keyword(line);
     let Some(tokens) = statements.tokens(line) else {
         return Ok(names);
     };
-    let Some(start) = expression_start(statements, line) else {
-        return Ok(names);
+    let condition = condition_start(keyword, tokens);
+    let start = match expression_start(keyword) {
+        1 if is_default_of_choice(statements, line) => 2,
+        start => start,
     };
-    let condition = condition_start(statements.keyword(line), tokens);
     for place in start..tokens.len() {
         if let Some(name) = used_name(tokens, place, condition) {
             names.push(name)?;
@@ -30,17 +31,21 @@ pub(crate) fn used_names<'a>(
     Ok(names)
 }
 
-/// How many tokens come before the first expression of a line that may have one. The name of a choice's default is no
-/// expression.
-fn expression_start(statements: &Statements<'_, '_>, line: usize) -> Option<usize> {
-    match statements.keyword(line)? {
-        Keyword::If | Keyword::Range | Keyword::DefBool | Keyword::DefTristate => Some(1),
-        Keyword::Default if statements.is_of_choice(line) => Some(2),
-        Keyword::Default => Some(1),
-        Keyword::Depends | Keyword::Visible | Keyword::Select | Keyword::Imply => Some(2),
-        Keyword::Prompt | Keyword::Bool | Keyword::Tristate | Keyword::String => Some(2),
-        Keyword::Int | Keyword::Hex => Some(2),
-        _ => None,
+/// Whether a line is a default of a choice, whose name is no expression.
+fn is_default_of_choice(statements: &Statements<'_, '_>, line: usize) -> bool {
+    let owner = statements.keyword(statements.owner(line));
+    statements.keyword(line) == Some(Keyword::Default) && owner == Some(Keyword::Choice)
+}
+
+/// How many tokens come before the first expression of a line, all of them where it can have none.
+fn expression_start(keyword: Option<Keyword>) -> usize {
+    match keyword {
+        Some(Keyword::If | Keyword::Range | Keyword::DefBool | Keyword::DefTristate) => 1,
+        Some(Keyword::Default) => 1,
+        Some(Keyword::Depends | Keyword::Visible | Keyword::Select | Keyword::Imply) => 2,
+        Some(Keyword::Prompt | Keyword::Bool | Keyword::Tristate | Keyword::String) => 2,
+        Some(Keyword::Int | Keyword::Hex) => 2,
+        _ => usize::MAX,
     }
 }
 
@@ -56,7 +61,7 @@ fn condition_start(keyword: Option<Keyword>, tokens: &[Token<'_>]) -> usize {
 }
 
 /// The name at a place: that of a word, or MODULES at an m that is alone in a condition.
-fn used_name<'a>(tokens: &'a [Token<'_>], place: usize, condition: usize) -> Option<&'a str> {
+fn used_name<'l>(tokens: &'l [Token<'_>], place: usize, condition: usize) -> Option<&'l str> {
     let token = tokens.get(place)?;
     if place >= condition && is_m(token) && !is_compared(tokens, place) {
         return Some(MODULES);

@@ -4,150 +4,111 @@ ghost use Rattle.std.specs.Prelude.{◌≡◌};
 ghost use Rattle.kc_statement.specs.declared.expr.Term.TheVariants.{Text, Undefined};
 ghost use Rattle.kc_tree.specs.SymbolFaults.{begins_as_number, is_unfit_term};
 
+use crate::said::Unsaid;
+use crate::spelling::repeated;
 use crate::statements::{Statements, before_if};
-use crate::words::{repeated, type_name, type_words};
+use kc_facts::{type_name, type_words};
 use kc_statement::{Keyword, SymbolType, numeral};
 use kc_text::{Operator, Token};
 use std::alloc::{AllocError, Global};
 use std::collections::BTreeSet;
 
-/// Why a default or a range does not fit a type.
+/// What is said of a default or a range that does not fit: nothing of one that fits.
+type Unfit = Result<String, Unsaid>;
+
+/// A type and the symbols that lines define: what defaults and ranges have to fit.
 #[derive(Drop)]
-pub(crate) enum Unfit<'a> {
-    /// A text in quotes is no numeral of the type.
-    Text(&'a str),
-    /// A word is no numeral of the type.
-    Word(&'a str),
-    /// A default is more than one term.
-    Expression,
-    /// The type takes no range.
-    Range,
-}
-
-impl Unfit<'_> {
-    /// The words for it.
-    pub fn words(&self, alloc: Global, kind: SymbolType) -> Result<String, AllocError> {
-        let name = type_name(kind);
-        let article = type_words(kind);
-        match self {
-            Unfit::Text(text) => {
-                let text = repeated(text);
-                format!(in alloc; "\"{text}\" is no {name}")
-            }
-            Unfit::Word(word) => {
-                let word = repeated(word);
-                format!(in alloc; "{word} is no {name}")
-            }
-            Unfit::Expression => format!(in alloc; "the default of {article} is one term"),
-            Unfit::Range => format!(in alloc; "{article} takes no range"),
-        }
-    }
-}
-
-/// The symbols that lines define.
-pub(crate) fn defined_names<'a>(
+pub(crate) struct Fitting<'l> {
     alloc: Global,
-    statements: &Statements<'a, '_>,
-) -> Result<BTreeSet<&'a str>, AllocError> {
-    let mut names = BTreeSet::new(alloc);
-    for line in 0..statements.len() {
-        if let Some(name) = statements.defined(line) {
-            names.insert(name)?;
-        }
-    }
-    Ok(names)
+    kind: SymbolType,
+    names: BTreeSet<&'l str>,
 }
 
-/// Why the default or the range of a line does not fit a type, if it has one that does not.
-pub(crate) fn unfit_line<'a>(
-    statements: &Statements<'a, '_>,
-    names: &BTreeSet<&'a str>,
-    kind: SymbolType,
-    line: usize,
-) -> Option<Unfit<'a>> {
-    let (_, rest) = statements.tokens(line)?.split_first()?;
-    let value = before_if(rest);
-    match statements.keyword(line)? {
-        Keyword::Default | Keyword::DefBool | Keyword::DefTristate => {
-            unfit_default(names, kind, value)
+impl<'l> Fitting<'l> {
+    /// Of a type, by the lines of its Kconfig.
+    pub fn of(
+        statements: &Statements<'l, '_>,
+        kind: SymbolType,
+    ) -> Result<Fitting<'l>, AllocError> {
+        let alloc = statements.alloc;
+        let mut names = BTreeSet::new(alloc);
+        for definition in statements.definitions.as_slice() {
+            names.insert(definition.name)?;
         }
-        Keyword::Range => unfit_range(names, kind, value),
-        _ => None,
+        Ok(Fitting { alloc, kind, names })
+    }
+
+    /// What is said of the default or the range of a line.
+    pub fn unfit_line(&self, statements: &Statements<'_, '_>, line: usize) -> Unfit {
+        let Some(tokens) = statements.tokens(line) else {
+            return Err(Unsaid::Nothing);
+        };
+        let Some((_, rest)) = tokens.split_first() else {
+            return Err(Unsaid::Nothing);
+        };
+        match statements.keyword(line) {
+            Some(Keyword::Default | Keyword::DefBool | Keyword::DefTristate) => {
+                self.unfit_default(before_if(rest))
+            }
+            Some(Keyword::Range) => self.unfit_range(before_if(rest)),
+            _ => Err(Unsaid::Nothing),
+        }
+    }
+
+    /// What is said of the value of a default. A string takes each single term.
+    fn unfit_default(&self, value: &[Token<'_>]) -> Unfit {
+        let mut parts = value.iter().filter(|token| is_no_parenthesis(token));
+        match (self.kind, parts.next(), parts.next()) {
+            (SymbolType::Bool | SymbolType::Tristate, _, _) => Err(Unsaid::Nothing),
+            (SymbolType::String, Some(_), None) => Err(Unsaid::Nothing),
+            (SymbolType::Int | SymbolType::Hex, Some(term), None) => self.unfit_term(term),
+            (kind, _, _) => {
+                let article = type_words(kind);
+                Ok(format!(in self.alloc; "the default of {article} is one term")?)
+            }
+        }
+    }
+
+    /// What is said of a range.
+    fn unfit_range(&self, sides: &[Token<'_>]) -> Unfit {
+        if !matches!(self.kind, SymbolType::Int | SymbolType::Hex) {
+            let article = type_words(self.kind);
+            return Ok(format!(in self.alloc; "{article} takes no range")?);
+        }
+        for side in sides {
+            match self.unfit_term(side) {
+                Err(Unsaid::Nothing) => {}
+                unfit => return unfit,
+            }
+        }
+        Err(Unsaid::Nothing)
+    }
+
+    /// What is said of a term of an int or a hex, which is no symbol.
+    fn unfit_term(&self, term: &Token<'_>) -> Unfit {
+        let kind = type_name(self.kind);
+        match term {
+            Token::Quoted(text) if is_unfit_text(self.kind, text.as_str()) => {
+                let text = repeated(text.as_str());
+                Ok(format!(in self.alloc; "\"{text}\" is no {kind}")?)
+            }
+            Token::Word(word) | Token::Expanded(word) if self.is_unfit_name(word.as_str()) => {
+                let word = repeated(word.as_str());
+                Ok(format!(in self.alloc; "{word} is no {kind}")?)
+            }
+            _ => Err(Unsaid::Nothing),
+        }
+    }
+
+    /// Whether a word is no symbol and does not fit, either.
+    fn is_unfit_name(&self, word: &str) -> bool {
+        !self.names.contains(word) && is_unfit_word(self.kind, word)
     }
 }
 
 /// Whether a token is no parenthesis.
 fn is_no_parenthesis(token: &Token<'_>) -> bool {
     !matches!(token, Token::Operator(Operator::Open | Operator::Close))
-}
-
-/// Why the value of a default does not fit a type. A string takes each single term.
-fn unfit_default<'a>(
-    names: &BTreeSet<&'a str>,
-    kind: SymbolType,
-    value: &'a [Token<'_>],
-) -> Option<Unfit<'a>> {
-    if matches!(kind, SymbolType::Bool | SymbolType::Tristate) {
-        return None;
-    }
-    if value
-        .iter()
-        .filter(|token| is_no_parenthesis(token))
-        .count()
-        != 1
-    {
-        return Some(Unfit::Expression);
-    }
-    if kind == SymbolType::String {
-        return None;
-    }
-    unfit_term(
-        names,
-        kind,
-        value.iter().find(|token| is_no_parenthesis(token))?,
-    )
-}
-
-/// Why a range does not fit a type.
-fn unfit_range<'a>(
-    names: &BTreeSet<&'a str>,
-    kind: SymbolType,
-    sides: &'a [Token<'_>],
-) -> Option<Unfit<'a>> {
-    if !matches!(kind, SymbolType::Int | SymbolType::Hex) {
-        return Some(Unfit::Range);
-    }
-    for side in sides {
-        if let Some(unfit) = unfit_term(names, kind, side) {
-            return Some(unfit);
-        }
-    }
-    None
-}
-
-/// Why a term does not fit a type, int or hex. A symbol fits.
-fn unfit_term<'a>(
-    names: &BTreeSet<&'a str>,
-    kind: SymbolType,
-    term: &'a Token<'_>,
-) -> Option<Unfit<'a>> {
-    match term {
-        Token::Quoted(text) => {
-            let text = text.as_str();
-            is_unfit_text(kind, text).then_some(Unfit::Text(text))
-        }
-        Token::Word(word) => unfit_word(names, kind, word.as_str()),
-        Token::Expanded(word) => unfit_word(names, kind, word.as_str()),
-        Token::Operator(_) => None,
-    }
-}
-
-/// Why a word does not fit a type, int or hex.
-fn unfit_word<'a>(names: &BTreeSet<&'a str>, kind: SymbolType, word: &'a str) -> Option<Unfit<'a>> {
-    if names.contains(word) {
-        return None;
-    }
-    is_unfit_word(kind, word).then_some(Unfit::Word(word))
 }
 
 /// Whether a text in quotes does not fit a type, int or hex.

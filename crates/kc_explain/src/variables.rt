@@ -1,74 +1,54 @@
 //! What is said of a variable that its own expansion needs (K11).
 
-use crate::dollars::references_in;
-use crate::explanation::Explanation;
 use crate::indentation::line_of;
-use crate::texts::plain;
+use crate::texts::TextLine;
+use kc_facts::{Explanation, is_variable_byte, references_in, value_references_in};
 use std::alloc::{AllocError, Global};
 use std::collections::BTreeMap;
 
 /// The most variables that are followed from one line.
 const MOST_FOLLOWED: usize = 4_096;
 
-/// A definition of a variable.
-#[derive(Drop)]
-struct Definition<'t> {
-    /// The number of its line.
-    line: usize,
-    value: &'t str,
-}
+/// The last definitions before a line, by the names of their variables: the number of the line and the text.
+type Definitions<'t> = BTreeMap<&'t str, (usize, &'t str)>;
 
-/// The last definitions before a line, by the names of their variables.
-type Definitions<'t> = BTreeMap<String, Definition<'t>>;
-
-/// A variable that is followed, with the references in its text and how many of them were followed.
+/// A variable that is followed, with the references in its text that are left to follow, the next one last.
 #[derive(Drop)]
 struct Step<'t> {
     name: &'t str,
-    references: Vec<&'t str>,
-    followed: usize,
+    left: Vec<&'t str>,
 }
 
-/// What is said of a variable in the line of a number that its own expansion needs, by the definitions before that in the
-/// same file: the variable, and the lines by which it comes to itself.
-///
-/// # Errors
-///
-/// `AllocError` where memory is refused.
-pub(crate) fn explain_ring(
-    alloc: Global,
-    text: &str,
-    path: &str,
-    number: usize,
-) -> Result<Explanation, AllocError> {
-    let definitions = definitions_before(alloc, text, number)?;
-    for name in references_in(alloc, line_of(text, number))?.as_slice() {
+/// What is said of a variable in a line that its own expansion needs, by the definitions before that in the same file:
+/// the variable, and the lines by which it comes to itself.
+pub(crate) fn explain_ring(line: &TextLine<'_>) -> Result<Explanation, AllocError> {
+    let alloc = line.alloc;
+    let definitions = definitions_before(alloc, line.text, line.number)?;
+    for name in names_used_in(alloc, line_of(line.text, line.number))?.as_slice() {
         let ring = ring_of(alloc, &definitions, name)?;
         if let [first, ..] = ring.as_slice() {
             let words = format!(in alloc; "`{first}` needs itself")?;
-            let mut explanation = Explanation::new(alloc, words);
-            name_ring(alloc, &mut explanation, &definitions, ring.as_slice(), path)?;
-            explanation.name_line(alloc, "", path, number)?;
-            return Ok(explanation);
+            return name_ring(line, words, &definitions, ring.as_slice());
         }
     }
-    plain(alloc, 11, path, number)
+    line.plain(11)
 }
 
-/// Names the definitions of a ring of variables.
+/// Words, the lines that define a ring of variables, and the line that uses it.
 fn name_ring(
-    alloc: Global,
-    explanation: &mut Explanation,
+    line: &TextLine<'_>,
+    words: String,
     definitions: &Definitions<'_>,
     ring: &[&str],
-    path: &str,
-) -> Result<(), AllocError> {
+) -> Result<Explanation, AllocError> {
+    let mut explanation = Explanation::new(line.alloc, words);
     for name in ring {
-        if let Some(definition) = definitions.get(*name) {
-            explanation.name_line(alloc, "", path, definition.line)?;
+        if let Some((number, _)) = definitions.get(*name) {
+            explanation.name_line(line.alloc, "", line.path, *number)?;
         }
     }
-    Ok(())
+    explanation.name_line(line.alloc, "", line.path, line.number)?;
+    Ok(explanation)
 }
 
 /// The definitions in the lines of a text before the line of a number.
@@ -81,14 +61,22 @@ fn definitions_before<'t>(
     let lines = text.lines().take(number.saturating_sub(1));
     for (index, line) in lines.enumerate() {
         if let Some((name, value)) = definition_in(line) {
-            let definition = Definition {
-                line: index.saturating_add(1),
-                value,
-            };
-            definitions.insert(String::from_str(alloc, name)?, definition)?;
+            definitions.insert(name, (index.saturating_add(1), value))?;
         }
     }
     Ok(definitions)
+}
+
+/// The names of the variables that a line refers to, in a value where it defines a variable.
+///
+/// # Errors
+///
+/// `AllocError` where memory is refused.
+pub(crate) fn names_used_in<'t>(alloc: Global, line: &'t str) -> Result<Vec<&'t str>, AllocError> {
+    match definition_in(line) {
+        Some((_, value)) => value_references_in(alloc, value),
+        None => references_in(alloc, line),
+    }
 }
 
 /// The name and the value that a line defines, where it has no blank in the name.
@@ -96,10 +84,9 @@ fn definition_in(line: &str) -> Option<(&str, &str)> {
     let (name, value) = line.split_once('=')?;
     let name = name.strip_suffix(':').unwrap_or(name);
     let name = name.strip_suffix('+').unwrap_or(name).trim();
-    let is_name = name.bytes().all(|byte| byte.is_ascii_alphanumeric()
-        || byte == b'_'
-        || byte == b'-');
-    is_name.then_some((name, value))
+    name.bytes()
+        .all(|byte| is_variable_byte(byte))
+        .then_some((name, value))
 }
 
 /// The variables from a variable on that lead back to the first of them, each of which the text of the one before refers
@@ -112,17 +99,15 @@ fn ring_of<'t>(
     let mut path = Vec::new(alloc);
     path.push(step_of(alloc, definitions, name)?)?;
     for _ in 0..MOST_FOLLOWED {
-        match next_reference(&mut path) {
-            Some(name) => {
-                let ring = names_from(alloc, path.as_slice(), name)?;
-                if !ring.is_empty() {
-                    return Ok(ring);
-                }
-                path.push(step_of(alloc, definitions, name)?)?;
-            }
-            None if path.is_empty() => break,
-            None => {}
+        let Some(name) = next_reference(&mut path) else {
+            let _ = path.pop();
+            continue;
+        };
+        let ring = names_from(alloc, path.as_slice(), name)?;
+        if !ring.is_empty() {
+            return Ok(ring);
         }
+        path.push(step_of(alloc, definitions, name)?)?;
     }
     Ok(Vec::new(alloc))
 }
@@ -133,30 +118,17 @@ fn step_of<'t>(
     definitions: &Definitions<'t>,
     name: &'t str,
 ) -> Result<Step<'t>, AllocError> {
-    let references = match definitions.get(name) {
-        Some(definition) => references_in(alloc, definition.value)?,
+    let mut left = match definitions.get(name) {
+        Some((_, text)) => value_references_in(alloc, text)?,
         None => Vec::new(alloc),
     };
-    Ok(Step {
-        name,
-        references,
-        followed: 0,
-    })
+    left.reverse();
+    Ok(Step { name, left })
 }
 
-/// The next reference of the last variable of a path. Where all of them were followed, that variable is taken off.
+/// The next reference of the last variable of a path.
 fn next_reference<'t>(path: &mut Vec<Step<'t>>) -> Option<&'t str> {
-    let step = path.last_mut()?;
-    match step.references.get(step.followed).copied() {
-        Some(name) => {
-            step.followed = step.followed.saturating_add(1);
-            Some(name)
-        }
-        None => {
-            let _ = path.pop();
-            None
-        }
-    }
+    path.last_mut()?.left.pop()
 }
 
 /// The names of a path from the variable of a name on, which are none where it is not on the path.

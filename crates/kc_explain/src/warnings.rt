@@ -1,13 +1,30 @@
 //! What is said of the warnings of a `.config`.
 
-use crate::config_lines::{ConfigLine, earlier_lines, warned_lines};
 use crate::malformed::malformed_words;
-use crate::showing::shown_line;
-use crate::types::{SymbolPlace, symbol_places};
+use crate::statements::{Definition, Statements};
+use kc_facts::{NamedLine, name_in, push_quoted, shown_line, type_words};
 use kc_files::{Warning, WarningKind};
 use kc_statement::SymbolType;
 use kc_text::Line;
 use std::alloc::{AllocError, Global};
+use std::collections::BTreeMap;
+
+/// The first line, by its number among all lines, that gives a symbol a type; where none does, as in a member of a choice,
+/// its first line.
+#[derive(Clone, Copy)]
+struct Typed {
+    kind: Option<SymbolType>,
+    line: usize,
+}
+
+/// A line of a `.config` with its warning.
+#[derive(Clone, Copy)]
+struct Warned<'c> {
+    kind: WarningKind,
+    line: NamedLine<'c>,
+    /// The last usable line before it that has the same name, where it repeats one.
+    before: usize,
+}
 
 /// What is written after the number of each warning of a `.config`, in their order, by the lines of the Kconfig, the prefix
 /// of names, and the bytes of the `.config`. The lines are read once, however many warnings there are.
@@ -23,34 +40,102 @@ pub fn explain_warnings(
     warnings: &[Warning],
 ) -> Result<Vec<String>, AllocError> {
     let warned = warned_lines(alloc, prefix, config, warnings)?;
-    let places = symbol_places(alloc, lines, warned.as_slice())?;
-    let earlier = earlier_lines(alloc, prefix, config, warned.as_slice())?;
+    let statements = Statements::read(alloc, lines)?;
+    let types = types_of(&statements, warned.as_slice())?;
     let mut all = Vec::new(alloc);
-    for (line, before) in warned.iter().zip(earlier.as_slice()) {
-        let place = places.get(line.name);
-        all.push(warning_words(alloc, prefix, line, place, *before)?)?;
+    for warned in warned.as_slice() {
+        let (kind, line) = match types.get(warned.line.name).copied().flatten() {
+            Some(typed) => (
+                typed.kind.unwrap_or(SymbolType::Bool),
+                lines.get(typed.line),
+            ),
+            None => (SymbolType::Bool, None),
+        };
+        all.push(warning_words(alloc, prefix, warned, kind, line)?)?;
     }
     Ok(all)
+}
+
+/// The lines that warnings name, which are in the order of their numbers.
+fn warned_lines<'c>(
+    alloc: Global,
+    prefix: &str,
+    config: &'c [u8],
+    warnings: &[Warning],
+) -> Result<Vec<Warned<'c>>, AllocError> {
+    let mut warned = Vec::new(alloc);
+    let mut last = BTreeMap::new(alloc);
+    let mut left = warnings.iter().copied();
+    let mut next = left.next();
+    for (index, line) in config.split(|byte| *byte == b'\n').enumerate() {
+        let number = index.saturating_add(1);
+        let line = name_in(prefix, line);
+        let warning = next.filter(|warning| warning.line == number);
+        if let Some(Warning { kind, .. }) = warning {
+            let before = last.get(line.name).copied().unwrap_or(0);
+            warned.push(Warned { kind, line, before })?;
+            next = left.next();
+        }
+        if warning.is_none_or(|warning| warning.kind == WarningKind::Repeated) {
+            last.insert(line.name, number)?;
+        }
+    }
+    Ok(warned)
+}
+
+/// The types of the symbols that lines of a `.config` name. The lines of the Kconfig are read once.
+fn types_of(
+    statements: &Statements<'_, '_>,
+    warned: &[Warned<'_>],
+) -> Result<BTreeMap<String, Option<Typed>>, AllocError> {
+    let alloc = statements.alloc;
+    let mut types: BTreeMap<String, Option<Typed>> = BTreeMap::new(alloc);
+    for warned in warned {
+        types.insert(String::from_str(alloc, warned.line.name)?, None)?;
+    }
+    for definition in statements.definitions.as_slice() {
+        if let Some(typed) = types.get_mut(definition.name) {
+            *typed = Some(typed_after(statements, definition, *typed));
+        }
+    }
+    Ok(types)
+}
+
+/// What gives a symbol its type, after one more definition.
+fn typed_after(
+    statements: &Statements<'_, '_>,
+    definition: &Definition<'_>,
+    before: Option<Typed>,
+) -> Typed {
+    let (line, kind) = match statements.first_type(definition) {
+        Some((line, kind)) => (line, Some(kind)),
+        None => (definition.line, None),
+    };
+    match before {
+        Some(typed) if typed.kind.is_some() || kind.is_none() => typed,
+        _ => Typed { kind, line },
+    }
 }
 
 /// What is written after the number of the warning of a line: which symbol it is about, and which line before it.
 fn warning_words(
     alloc: Global,
     prefix: &str,
-    line: &ConfigLine<'_>,
-    place: Option<&SymbolPlace>,
-    before: usize,
+    warned: &Warned<'_>,
+    kind: SymbolType,
+    line: Option<&Line<'_>>,
 ) -> Result<String, AllocError> {
-    let name = line.name;
-    match (line.kind, place) {
+    let name = warned.line.name;
+    let before = warned.before;
+    match (warned.kind, line) {
         (WarningKind::UndefinedSymbol, _) => format!(in alloc; "no symbol is named {name}"),
-        (WarningKind::BadValue, Some(place)) => value_words(alloc, line, place),
-        (WarningKind::BadString, Some(place)) => string_words(alloc, prefix, line, place),
+        (WarningKind::BadValue, Some(line)) => value_words(alloc, &warned.line, kind, line),
+        (WarningKind::BadString, Some(line)) => string_words(alloc, prefix, &warned.line, line),
         (WarningKind::Repeated, _) => {
             format!(in alloc; "{name} has a usable line before, line {before}; this one counts")
         }
         (WarningKind::Malformed | WarningKind::BadValue | WarningKind::BadString, _) => {
-            malformed_words(alloc, prefix, line.text)
+            malformed_words(alloc, prefix, warned.line.text)
         }
     }
 }
@@ -58,15 +143,17 @@ fn warning_words(
 /// What is said of a value that its symbol does not take.
 fn value_words(
     alloc: Global,
-    line: &ConfigLine<'_>,
-    place: &SymbolPlace,
+    named: &NamedLine<'_>,
+    symbol_type: SymbolType,
+    line: &Line<'_>,
 ) -> Result<String, AllocError> {
-    let name = line.name;
-    let (kind, values) = type_words(place.symbol_type);
-    let path = place.path.as_str();
-    let number = place.line;
+    let name = named.name;
+    let kind = type_words(symbol_type);
+    let values = values_of(symbol_type);
+    let path = line.path();
+    let number = line.number();
     let mut words = format!(in alloc; "{name} is {kind} ({path}:{number}), which takes {values}")?;
-    match line.value {
+    match named.value {
         None => words.push_str(", not `is not set`")?,
         Some("") => words.push_str(", not an empty value")?,
         Some(value) => {
@@ -77,14 +164,14 @@ fn value_words(
     Ok(words)
 }
 
-/// What a type is called, and the values that it takes.
-fn type_words(symbol_type: SymbolType) -> (&'static str, &'static str) {
-    match symbol_type {
-        SymbolType::Bool => ("a bool", "n and y"),
-        SymbolType::Tristate => ("a tristate", "n, m and y"),
-        SymbolType::String => ("a string", "a text in quotes"),
-        SymbolType::Int => ("an int", "a decimal number of 64 bits"),
-        SymbolType::Hex => ("a hex", "a hexadecimal number of 64 bits"),
+/// The values that a type takes.
+fn values_of(kind: SymbolType) -> &'static str {
+    match kind {
+        SymbolType::Bool => "n and y",
+        SymbolType::Tristate => "n, m and y",
+        SymbolType::String => "a text in quotes",
+        SymbolType::Int => "a decimal number of 64 bits",
+        SymbolType::Hex => "a hexadecimal number of 64 bits",
     }
 }
 
@@ -92,36 +179,22 @@ fn type_words(symbol_type: SymbolType) -> (&'static str, &'static str) {
 fn string_words(
     alloc: Global,
     prefix: &str,
-    line: &ConfigLine<'_>,
-    place: &SymbolPlace,
+    named: &NamedLine<'_>,
+    line: &Line<'_>,
 ) -> Result<String, AllocError> {
-    let name = line.name;
-    let path = place.path.as_str();
-    let number = place.line;
-    let value = line.value.unwrap_or("");
-    let is_open = value.starts_with('"');
-    let mut words = if is_open {
-        format!(in alloc; "no `\"` ends the text of the string {name} ({path}:{number})")?
-    } else {
-        format!(in alloc; "{name} is a string ({path}:{number})")?
-    };
-    write!(words, "; write {prefix}{name}=\"")?;
-    if is_open {
-        words.push_str(shown_line(value.strip_prefix('"').unwrap_or(value)))?;
-    } else {
-        push_escaped(&mut words, shown_line(value))?;
+    let name = named.name;
+    let path = line.path();
+    let number = line.number();
+    let value = named.value.unwrap_or("");
+    if let Some(open) = value.strip_prefix('"') {
+        let open = shown_line(open);
+        return format!(in alloc;
+            "no `\"` ends the text of the string {name} ({path}:{number}); write {prefix}{name}=\"{open}\""
+        );
     }
-    words.push('"')?;
+    let mut words = format!(in alloc;
+        "{name} is a string ({path}:{number}); write {prefix}{name}="
+    )?;
+    push_quoted(&mut words, shown_line(value))?;
     Ok(words)
-}
-
-/// Adds a text with a backslash before each quote and backslash.
-fn push_escaped(words: &mut String, text: &str) -> Result<(), AllocError> {
-    for character in text.chars() {
-        if character == '"' || character == '\\' {
-            words.push('\\')?;
-        }
-        words.push(character)?;
-    }
-    Ok(())
 }

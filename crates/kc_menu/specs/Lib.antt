@@ -1,4 +1,2 @@
 pub mod Inputs
-pub mod MenuTree
 pub mod Objects
-pub mod RowSteps

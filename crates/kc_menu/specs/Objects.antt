@@ -2,7 +2,6 @@
 use Rattle.std.specs.Prelude.{ℕ, Bool, true, false, List, Option, Some, None, option_and_then, option_map, if◌then◌else◌, slice_get}
 use Rattle.std.specs.Option.{option_map_or}
 use Rattle.kc_text.specs.LineValue.{LineValue}
-use Rattle.kc_statement.specs.Keywords.{is_choice, is_config}
 use Rattle.kc_statement.specs.Tristate.{letter}
 use Rattle.kc_statement.specs.declared.id.SymId.{SymId}
 use Rattle.kc_statement.specs.declared.tri.Tri.TheVariants.{Yes}
@@ -14,8 +13,9 @@ use Rattle.kc_tree.specs.declared.user_value.UserVal.{UserVal}
 use Rattle.kc_tree.specs.declared.user_value.UserVal.TheVariants as user
 use Rattle.kc_value.specs.ChoiceRule.{is_symbol}
 use Rattle.kc_value.specs.UserValues.{UserValues, chosen_in, user_value}
-use Rattle.kc_report.specs.Attributes.{last_help}
-use Rattle.kc_report.specs.Places.{attributes_of}
+use Rattle.kc_facts.specs.Attributes.{last_help}
+use Rattle.kc_facts.specs.declared.parts.Family.TheVariants as family
+use Rattle.kc_facts.specs.LineIndex.{attributes_of, begins}
 use Rattle.kc_menu.specs.declared.help.Help.{Help}
 use Rattle.kc_menu.specs.declared.help.Help.TheVariants.{With, Without}
 
@@ -26,10 +26,10 @@ wanted Without help = None
 
 -- the help text of the definition of a number, and of a choice: the last among its own attributes
 abbrev pub definition_help : Help → List LineValue → ℕ → Option (List ℕ)
-definition_help help lines number = wanted help (last_help (attributes_of is_config lines number))
+definition_help help lines number = wanted help (last_help (attributes_of (begins family.Definition) lines number))
 
 abbrev pub choice_help : Help → List LineValue → ChoiceId → Option (List ℕ)
-choice_help help lines c = wanted help (last_help (attributes_of is_choice lines c.0))
+choice_help help lines c = wanted help (last_help (attributes_of (begins family.Choice) lines c.0))
 
 -- the prompt of the definition of a number
 abbrev pub definition_prompt : TreeValue → ℕ → Option (List ℕ)

@@ -12,7 +12,7 @@ ghost use Rattle.kc_menu.specs.Objects.{choice_help};
 use crate::conditions_as_text::{FactorsOf, factors_text, least_value};
 use crate::menu_inputs::MenuInputs;
 use crate::places_as_text::{help_text, place_text};
-use crate::row::Row;
+use kc_facts::{Family, Part, Row};
 use kc_tree::{BlockId, BlockKind, Choice, ChoiceId, CommentId, Node, SymId, Tree, Tri};
 use kc_value::{
     Factor, Known, choice_factors, comment_condition, comment_factors, menu_condition, menu_factors,
@@ -112,7 +112,10 @@ pub(crate) fn menu_object<'m>(
         parent: row.parent,
         kind: TitleKind::Menu,
         prompt: menu_title(tree, menu),
-        at: place_text(alloc, inputs.places().block(menu))?,
+        at: place_text(
+            alloc,
+            inputs.index().line(Part::Owner(Family::Block, menu.0)),
+        )?,
         depends: factors_text(alloc, tree, factors, FactorsOf::Dependencies)?,
         visible_if: factors_text(alloc, tree, factors, FactorsOf::Prompt)?,
         shown: menu_condition(known, menu).letter(),
@@ -138,7 +141,10 @@ pub(crate) fn comment_object<'m>(
         parent: row.parent,
         kind: TitleKind::Comment,
         prompt: comment_title(tree, comment),
-        at: place_text(alloc, inputs.places().comment(comment))?,
+        at: place_text(
+            alloc,
+            inputs.index().line(Part::Owner(Family::Comment, comment.0)),
+        )?,
         depends: factors_text(alloc, tree, factors.as_slice(), FactorsOf::Dependencies)?,
         visible_if: None,
         shown: comment_condition(known, comment).letter(),
@@ -158,9 +164,10 @@ pub(crate) fn choice_object<'m>(
         ≡ option_map (name_of inputs.now.view.tree) (chosen_in inputs.now.view.user id)) }
     ensures help { IfOk result (λ o. option_map string_bytes o.help ≡ choice_help inputs.now.help inputs.now.lines id) }
 {
-    let (view, places) = (inputs.view(), inputs.places());
+    let (view, index) = (inputs.view(), inputs.index());
     let (tree, known) = (view.tree(), view.known());
     let choice = tree.choices().get(id.0 as usize);
+    let part = Part::Owner(Family::Choice, id.0 as usize);
     let factors = choice_factors(alloc, known, id)?;
     let factors = factors.as_slice();
     Ok(ChoiceObject {
@@ -168,7 +175,7 @@ pub(crate) fn choice_object<'m>(
         parent: row.parent,
         kind: "choice",
         prompt: choice_title(choice),
-        at: place_text(alloc, places.choice(id))?,
+        at: place_text(alloc, index.line(part))?,
         depends: factors_text(alloc, tree, factors, FactorsOf::Dependencies)?,
         prompt_if: factors_text(alloc, tree, factors, FactorsOf::Prompt)?,
         optional: is_optional(choice),
@@ -177,7 +184,11 @@ pub(crate) fn choice_object<'m>(
         mode: known.tri(Node::Mode(id)).letter(),
         sel: selected(known, id),
         user: name_of(tree, view.user().chosen(id)),
-        help: help_text(alloc, inputs.help(), places.attributes_of_choice(id))?,
+        help: help_text(
+            alloc,
+            inputs.help(),
+            index.attributes(Family::Choice, id.0 as usize),
+        )?,
     })
 }
 

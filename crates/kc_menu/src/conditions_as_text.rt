@@ -1,6 +1,6 @@
 //! The conditions of the parts of a tree as texts.
 
-use kc_report::push_expr;
+use kc_facts::push_expr;
 use kc_statement::{Expr, ExprNode};
 use kc_tree::{Tree, Tri};
 use kc_value::{Factor, FactorPart, Origin};

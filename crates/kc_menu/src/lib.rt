@@ -7,13 +7,9 @@ mod help;
 mod menu_inputs;
 mod menu_lines;
 mod places_as_text;
-mod row;
-mod rows;
 mod symbol_now;
 mod symbol_object;
 mod tri_letters;
 
 pub use help::Help;
 pub use menu_lines::menu_text;
-pub use row::Row;
-pub use rows::menu_rows;

@@ -3,15 +3,15 @@
 ghost use Rattle.std.specs.Prelude.{◌≡◌};
 
 use crate::help::Help;
-use kc_report::{Places, View};
+use kc_facts::{LineIndex, View};
 use std::marker::Model;
 
-/// What the objects of the menu tree are made from: a tree with its values, where its parts are among its lines,
+/// What the objects of the menu tree are made from: a tree with its values, which line each part comes from,
 /// and whether help texts are wanted. Contracts see the record of them.
 #[derive(Drop)]
 pub(crate) struct MenuInputs<'m> {
     view: &'m View<'m>,
-    places: &'m Places<'m, 'm>,
+    index: &'m LineIndex<'m, 'm>,
     help: Help,
 }
 
@@ -24,15 +24,19 @@ impl<'m> Model for MenuInputs<'m> {
 
     ghost coded = { Prim.hlevel (codes, expr.the_row.coded) };
 
-    ghost view = { λ m. record { view = m.view.now; lines = m.places.now; help = m.help } };
+    ghost view = { λ m. record { view = m.view.now; lines = m.index.now; help = m.help } };
 }
 
 impl<'m> MenuInputs<'m> {
     /// Of these.
-    pub(crate) fn new(view: &'m View<'m>, places: &'m Places<'m, 'm>, help: Help) -> MenuInputs<'m>
-        ensures { result ≡ record { view = view.entry.now; lines = places.entry.now; help = help } }
+    pub(crate) fn new(
+        view: &'m View<'m>,
+        index: &'m LineIndex<'m, 'm>,
+        help: Help,
+    ) -> MenuInputs<'m>
+        ensures { result ≡ record { view = view.entry.now; lines = index.entry.now; help = help } }
     {
-        MenuInputs { view, places, help }
+        MenuInputs { view, index, help }
     }
 
     /// The tree with its values.
@@ -42,11 +46,11 @@ impl<'m> MenuInputs<'m> {
         self.view
     }
 
-    /// Where the parts of the tree are among its lines.
-    pub(crate) fn places(&self) -> &'m Places<'m, 'm>
+    /// Which line each part of the tree comes from.
+    pub(crate) fn index(&self) -> &'m LineIndex<'m, 'm>
         ensures { result.now ≡ self.now.lines }
     {
-        self.places
+        self.index
     }
 
     /// Whether help texts are wanted.

@@ -3,10 +3,8 @@
 use crate::block_object::{choice_object, comment_object, menu_object};
 use crate::help::Help;
 use crate::menu_inputs::MenuInputs;
-use crate::row::Row;
-use crate::rows::menu_rows;
 use crate::symbol_object::symbol_object;
-use kc_report::{Places, View};
+use kc_facts::{LineIndex, Row, View, menu_rows};
 use kc_tree::{Entry, SymId};
 use serde::Serialize;
 use std::alloc::{AllocError, Global};
@@ -19,10 +17,10 @@ use std::alloc::{AllocError, Global};
 pub fn menu_text(
     alloc: Global,
     view: &View<'_>,
-    places: &Places<'_, '_>,
+    index: &LineIndex<'_, '_>,
     help: Help,
 ) -> Result<String, AllocError> {
-    let inputs = MenuInputs::new(view, places, help);
+    let inputs = MenuInputs::new(view, index, help);
     let rows = menu_rows(alloc, view.tree())?;
     let mut text = String::new(alloc);
     for row in &rows {

@@ -9,9 +9,8 @@ ghost use Rattle.kc_menu.specs.Objects.{definition_help, definition_prompt, is_a
 use crate::conditions_as_text::{FactorsOf, condition_text, expr_text, factors_text, least_value};
 use crate::menu_inputs::MenuInputs;
 use crate::places_as_text::{help_text, is_menuconfig, names_after, place_text};
-use crate::row::Row;
 use crate::symbol_now::{SymbolNow, symbol_now};
-use kc_report::push_term;
+use kc_facts::{Family, Part, Row, push_term, type_name};
 use kc_statement::{Keyword, Term};
 use kc_text::Line;
 use kc_tree::{Definition, Entry, SymId, SymbolType, Tree, Tri};
@@ -78,21 +77,22 @@ pub(crate) fn symbol_object<'m>(
         ≡ definition_help inputs.now.help inputs.now.lines number) }
 {
     let view = inputs.view();
-    let (tree, places) = (view.tree(), inputs.places());
+    let (tree, index) = (view.tree(), inputs.index());
     let definition = definition_at(tree, number);
-    let attributes = places.attributes_of_definition(number);
+    let attributes = index.attributes(Family::Definition, number);
     let dependencies = dependency_factors(alloc, view.known(), number)?;
     let prompt = prompt_factors(alloc, view.known(), number)?;
     let title = prompt_title(definition);
+    let line = index.line(Part::Owner(Family::Definition, number));
     Ok(SymbolObject {
         id: row.id,
         parent: row.parent,
-        kind: kind_of(places.definition(number)),
+        kind: kind_of(line),
         name: tree.name(symbol),
         type_name: type_name(tree.symbol_type(symbol)),
         again: is_again(row.entry),
         prompt: title,
-        at: place_text(alloc, places.definition(number))?,
+        at: place_text(alloc, line)?,
         depends: factors_text(
             alloc,
             tree,
@@ -129,17 +129,6 @@ fn kind_of(line: Option<&Line<'_>>) -> DefinitionKind {
     match line {
         Some(line) if is_menuconfig(line) => DefinitionKind::Menuconfig,
         _ => DefinitionKind::Config,
-    }
-}
-
-/// The name of a type.
-fn type_name(kind: SymbolType) -> &'static str {
-    match kind {
-        SymbolType::Bool => "bool",
-        SymbolType::Tristate => "tristate",
-        SymbolType::String => "string",
-        SymbolType::Int => "int",
-        SymbolType::Hex => "hex",
     }
 }
 

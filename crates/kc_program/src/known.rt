@@ -31,11 +31,6 @@ impl Known {
         Ok(Known { alloc, texts })
     }
 
-    /// Whether a variable of a name has a text.
-    pub(crate) fn has(&self, name: &str) -> bool {
-        self.texts.contains_key(name)
-    }
-
     /// Takes over what the lines of a text define.
     pub(crate) fn note_definitions(&mut self, text: &str) -> Result<(), AllocError> {
         let mut passed = 0;

@@ -3,6 +3,7 @@
 #![tactic(auto)]
 
 mod arguments;
+mod defined_names;
 mod explanations;
 mod folder;
 mod folder_from;

@@ -2,7 +2,8 @@
 
 use crate::folder::Folder;
 use crate::opening::Files;
-use kc_explain::{Explanation, Place, Remark, shown_line};
+use kc_explain::{Explanation, Place, Remark};
+use kc_facts::shown_line;
 use memchr::memchr_iter;
 use std::alloc::{AllocError, Global};
 use std::collections::BTreeMap;

@@ -6,6 +6,7 @@ ghost use Rattle.std.specs.Str.{IsUtf8};
 ghost use Rattle.std.specs.String.{string_bytes};
 
 use crate::arguments::Arguments;
+use crate::defined_names::add_defined_names;
 use crate::folder::{Folder, FolderFault};
 use crate::messages::Fault;
 use crate::read_ahead::{Named, Reach, Waiting, path_of_source};
@@ -16,7 +17,7 @@ use kc_session::{KconfigTexts, OpenFault, Session, open_seeded};
 use kc_text::{Line, Sources, Text, TextFault, TextProblem, Vars, logical_lines};
 use kc_tree::{Seed, TreeFault, all_faults};
 use std::alloc::{AllocError, Global};
-use std::collections::{HashMap, HashSet};
+use std::collections::{BTreeSet, HashMap, HashSet};
 use std::str::from_utf8;
 
 /// The most bytes of a line of a `.config`, without its line end (docs/SECURITY.md).
@@ -324,9 +325,19 @@ impl<'a, F: Folder> Files<'a, F> {
         Ok(sources)
     }
 
-    /// Whether a variable has a text, by the command line or by a line of a file that was read.
-    pub fn knows(&self, name: &str) -> bool {
-        self.waiting.known().has(name)
+    /// The variables that the lines of the files define whose texts are held.
+    ///
+    /// # Errors
+    ///
+    /// `AllocError` where memory is refused.
+    pub fn defined_names(&self) -> Result<BTreeSet<String>, AllocError> {
+        let mut names = BTreeSet::new(self.alloc);
+        for seen in self.waiting.seen() {
+            if let Some(text) = self.held_text(seen.as_str()) {
+                add_defined_names(self.alloc, &mut names, text)?;
+            }
+        }
+        Ok(names)
     }
 
     /// The path that a `source` line of the plain form names.

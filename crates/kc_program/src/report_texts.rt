@@ -4,10 +4,12 @@ use crate::messages::Status;
 use crate::opening::ConfigFile;
 use crate::paths_read::paths_read;
 use crate::reports::{Outcome, ReportInputs};
-use kc_check::{CheckInputs, Input, SourceText, check, effects_before, merge_report};
-use kc_files::{ReadFault, Warning};
+use kc_check::{CheckInputs, SourceText, check, effects_before, merge_report};
+use kc_explain::explain_warnings;
+use kc_facts::{Input, LineIndex, View};
+use kc_files::{ReadFault, Warning, WarningKind};
 use kc_menu::{Help, menu_text};
-use kc_report::{Extent, Places, View, why_text};
+use kc_report::{Extent, why_text};
 use kc_session::{Body, MergeFault, Session, merged};
 use kc_tree::{SymId, Tree};
 use kc_value::Resolver;
@@ -36,8 +38,8 @@ pub(crate) fn why_outcome(
     }
     session.fill_all()?;
     let view = View::new(session.solved());
-    let places = Places::new(alloc, inputs.lines)?;
-    let output = why_texts(alloc, inputs, &view, &places)?;
+    let index = LineIndex::of(alloc, inputs.lines)?;
+    let output = why_texts(alloc, inputs, &view, &index)?;
     Ok(Outcome::of_output(alloc, output, warnings))
 }
 
@@ -46,7 +48,7 @@ fn why_texts(
     alloc: Global,
     inputs: &ReportInputs<'_>,
     view: &View<'_>,
-    places: &Places<'_, '_>,
+    index: &LineIndex<'_, '_>,
 ) -> Result<String, AllocError> {
     let extent = if inputs.arguments.is_all {
         Extent::All
@@ -61,7 +63,7 @@ fn why_texts(
         if !texts.is_empty() {
             texts.push('\n')?;
         }
-        let text = why_text(alloc, view, places, symbol, extent)?;
+        let text = why_text(alloc, view, index, symbol, extent)?;
         texts.push_str(text.as_str())?;
     }
     Ok(texts)
@@ -96,16 +98,19 @@ pub(crate) fn check_outcome(
     alloc: Global,
     inputs: &ReportInputs<'_>,
     session: &mut Session,
+    warnings: &[Warning],
 ) -> Result<Outcome, AllocError> {
     session.fill_all()?;
     let view = View::new(session.solved());
-    let places = Places::new(alloc, inputs.lines)?;
+    let index = LineIndex::of(alloc, inputs.lines)?;
+    let unusable = unusable_words(alloc, inputs, warnings)?;
     let given = names_of(alloc, inputs.variables)?;
     let sources = source_texts(alloc, inputs)?;
     let checked = CheckInputs {
         lines: inputs.lines,
         prefix: &inputs.arguments.prefix,
         config: inputs.arguments.config.map(|_| input_of(inputs.config)),
+        unusable: unusable.as_slice(),
         given: given.as_slice(),
         sources: sources.as_slice(),
     };
@@ -114,7 +119,7 @@ pub(crate) fn check_outcome(
     } else {
         kc_check::Extent::Near
     };
-    let findings = read_again(check(alloc, &view, &places, &checked, extent))?;
+    let findings = read_again(check(alloc, &view, &index, &checked, extent))?;
     let output = findings.to_text(alloc)?;
     let is_at_fault = inputs.arguments.is_strict && !findings.all.is_empty();
     Ok(Outcome {
@@ -123,6 +128,26 @@ pub(crate) fn check_outcome(
         warnings: Vec::new(alloc),
         status: status_of(is_at_fault),
     })
+}
+
+/// What is said of each line of CONFIG that can't be used, in their order.
+fn unusable_words(
+    alloc: Global,
+    inputs: &ReportInputs<'_>,
+    warnings: &[Warning],
+) -> Result<Vec<String>, AllocError> {
+    let unusable: Vec<Warning> = warnings
+        .iter()
+        .copied()
+        .filter(|warning| warning.kind != WarningKind::Repeated)
+        .collect(alloc)?;
+    explain_warnings(
+        alloc,
+        inputs.lines,
+        inputs.arguments.prefix.as_str(),
+        inputs.config.bytes(),
+        unusable.as_slice(),
+    )
 }
 
 /// The status of a report, by whether what it found makes it 1.
@@ -184,16 +209,8 @@ pub(crate) fn merge_outcome(
     let output = merged_text(alloc, inputs.fragments, session)?;
     session.fill_all()?;
     let view = View::new(session.solved());
-    let places = Places::new(alloc, inputs.lines)?;
     let fragments = inputs_of(alloc, inputs.fragments)?;
-    let report = read_again(merge_report(
-        alloc,
-        &view,
-        &places,
-        prefix,
-        &before,
-        fragments.as_slice(),
-    ))?;
+    let report = read_again(merge_report(alloc, &view, prefix, &before, fragments.as_slice()))?;
     let is_at_fault = inputs.arguments.is_strict && report.counts.has_unmet();
     Ok(Outcome {
         output,
@@ -216,13 +233,13 @@ pub(crate) fn menu_outcome(
 ) -> Result<Outcome, AllocError> {
     session.fill_all()?;
     let view = View::new(session.solved());
-    let places = Places::new(alloc, inputs.lines)?;
+    let index = LineIndex::of(alloc, inputs.lines)?;
     let help = if inputs.arguments.has_help {
         Help::With
     } else {
         Help::Without
     };
-    let output = menu_text(alloc, &view, &places, help)?;
+    let output = menu_text(alloc, &view, &index, help)?;
     Ok(Outcome::of_output(alloc, output, warnings))
 }
 

@@ -101,7 +101,7 @@ fn report_on(
 ) -> Result<Outcome, OpenFault> {
     let report = match inputs.arguments.target {
         Target::Why => why_outcome(alloc, inputs, session, warnings),
-        Target::Check => check_outcome(alloc, inputs, session),
+        Target::Check => check_outcome(alloc, inputs, session, warnings.as_slice()),
         Target::Merge => merge_outcome(alloc, inputs, session),
         _ => menu_outcome(alloc, inputs, session, warnings),
     };

@@ -3,7 +3,8 @@
 use crate::folder::Folder;
 use crate::opening::{Files, Kconfig};
 use crate::wants::{source_line_of, source_lines_to};
-use kc_explain::{Explanation, line_of, references_in};
+use kc_explain::{Explanation, line_of};
+use kc_facts::references_in;
 use std::alloc::{AllocError, Global};
 
 /// What is said of a wanted file that can't be read: why, each variable in the `source` line that has no text, and that
@@ -53,7 +54,7 @@ fn with_source<F: Folder>(
         return Ok(explanation);
     };
     let text = text_of_line(alloc, files, source.path.as_str(), source.line)?;
-    let unknown = unknown_variables(alloc, files, text.as_str())?;
+    let unknown = unknown_variables(alloc, files, kconfig, text.as_str())?;
     push_unknown(&mut explanation.words, unknown.as_slice())?;
     explanation.name_line(alloc, "", source.path.as_str(), source.line)?;
     Ok(explanation)
@@ -73,7 +74,7 @@ pub fn explain_recursion<F: Folder>(
     line: usize,
 ) -> Result<Explanation, AllocError> {
     let text = text_of_line(alloc, files, path, line)?;
-    let words = recursion_words(alloc, files, text.as_str())?;
+    let words = recursion_words(alloc, files, kconfig, text.as_str())?;
     let mut explanation = Explanation::new(alloc, words);
     for source in source_lines_to(alloc, files, kconfig, path)?.as_slice() {
         explanation.name_line(alloc, "", source.path.as_str(), source.line)?;
@@ -86,9 +87,10 @@ pub fn explain_recursion<F: Folder>(
 fn recursion_words<F: Folder>(
     alloc: Global,
     files: &Files<'_, F>,
+    kconfig: &Kconfig<'_, F>,
     line: &str,
 ) -> Result<String, AllocError> {
-    let unknown = unknown_variables(alloc, files, line)?;
+    let unknown = unknown_variables(alloc, files, kconfig, line)?;
     if unknown.is_empty() {
         if let Some(path) = files.path_in(line)? {
             return format!(in alloc; "the file {path} is being read already");
@@ -116,10 +118,15 @@ fn text_of_line<F: Folder>(
 fn unknown_variables<'t, F: Folder>(
     alloc: Global,
     files: &Files<'_, F>,
+    kconfig: &Kconfig<'_, F>,
     line: &'t str,
 ) -> Result<Vec<&'t str>, AllocError> {
+    let mut known = files.defined_names()?;
+    for (name, _) in kconfig.variables {
+        known.insert(String::from_str(alloc, name)?)?;
+    }
     let mut unknown = references_in(alloc, line)?;
-    unknown.retain(|name| !files.knows(name));
+    unknown.retain(|name| !known.contains(*name));
     Ok(unknown)
 }
 

@@ -3,16 +3,15 @@
 ghost use Rattle.std.specs.Prelude.{◌≡◌, ◌≤◌};
 ghost use Rattle.kc_report.specs.declared.extent.Extent.TheVariants.{Short, All};
 
-use crate::expressions::push_quoted;
 use crate::extent::Extent;
-use crate::factor_lines::FactorLines;
 use crate::factors_in_words::push_factor;
-use crate::places::{Places, push_place};
-use crate::view::View;
-use kc_explain::shown_line;
+use kc_facts::{
+    Attribute, FactorLines, Family, LineIndex, Part, View, choice_condition, push_place,
+    push_quoted, shown_line,
+};
 use kc_text::{Line, Token};
-use kc_tree::{Definition, Symbol};
-use kc_value::{Factor, dependency_factors, prompt_factors};
+use kc_tree::{ChoiceId, Definition, Symbol};
+use kc_value::{Factor, FactorPart, dependency_factors, prompt_factors};
 use std::alloc::{AllocError, Global};
 
 /// The most definitions that are shown, where not all are wanted.
@@ -33,12 +32,12 @@ fn first_word<'l>(line: &'l Line<'_>) -> &'l str {
 fn push_head(
     text: &mut String,
     view: &View<'_>,
-    places: &Places<'_, '_>,
+    index: &LineIndex<'_, '_>,
     number: usize,
     definition: &Definition,
 ) -> Result<(), AllocError> {
     text.push_str("  ")?;
-    let word = match places.definition(number) {
+    let word = match index.line(Part::Owner(Family::Definition, number)) {
         Some(line) => {
             push_place(text, line)?;
             text.push_str(": ")?;
@@ -75,26 +74,50 @@ fn push_definition(
     alloc: Global,
     text: &mut String,
     view: &View<'_>,
-    places: &Places<'_, '_>,
+    index: &LineIndex<'_, '_>,
     number: usize,
     extent: Extent,
 ) -> Result<(), AllocError> {
     let Some(definition) = view.tree().definitions().get(number) else {
         return Ok(());
     };
-    push_head(text, view, places, number, definition)?;
+    push_head(text, view, index, number, definition)?;
     let factors = definition_factors(alloc, view, number, definition)?;
     let shown = shown_of(extent, factors.len(), MOST_FACTORS);
-    let mut lines = FactorLines::new(alloc);
+    let mut lines = FactorLines::new(alloc, index);
     for factor in factors.iter().take(shown) {
-        let line = lines.find(alloc, view.tree(), places, number, factor)?;
+        let line = lines.find(alloc, view.tree(), number, factor)?;
         push_factor(alloc, text, view, line, factor)?;
+        push_choice_condition(alloc, text, view, index, factor)?;
     }
     let left = factors.len().saturating_sub(shown);
     if left > 0 {
         write!(text, "    ... {left} more: --all\n")?;
     }
     Ok(())
+}
+
+/// Adds the condition of the prompt of a choice, with its line, after a factor that is the mode of the choice.
+fn push_choice_condition(
+    alloc: Global,
+    text: &mut String,
+    view: &View<'_>,
+    index: &LineIndex<'_, '_>,
+    factor: &Factor<'_>,
+) -> Result<(), AllocError> {
+    let FactorPart::Mode(choice) = factor.part else {
+        return Ok(());
+    };
+    let Some(condition) = choice_condition(view, choice) else {
+        return Ok(());
+    };
+    let line = index.line(prompt_of(choice));
+    push_factor(alloc, text, view, line, &condition)
+}
+
+/// The part that is the prompt of a choice.
+fn prompt_of(choice: ChoiceId) -> Part {
+    Part::Said(Family::Choice, choice.0 as usize, Attribute::Prompt, 0)
 }
 
 /// How many of a count are shown: at most some where not all are wanted.
@@ -114,14 +137,14 @@ pub(crate) fn push_definitions(
     alloc: Global,
     text: &mut String,
     view: &View<'_>,
-    places: &Places<'_, '_>,
+    index: &LineIndex<'_, '_>,
     symbol: &Symbol,
     extent: Extent,
 ) -> Result<(), AllocError> {
     let count = symbol.definitions().len();
     let shown = shown_of(extent, count, MOST_SHOWN);
     for number in symbol.definitions().iter().take(shown) {
-        push_definition(alloc, text, view, places, *number, extent)?;
+        push_definition(alloc, text, view, index, *number, extent)?;
     }
     let left = count.saturating_sub(shown);
     if left > 0 {

@@ -1,13 +1,10 @@
 //! The factors of conditions as lines of text.
 
-use crate::expressions::{push_expr, push_quoted, push_valued_expr};
-use crate::factor_lines::is_if;
-use crate::places::push_place;
-use crate::view::View;
-use kc_explain::shown_line;
-use kc_statement::ExprNode;
+use kc_facts::{
+    View, is_if, is_unchosen, push_choice, push_expr, push_place, push_valued_factor, shown_line,
+};
 use kc_text::Line;
-use kc_tree::{ChoiceId, Tree, Tri};
+use kc_tree::{Tree, Tri};
 use kc_value::{Factor, FactorPart, Origin};
 use std::alloc::{AllocError, Global};
 
@@ -29,68 +26,6 @@ fn factor_word(tree: &Tree, origin: Origin) -> &'static str {
         Origin::Visible(_, _) => "visible if ",
         Origin::Mode | Origin::Missing => "",
     }
-}
-
-/// Adds what a choice is called: `choice` and its prompt.
-pub(crate) fn push_choice(
-    text: &mut String,
-    tree: &Tree,
-    choice: ChoiceId,
-) -> Result<(), AllocError> {
-    text.push_str("choice")?;
-    let prompt = match tree.choices().get(choice.0 as usize) {
-        Some(choice) => choice.prompt(),
-        None => None,
-    };
-    if let Some(prompt) = prompt {
-        text.push(' ')?;
-        push_quoted(text, shown_line(prompt.text.as_str()))?;
-    }
-    Ok(())
-}
-
-/// Adds a factor with its values, in parentheses where it is a list that `||` joins and others are beside it.
-pub(crate) fn push_valued_factor(
-    text: &mut String,
-    view: &View<'_>,
-    factor: &Factor<'_>,
-    is_alone: bool,
-) -> Result<(), AllocError> {
-    match factor.part {
-        FactorPart::Expression(expr) => {
-            let is_any = matches!(expr.node(), ExprNode::Any(_));
-            if is_any && !is_alone {
-                text.push('(')?;
-            }
-            push_valued_expr(text, view.known(), expr)?;
-            if is_any && !is_alone {
-                text.push(')')?;
-            }
-            Ok(())
-        }
-        FactorPart::Mode(choice) => {
-            push_choice(text, view.tree(), choice)?;
-            text.push('=')?;
-            text.push_str(factor.value.letter())
-        }
-        FactorPart::Missing => text.push('n'),
-    }
-}
-
-/// Adds factors with their values, which `&&` joins.
-pub(crate) fn push_valued_factors(
-    text: &mut String,
-    view: &View<'_>,
-    factors: &[Factor<'_>],
-) -> Result<(), AllocError> {
-    let is_alone = factors.len() == 1;
-    let mut between = "";
-    for factor in factors {
-        text.push_str(between)?;
-        push_valued_factor(text, view, factor, is_alone)?;
-        between = " && ";
-    }
-    Ok(())
 }
 
 /// Adds what the line of a factor says: `depends on A`, `if A`, `visible if A`, or the choice whose mode it is.
@@ -138,7 +73,25 @@ pub(crate) fn push_factor(
     text.push('\n')
 }
 
-/// Adds the values of a factor after its line.
+/// Adds what makes a factor less than y: the values of its symbols; of the mode of a choice that no member is chosen, or
+/// nothing, as what else makes it n has lines of its own.
+fn push_deciding(
+    text: &mut String,
+    view: &View<'_>,
+    factor: &Factor<'_>,
+) -> Result<(), AllocError> {
+    match factor.part {
+        FactorPart::Mode(choice) if is_unchosen(view, choice) => {
+            text.push_str("no member is chosen")
+        }
+        FactorPart::Mode(_) => Ok(()),
+        FactorPart::Expression(_) | FactorPart::Missing => {
+            push_valued_factor(text, view, factor, true)
+        }
+    }
+}
+
+/// Adds what makes a factor less than y after its line, if there is anything.
 fn push_factor_values(
     alloc: Global,
     text: &mut String,
@@ -147,7 +100,10 @@ fn push_factor_values(
     line: &str,
 ) -> Result<(), AllocError> {
     let mut values = String::new(alloc);
-    push_valued_factor(&mut values, view, factor, true)?;
+    push_deciding(&mut values, view, factor)?;
+    if values.is_empty() {
+        return Ok(());
+    }
     let filled = line.chars().count().saturating_add(6);
     for _ in filled..VALUES_AT.saturating_sub(2) {
         text.push(' ')?;

@@ -1,12 +1,10 @@
 //! The symbols without prompt that a definition depends on, and who would select them.
 
 use crate::definitions_in_words::definition_factors;
-use crate::needs::has_prompt;
-use crate::reverses::{ReverseKind, push_reverse_row};
-use crate::view::View;
+use kc_facts::{ReverseKind, View, choice_condition, has_prompt, push_reverse_row};
 use kc_statement::{ExprNode, Operands, Term};
 use kc_tree::{Expr, Node, SymId, Symbol};
-use kc_value::FactorPart;
+use kc_value::{Factor, FactorPart};
 use std::alloc::{AllocError, Global};
 
 /// The most symbols without prompt whose selecting symbols are named.
@@ -72,6 +70,25 @@ fn add_parts(found: &mut Vec<SymId>, view: &View<'_>, parts: &[Expr]) -> Result<
     Ok(())
 }
 
+/// Adds the symbols of a factor that is n: of the mode of a choice those of the condition of its prompt.
+fn add_factor(
+    found: &mut Vec<SymId>,
+    view: &View<'_>,
+    factor: &Factor<'_>,
+) -> Result<(), AllocError> {
+    let deciding = match factor.part {
+        FactorPart::Mode(choice) => choice_condition(view, choice),
+        FactorPart::Expression(_) | FactorPart::Missing => Some(*factor),
+    };
+    let Some(deciding) = deciding else {
+        return Ok(());
+    };
+    match deciding.part {
+        FactorPart::Expression(expr) if deciding.value.is_no() => add_expr(found, view, expr),
+        _ => Ok(()),
+    }
+}
+
 /// Adds the symbols of the factors of a definition that are n.
 fn add_definition(
     alloc: Global,
@@ -84,11 +101,7 @@ fn add_definition(
     };
     let factors = definition_factors(alloc, view, number, definition)?;
     for factor in &factors {
-        if let FactorPart::Expression(expr) = factor.part {
-            if factor.value.is_no() {
-                add_expr(found, view, expr)?;
-            }
-        }
+        add_factor(found, view, factor)?;
     }
     Ok(())
 }
@@ -109,7 +122,7 @@ pub(crate) fn push_promptless(
         text.push_str("  ")?;
         text.push_str(view.tree().name(*other))?;
         text.push_str(" has no prompt: ")?;
-        let _ = push_reverse_row(text, view, ReverseKind::Select, *other, None)?;
+        let _ = push_reverse_row(alloc, text, view, ReverseKind::Select, *other, None)?;
         text.push('\n')?;
     }
     Ok(())

@@ -1,25 +1,17 @@
 //! Who selects and implies a symbol.
 
-use crate::attributes::{imply_line, select_line};
 use crate::extent::Extent;
-use crate::factors_in_words::push_valued_factors;
-use crate::places::{Places, push_place};
-use crate::view::View;
-use crate::words::{push_line, push_valued};
+use kc_facts::{
+    Attribute, Family, LineIndex, Part, ReverseKind, View, push_line, push_place, push_valued,
+    push_valued_factors,
+};
 use kc_text::Line;
-use kc_tree::{Reverse, SymId, Symbol, Tree, Tri};
+use kc_tree::{Reverse, SymId, Tri};
 use kc_value::{reverse_factors, reverse_value};
 use std::alloc::{AllocError, Global};
 
 /// The most lines that select or imply a symbol which are shown, where not all are wanted.
 const MOST_SHOWN: usize = 3;
-
-/// Which lines of other definitions give a symbol a value.
-#[derive(Clone, Copy, Debug, PartialEq, Eq)]
-pub(crate) enum ReverseKind {
-    Select,
-    Imply,
-}
 
 /// The `select` or the `imply` lines that name a symbol.
 #[derive(Clone, Copy)]
@@ -35,52 +27,22 @@ pub(crate) struct ReversePlace {
     pub number: usize,
 }
 
-impl ReverseKind {
-    /// The lines of this kind that name a symbol.
-    pub(crate) fn of(self, symbol: &Symbol) -> &[Reverse] {
-        match self {
-            ReverseKind::Select => symbol.selected(),
-            ReverseKind::Imply => symbol.implied(),
-        }
-    }
-
-    /// What such a line does to its symbol.
-    fn done(self) -> &'static str {
-        match self {
-            ReverseKind::Select => "selected",
-            ReverseKind::Imply => "implied",
-        }
-    }
-}
-
-/// How many of the lines before one belong to the same definition. Those of a definition follow each other.
-fn earlier_of_definition(lines: &[Reverse], number: usize, definition: usize) -> usize {
-    let Some(before) = lines.get(..number) else {
-        return 0;
-    };
-    before
-        .iter()
-        .rev()
-        .take_while(|earlier| earlier.definition == definition)
-        .count()
-}
-
-/// The line of a place.
+/// The line that a `select` or an `imply` comes from.
 fn line_of<'l, 'a>(
-    tree: &Tree,
-    places: &Places<'l, 'a>,
-    place: ReversePlace,
+    index: &LineIndex<'l, 'a>,
+    kind: ReverseKind,
+    reverse: &Reverse,
 ) -> Option<&'l Line<'a>> {
-    let symbol = place.list.symbol;
-    let lines = place.list.kind.of(tree.symbols().get(symbol.0 as usize)?);
-    let definition = lines.get(place.number)?.definition;
-    let attributes = places.attributes_of_definition(definition);
-    let earlier = earlier_of_definition(lines, place.number, definition);
-    let name = tree.name(symbol);
-    match place.list.kind {
-        ReverseKind::Select => select_line(attributes, name, earlier),
-        ReverseKind::Imply => imply_line(attributes, name, earlier),
-    }
+    let attribute = match kind {
+        ReverseKind::Select => Attribute::Select,
+        ReverseKind::Imply => Attribute::Imply,
+    };
+    index.line(Part::Said(
+        Family::Definition,
+        reverse.definition,
+        attribute,
+        reverse.number,
+    ))
 }
 
 /// Adds the line of a place: where it is, the symbol that it belongs to, and its condition with values, as
@@ -89,25 +51,25 @@ pub(crate) fn push_reverse(
     alloc: Global,
     text: &mut String,
     view: &View<'_>,
-    places: &Places<'_, '_>,
+    index: &LineIndex<'_, '_>,
     place: ReversePlace,
 ) -> Result<(), AllocError> {
-    let tree = view.tree();
-    let Some(symbol) = tree.symbols().get(place.list.symbol.0 as usize) else {
+    let kind = place.list.kind;
+    let Some(symbol) = view.tree().symbols().get(place.list.symbol.0 as usize) else {
         return Ok(());
     };
-    let Some(line) = place.list.kind.of(symbol).get(place.number) else {
+    let Some(reverse) = kind.of(symbol).get(place.number) else {
         return Ok(());
     };
     let mut words = String::new(alloc);
-    push_valued(&mut words, view.known(), line.by)?;
-    let factors = reverse_factors(alloc, view.known(), line)?;
+    push_valued(&mut words, view.known(), reverse.by)?;
+    let factors = reverse_factors(alloc, view.known(), reverse)?;
     if !factors.is_empty() {
         words.push_str(" if ")?;
         push_valued_factors(&mut words, view, factors.as_slice())?;
     }
     text.push_str("    ")?;
-    if let Some(line) = line_of(tree, places, place) {
+    if let Some(line) = line_of(index, kind, reverse) {
         push_place(text, line)?;
         text.push_str(": ")?;
     }
@@ -141,7 +103,7 @@ pub(crate) fn push_reverses(
     alloc: Global,
     text: &mut String,
     view: &View<'_>,
-    places: &Places<'_, '_>,
+    index: &LineIndex<'_, '_>,
     list: ReverseList,
     extent: Extent,
 ) -> Result<(), AllocError> {
@@ -161,7 +123,7 @@ pub(crate) fn push_reverses(
             continue;
         }
         let place = ReversePlace { list, number };
-        push_reverse(alloc, text, view, places, place)?;
+        push_reverse(alloc, text, view, index, place)?;
         shown = shown.saturating_add(1);
     }
     push_rest(text, extent, counted.active.saturating_sub(shown))
@@ -196,49 +158,5 @@ fn push_rest(text: &mut String, extent: Extent, left: usize) -> Result<(), Alloc
     match extent {
         Extent::Short if left > 0 => write!(text, "    ... {left} more: --all\n"),
         _ => Ok(()),
-    }
-}
-
-/// Adds who selects or implies a symbol, in a row: `selected by A=n, B=n`, at most three, and how many more there are.
-/// Those that pass a test alone count. Nothing where there is none.
-pub(crate) fn push_reverse_row(
-    text: &mut String,
-    view: &View<'_>,
-    kind: ReverseKind,
-    symbol: SymId,
-    above: Option<Tri>,
-) -> Result<bool, AllocError> {
-    let Some(found) = view.tree().symbols().get(symbol.0 as usize) else {
-        return Ok(false);
-    };
-    let mut count: usize = 0;
-    for line in kind.of(found) {
-        let value = reverse_value(view.known(), line);
-        if !is_above(value, above) {
-            continue;
-        }
-        if count == 0 {
-            text.push_str(kind.done())?;
-            text.push_str(" by ")?;
-        } else if count < MOST_SHOWN {
-            text.push_str(", ")?;
-        }
-        if count < MOST_SHOWN {
-            push_valued(text, view.known(), line.by)?;
-        }
-        count = count.saturating_add(1);
-    }
-    let left = count.saturating_sub(MOST_SHOWN);
-    if left > 0 {
-        write!(text, ", and {left} more")?;
-    }
-    Ok(count > 0)
-}
-
-/// Whether a value is above another one, where there is one.
-fn is_above(value: Tri, bound: Option<Tri>) -> bool {
-    match bound {
-        Some(bound) => value.or(bound) != bound,
-        None => true,
     }
 }

@@ -3,9 +3,7 @@
 ghost use Rattle.kc_tree.specs.declared.node.Node.TheVariants.{Vis};
 ghost use Rattle.kc_tree.specs.Nodes.{IsNodeOf};
 
-use crate::reasons_in_words::push_bounds;
-use crate::view::View;
-use crate::words::push_user;
+use kc_facts::{View, push_bounds, push_user};
 use kc_tree::{Node, SymId, SymbolType};
 use kc_value::{active_range, assignable_among};
 use std::alloc::{AllocError, Global};
@@ -31,18 +29,23 @@ fn push_tristates(
     text.push('\n')
 }
 
-/// Adds the values that a user can give a visible int or hex.
+/// Adds the numbers that a user can give a visible int or hex.
 fn push_numbers(
     alloc: Global,
     text: &mut String,
     view: &View<'_>,
     symbol: SymId,
 ) -> Result<(), AllocError> {
-    text.push_str("  can be set to a number")?;
-    if active_range(view.known(), symbol).is_some() {
-        text.push_str(" of the range ")?;
-        push_bounds(alloc, text, view, symbol)?;
-    }
+    let Some(range) = active_range(view.known(), symbol) else {
+        return text.push_str("  can be set to a number\n");
+    };
+    let is_empty = range.low > range.high;
+    text.push_str(if is_empty {
+        "  can be set to no number: its range is "
+    } else {
+        "  can be set to a number of the range "
+    })?;
+    push_bounds(alloc, text, view, symbol)?;
     text.push('\n')
 }
 

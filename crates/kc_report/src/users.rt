@@ -4,8 +4,7 @@ ghost use Rattle.kc_tree.specs.declared.node.Node.TheVariants.{Val};
 ghost use Rattle.kc_tree.specs.Nodes.{IsNodeOf};
 
 use crate::extent::Extent;
-use crate::factors_in_words::push_choice;
-use crate::view::View;
+use kc_facts::{View, push_choice};
 use kc_tree::{ChoiceId, Node, SymId, Tree};
 use std::alloc::{AllocError, Global};
 

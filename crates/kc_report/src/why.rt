@@ -2,14 +2,12 @@
 
 use crate::definitions_in_words::push_definitions;
 use crate::extent::Extent;
-use crate::places::Places;
 use crate::promptless::push_promptless;
 use crate::reasons_in_words::{push_choice_of_member, push_reason};
-use crate::reverses::{ReverseKind, ReverseList, push_reverses};
+use crate::reverses::{ReverseList, push_reverses};
 use crate::settable::push_settable;
 use crate::users::push_users;
-use crate::view::View;
-use crate::words::{push_user, push_value, type_name};
+use kc_facts::{LineIndex, ReverseKind, View, push_user, push_value, type_name};
 use kc_tree::{Node, SymId};
 use kc_value::Reason;
 use std::alloc::{AllocError, Global};
@@ -59,12 +57,12 @@ fn selected_member(symbol: SymId, reason: Reason) -> Option<SymId> {
 pub fn why_text(
     alloc: Global,
     view: &View<'_>,
-    places: &Places<'_, '_>,
+    index: &LineIndex<'_, '_>,
     symbol: SymId,
     extent: Extent,
 ) -> Result<String, AllocError> {
     let mut text = String::new(alloc);
-    push_why(alloc, &mut text, view, places, symbol, extent)?;
+    push_why(alloc, &mut text, view, index, symbol, extent)?;
     Ok(text)
 }
 
@@ -73,7 +71,7 @@ fn push_why(
     alloc: Global,
     text: &mut String,
     view: &View<'_>,
-    places: &Places<'_, '_>,
+    index: &LineIndex<'_, '_>,
     symbol: SymId,
     extent: Extent,
 ) -> Result<(), AllocError> {
@@ -84,14 +82,14 @@ fn push_why(
         return Ok(());
     };
     push_head(text, view, symbol)?;
-    push_reason(alloc, text, view, places, symbol, reason)?;
-    push_definitions(alloc, text, view, places, found, extent)?;
+    push_reason(alloc, text, view, index, symbol, reason)?;
+    push_definitions(alloc, text, view, index, found, extent)?;
     for kind in [ReverseKind::Select, ReverseKind::Imply] {
         push_reverses(
             alloc,
             text,
             view,
-            places,
+            index,
             ReverseList { kind, symbol },
             extent,
         )?;
@@ -99,5 +97,5 @@ fn push_why(
     push_promptless(alloc, text, view, found)?;
     push_users(alloc, text, view, symbol, extent)?;
     push_settable(alloc, text, view, symbol)?;
-    push_choice_of_member(text, view, places, symbol, selected_member(symbol, reason))
+    push_choice_of_member(text, view, index, symbol, selected_member(symbol, reason))
 }

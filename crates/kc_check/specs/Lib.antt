@@ -1,5 +1,0 @@
-pub mod Defaults
-pub mod Forced
-pub mod Outcomes
-pub mod Ranges
-pub mod Unmet

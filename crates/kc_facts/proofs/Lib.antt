@@ -1,0 +1,9 @@
+pub mod BlockLaws
+pub mod CountLaws
+pub mod ForcedLaws
+pub mod FragmentLaws
+pub mod HelpLaws
+pub mod NthLaws
+pub mod OutcomeSearch
+pub mod RowLemmas
+pub mod StartLaws

@@ -1,0 +1,11 @@
+pub mod Attributes
+pub mod Defaults
+pub mod FactorPlaces
+pub mod Forced
+pub mod LineIndex
+pub mod MenuTree
+pub mod Named
+pub mod Outcomes
+pub mod Ranges
+pub mod RowSteps
+pub mod Shown

@@ -1,0 +1,101 @@
+//! What is found of a fault: words, and lines by their numbers among all lines.
+
+ghost use Rattle.std.specs.Prelude.{IfOk, IfSome};
+ghost use Rattle.kc_facts.specs.Named.{AreRemarksOf, IsRemarkOf};
+
+use crate::explanation::{Explanation, Place, Remark};
+use crate::shown::{Fault, shows};
+use kc_text::{Line, Text};
+use std::alloc::{AllocError, Global};
+
+/// A line, by its number among all lines from 0, that is to be named after some words.
+#[derive(Drop)]
+pub struct Mention {
+    pub words: String,
+    pub line: usize,
+}
+
+/// The words for a fault, and the lines that show it.
+#[derive(Drop)]
+pub struct Finding {
+    pub words: String,
+    pub mentions: Vec<Mention>,
+}
+
+impl Finding {
+    /// With lines that have no words before them.
+    ///
+    /// # Errors
+    ///
+    /// `AllocError` where memory is refused.
+    pub fn of_lines(alloc: Global, words: String, lines: &[usize]) -> Result<Finding, AllocError> {
+        let mut mentions = Vec::new(alloc);
+        for line in lines {
+            mentions.push(Mention {
+                words: String::new(alloc),
+                line: *line,
+            })?;
+        }
+        Ok(Finding { words, mentions })
+    }
+
+    /// What is said of a fault that it was found for. A line that does not show such a fault is not named.
+    ///
+    /// # Errors
+    ///
+    /// `AllocError` where memory is refused.
+    pub fn explain(
+        self,
+        alloc: Global,
+        fault: Fault,
+        lines: &[Line<'_>],
+    ) -> Result<Explanation, AllocError>
+        ensures { IfOk result (λ e. AreRemarksOf fault lines.now e.remarks.items) }
+    {
+        let Finding { words, mentions } = self;
+        let remarks = remarks_of(alloc, fault, lines, mentions.as_slice())?;
+        Ok(Explanation { words, remarks })
+    }
+}
+
+/// The lines that are mentioned, each with its place.
+fn remarks_of(
+    alloc: Global,
+    fault: Fault,
+    lines: &[Line<'_>],
+    mentions: &[Mention],
+) -> Result<Vec<Remark>, AllocError>
+    ensures { IfOk result (λ remarks. AreRemarksOf fault lines.now remarks.items) }
+{
+    let mut remarks = Vec::new(alloc);
+    for mention in mentions {
+        if let Some(remark) = remark_of(alloc, fault, lines, mention)? {
+            remarks.push(remark)?;
+        }
+    }
+    Ok(remarks)
+}
+
+/// The line that is mentioned, with its place, if it is one that shows the fault.
+fn remark_of(
+    alloc: Global,
+    fault: Fault,
+    lines: &[Line<'_>],
+    mention: &Mention,
+) -> Result<Option<Remark>, AllocError>
+    ensures { IfOk result (λ found. IfSome found (IsRemarkOf fault lines.now)) }
+{
+    let Some(line) = lines.get(mention.line) else {
+        return Ok(None);
+    };
+    if !shows(fault, line) {
+        return Ok(None);
+    }
+    let words = String::from_str(alloc, mention.words.as_str())?;
+    let path = Text::copy_of(alloc, line.path())?;
+    let place = Place {
+        path,
+        line: line.number(),
+    };
+    Ok(Some(Remark { words, place }))
+}

@@ -1,0 +1,68 @@
+//! What reports say of a tree, of its values and of the lines of its files, as facts: which line each part comes from, what
+//! became of each line of a fragment, what is selected against its dependencies, which ranges and defaults can't be meant,
+//! the rows of the menu, and expressions, values and reasons as text. Nothing here depends on which report asks.
+#![tactic(auto)]
+
+mod attributes;
+mod changes;
+mod config_names;
+mod counts;
+mod defaults;
+mod explanation;
+mod expressions;
+mod factor_lines;
+mod finding;
+mod forced;
+mod fragments;
+mod input;
+mod line_index;
+mod low_parts;
+mod modules;
+mod needs;
+mod outcomes;
+mod parts;
+mod ranges;
+mod reason_words;
+mod references;
+mod reverse_row;
+mod row;
+mod rows;
+mod shortfall;
+mod showing;
+mod shown;
+mod valued_factors;
+mod view;
+mod word_list;
+mod words;
+
+pub use attributes::help_of;
+pub use changes::changes_up_to_two;
+pub use config_names::{NamedLine, has_name_bytes, name_in, named_lines};
+pub use counts::MergeCounts;
+pub use defaults::{free_default_before, is_unread_text, meant_tri};
+pub use explanation::{Explanation, Place, Remark};
+pub use expressions::{push_expr, push_quoted, push_term, push_valued_expr, push_valued_term};
+pub use factor_lines::{FactorLines, is_if, part_of_factor};
+pub use finding::{Finding, Mention};
+pub use forced::{is_above, is_beyond, worth_of_dependencies};
+pub use fragments::{FragmentLine, FragmentLines, read_fragments};
+pub use input::Input;
+pub use line_index::{LineIndex, is_attribute, push_place};
+pub use low_parts::{choice_condition, is_unchosen};
+pub use needs::has_prompt;
+pub use outcomes::{Outcome, outcomes_of};
+pub use parts::{Attribute, Family, Part, says};
+pub use ranges::{certain_range, has_exchanged_sides, is_free, is_outside};
+pub use reason_words::{default_at, push_bounds, push_reason_words};
+pub use references::{
+    Dollar, dollar_of, is_escaped, is_variable_byte, references_in, value_references_in,
+};
+pub use reverse_row::{ReverseKind, push_reverse_row};
+pub use row::Row;
+pub use rows::menu_rows;
+pub use shortfall::push_shortfall;
+pub use showing::shown_line;
+pub use shown::Fault;
+pub use valued_factors::{push_choice, push_valued_factor, push_valued_factors};
+pub use view::View;
+pub use words::{push_line, push_user, push_value, push_valued, type_name, type_words};

@@ -1,0 +1,166 @@
+//! The parts of a tree that lines say: definitions, choices, blocks and comments, and the attributes of each.
+
+ghost use Rattle.std.specs.Prelude.{◌≡◌, ◌&&◌, false, true};
+ghost use Rattle.std.specs.Option.{option_map_or};
+ghost use Rattle.kc_facts.specs.Attributes.{is_of, is_quoted_second, is_whole, says, takes_prompt};
+ghost use Rattle.kc_facts.specs.LineIndex.{begins, begins_word};
+
+use kc_statement::{Keyword, read_keyword};
+use kc_text::{Line, Token};
+
+/// What a line begins.
+#[derive(Clone, Copy, Debug, PartialEq, Eq)]
+pub enum Family {
+    /// A definition of a symbol: `config` or `menuconfig`.
+    Definition,
+    Choice,
+    /// A menu, an `if` or a choice.
+    Block,
+    Comment,
+}
+
+/// What an attribute line says.
+#[derive(Clone, Copy, Debug, PartialEq, Eq)]
+pub enum Attribute {
+    /// A prompt: `prompt`, or the word of a type with a text in quotes.
+    Prompt,
+    /// `depends on`
+    Depends,
+    /// `visible if`
+    Visible,
+    /// `default`, `def_bool` and `def_tristate`
+    Default,
+    Range,
+    Select,
+    Imply,
+}
+
+/// A part of a tree that a line says. All numbers are from 0, in the order of the lines.
+#[derive(Clone, Copy, Debug, PartialEq, Eq)]
+pub enum Part {
+    /// The one of a number of its family.
+    Owner(Family, usize),
+    /// Of the one of a number of its family: the attribute of a number among those of its kind.
+    Said(Family, usize, Attribute, usize),
+}
+
+impl Family {
+    /// Whether it is another one.
+    pub(crate) fn is_same(self, other: Family) -> bool
+        ensures { result ≡ true → self ≡ other }
+    {
+        match self {
+            Family::Definition => matches!(other, Family::Definition),
+            Family::Choice => matches!(other, Family::Choice),
+            Family::Block => matches!(other, Family::Block),
+            Family::Comment => matches!(other, Family::Comment),
+        }
+    }
+}
+
+impl Attribute {
+    /// Whether it is another one.
+    pub(crate) fn is_same(self, other: Attribute) -> bool
+        ensures { result ≡ true → self ≡ other }
+    {
+        match self {
+            Attribute::Prompt => matches!(other, Attribute::Prompt),
+            Attribute::Depends => matches!(other, Attribute::Depends),
+            Attribute::Visible => matches!(other, Attribute::Visible),
+            Attribute::Default => matches!(other, Attribute::Default),
+            Attribute::Range => matches!(other, Attribute::Range),
+            Attribute::Select => matches!(other, Attribute::Select),
+            Attribute::Imply => matches!(other, Attribute::Imply),
+        }
+    }
+}
+
+/// Whether a first word begins one of a family.
+pub(crate) fn begins_word(family: Family, word: Keyword) -> bool
+    ensures { result ≡ begins_word family word }
+{
+    match family {
+        Family::Definition => matches!(word, Keyword::Config),
+        Family::Choice => matches!(word, Keyword::Choice),
+        Family::Block => word.opens(),
+        Family::Comment => matches!(word, Keyword::Comment),
+    }
+}
+
+/// Whether a line, by its first word, begins one of a family.
+pub(crate) fn begins(family: Family, word: Option<Keyword>) -> bool
+    ensures { result ≡ option_map_or (begins_word family) word false }
+{
+    match word {
+        Some(word) => begins_word(family, word),
+        None => false,
+    }
+}
+
+/// Whether lines that say an attribute begin with a word.
+pub(crate) fn is_of(attribute: Attribute, word: Keyword) -> bool
+    ensures { result ≡ is_of attribute word }
+{
+    match attribute {
+        Attribute::Prompt => takes_prompt(word),
+        Attribute::Depends => matches!(word, Keyword::Depends),
+        Attribute::Visible => matches!(word, Keyword::Visible),
+        Attribute::Default => matches!(
+            word,
+            Keyword::Default | Keyword::DefBool | Keyword::DefTristate
+        ),
+        Attribute::Range => matches!(word, Keyword::Range),
+        Attribute::Select => matches!(word, Keyword::Select),
+        Attribute::Imply => matches!(word, Keyword::Imply),
+    }
+}
+
+/// Whether a prompt can come after a word.
+fn takes_prompt(word: Keyword) -> bool
+    ensures { result ≡ takes_prompt word }
+{
+    matches!(
+        word,
+        Keyword::Bool
+            | Keyword::Tristate
+            | Keyword::String
+            | Keyword::Int
+            | Keyword::Hex
+            | Keyword::Prompt
+    )
+}
+
+/// Whether the second token is a text in quotes.
+fn is_quoted_second(tokens: &[Token<'_>]) -> bool
+    ensures { result ≡ is_quoted_second tokens.now }
+{
+    match tokens {
+        [_, Token::Quoted(_), ..] => true,
+        _ => false,
+    }
+}
+
+/// Whether tokens have what an attribute needs beside its first word: a prompt has a text in quotes.
+fn is_whole(attribute: Attribute, tokens: &[Token<'_>]) -> bool
+    ensures { result ≡ is_whole attribute tokens.now }
+{
+    match attribute {
+        Attribute::Prompt => is_quoted_second(tokens),
+        Attribute::Depends
+        | Attribute::Visible
+        | Attribute::Default
+        | Attribute::Range
+        | Attribute::Select
+        | Attribute::Imply => true,
+    }
+}
+
+/// Whether a line says an attribute.
+pub fn says(attribute: Attribute, line: &Line<'_>) -> bool
+    ensures { result ≡ says attribute line.now }
+{
+    match read_keyword(line) {
+        Some(word) => is_of(attribute, word) && is_whole(attribute, line.tokens()),
+        None => false,
+    }
+}

@@ -1,3 +1,0 @@
-pub mod HelpLaws
-pub mod NthLaws
-pub mod StartLaws

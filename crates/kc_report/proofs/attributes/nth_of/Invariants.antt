@@ -1,8 +1,0 @@
-use Rattle.std.proofs.Common.{◌≡◌, drop, filter, slice_get}
-use Rattle.kc_report.specs.Attributes.{begins_with, is_kind}
-use Rattle.kc_report.proofs.attributes.nth_of.Given as goal
-
--- the line of the number is the one of the count that is left among the lines that are left
-abbrev pub invariant-loop-line : goal.invariant-loop-line
-invariant-loop-line l =
-    slice_get (filter (begins_with (is_kind l.kind)) (drop l.line-index l.attributes)) l.left ≡ slice_get (filter (begins_with (is_kind l.kind)) l.attributes) l.number
