@@ -107,18 +107,20 @@ def named_by_zephyr(folder, kconfig, config, paths, variables):
 
 
 def named_by_kconf(program, folder, kconfig, config, variables_file, paths):
-    """What the report says of each line, and the values of the .config."""
+    """What the report says of each line, the lines that are replaced, and the values of the .config."""
     command = [program, "merge", "-C", folder, "--variables", variables_file, kconfig, config, *paths]
     done = subprocess.run(command, check=True, capture_output=True, encoding="utf-8")
-    said = {}
+    said, replaced = {}, set()
     for line in done.stderr.split("\n"):
         if match := re.match(r"^(\S+:\d+): (.*)$", line):
             said[match.group(1)] = match.group(2)
+        if match := re.search(r" takes the place of .* \((\S+:\d+)\)$", line):
+            replaced.add(match.group(1))
     values = {}
     for line in done.stdout.split("\n"):
         if match := LINE.match(line):
             values[match.group(1) or match.group(3)] = match.group(2) if match.group(1) else "n"
-    return said, values, done.stderr.rstrip("\n").split("\n")[-1]
+    return said, replaced, values, done.stderr.rstrip("\n").split("\n")[-1]
 
 
 def main():
@@ -137,7 +139,7 @@ def main():
     requests = requests_of(paths)
 
     program, conf = str(Path(arguments.program).resolve()), str(Path(arguments.conf).resolve())
-    said, values, counts = named_by_kconf(
+    said, replaced, values, counts = named_by_kconf(
         program, arguments.folder, arguments.kconfig, config, variables_file, paths
     )
     made = made_by_conf(conf, arguments.folder, arguments.kconfig, joined(config, requests), variables)
@@ -160,7 +162,8 @@ def main():
             counts_of[tool] += names
         has_value = values.get(request.name, "n") == request.value
         is_replacing = "takes the place of" in said.get(place, "")
-        is_wrong = is_last and not is_replacing and tools["kconf"] == has_value
+        is_counted = is_last and not is_replacing and place not in replaced
+        is_wrong = is_counted and tools["kconf"] == has_value
         wrong += is_wrong
         named = ", ".join(tool for tool, names in tools.items() if names)
         words = said.get(place, "false: the symbol has this value" if has_value else "not named by kconf")

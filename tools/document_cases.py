@@ -587,6 +587,7 @@ VALUES: dict[tuple[str, int], Entry] = {
     ("Numbers", 7): Shown("a hex and its range"),
     ("Assignable values", 1): Assignable("each row of the table", ASSIGNABLE_SYMBOLS, ASSIGNABLE_LINES),
     ("Reasons", 1): Without("what kconf why says of Kconfigs in words"),
+    ("Reasons in short", 1): Without("what kconf check and kconf merge say of Kconfigs in words"),
     ("Written or not", 1): RULES,
     ("Written or not", 2): Lines("symbols with a line and without one"),
     ("The text of the `.config`", 1): KCONFIG_OF_NEXT,

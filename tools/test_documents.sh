@@ -49,7 +49,7 @@ BLOCK = re.compile(r"^```(\S+)(?: ([^\n]*))?\n(.*?)^```$", re.MULTILINE | re.DOT
 
 # The table that quotes `why`, and where its words are.
 QUOTES = ("docs/TASKS.md", "| What `why` says |")
-SOURCES = ("crates/kc_report/src", "crates/kc_program/src")
+SOURCES = ("crates/kc_facts/src", "crates/kc_report/src", "crates/kc_program/src")
 
 # A tree whose makefiles give `conf` its variables as those of a kernel do, and whose Kconfig runs functions.
 LINUX = {
