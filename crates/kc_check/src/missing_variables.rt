@@ -110,7 +110,7 @@ impl<'v> MissingVariables<'v> {
         }
     }
 
-    /// Passes so many marks of a file, and adds the variables in them that are missing.
+    /// Passes a number of marks of a file, and adds the variables in them that are missing.
     fn pass(
         &mut self,
         alloc: Global,

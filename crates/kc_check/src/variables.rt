@@ -24,13 +24,13 @@ pub(crate) struct MarkedFile {
 }
 
 impl MarkedFile {
-    /// How many of its marks after so many are in lines up to that of a number.
+    /// How many of its marks, after those that were passed, are in lines up to that of a number.
     pub fn count_up_to(&self, passed: usize, line: usize) -> usize {
         let left = self.marks.as_slice().get(passed..).unwrap_or(&[]);
         left.iter().take_while(|mark| mark.line <= line).count()
     }
 
-    /// How many of its marks after so many come up to its next `source` line, with that line.
+    /// How many of its marks, after those that were passed, come up to its next `source` line, with that line.
     pub fn count_up_to_source(&self, passed: usize) -> usize {
         let left = self.marks.as_slice().get(passed..).unwrap_or(&[]);
         match left.iter().position(|mark| mark.name.is_none()) {
@@ -140,7 +140,7 @@ impl Variables {
         Ok(())
     }
 
-    /// Takes over references, of which those get marks that are the first of their names in the file.
+    /// Takes over references, and marks those that are the first of their names in the file.
     fn add_uses(
         &mut self,
         alloc: Global,

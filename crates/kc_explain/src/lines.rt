@@ -69,7 +69,7 @@ pub fn explain_line(
     finding.explain(alloc, Fault::Line, lines)
 }
 
-/// What is said of the first of the lines of a number in a file of which something is said.
+/// What is said of the first line, of those with this path and number, that has something to be said.
 fn explain_first(
     statements: &Statements<'_, '_>,
     text: &str,

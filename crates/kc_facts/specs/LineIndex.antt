@@ -1,5 +1,5 @@
 -- Which line each part of a tree comes from: this project's own. The lines of attributes are those after the line of
--- their owner, up to the first that is none (kconfig-language.rst, "Menu attributes").
+-- their owner, up to the first line that is no attribute (kconfig-language.rst, "Menu attributes").
 use Rattle.std.specs.Prelude.{◌≡◌, ℕ, Bool, false, Option, List, [], ◌∷◌, ◌++◌, drop, filter, map, slice_get, if◌then◌else◌}
 use Rattle.std.specs.List.{take_while}
 use Rattle.std.specs.Option.{option_map_or}
