@@ -29,4 +29,5 @@ pub mod Runs
 pub mod ShownLaws
 pub mod Silent
 pub mod StepLaws
+pub mod StopLaws
 pub mod TokenLemmas

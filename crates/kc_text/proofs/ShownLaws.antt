@@ -136,7 +136,7 @@ dollar_begins (AreWordParts.of_name e parts) bs = refl
 
 -- a quote begins a text
 module _ (q : ℕ) (k : is_quote q ≡ true) where
-  quote_not_blank : is_blank q ≡ false
+  pub quote_not_blank : is_blank q ≡ false
   quote_not_blank = grind (arith, nat_tests)
 
   quote_no_word : is_word q ≡ false
@@ -145,7 +145,7 @@ module _ (q : ℕ) (k : is_quote q ≡ true) where
   quote_no_dollar : eqb q 36 ≡ false
   quote_no_dollar = grind (arith, nat_tests)
 
-  quote_opens : (bs : List ℕ) → raw_tokens (q ∷ bs) ≡ lexed 0 (in_quotes q []) bs
+  pub quote_opens : (bs : List ℕ) → raw_tokens (q ∷ bs) ≡ lexed 0 (in_quotes q []) bs
   quote_opens bs =
       lexed_step between q bs (on [] 0 (in_quotes q []))
       ((λ i. between_by (quote_not_blank i) (quote_no_word i) (quote_no_dollar i) q bs) ∙ rw k refl)

@@ -21,6 +21,8 @@ pub mod Scanning
 pub mod Shown
 pub mod Sources
 pub mod Steps
+pub mod Stopping
+pub mod Stops
 pub mod Tokens
 pub mod ValueLaw
 pub mod VariableList

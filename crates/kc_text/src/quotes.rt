@@ -5,6 +5,7 @@ ghost use Rattle.std.specs.List.{prefix_len};
 ghost use Rattle.kc_text.specs.Lexing.{is_plain, is_quote, in_quotes, lexed, quoted as a_quoted, raw_tokens};
 ghost use Rattle.kc_text.specs.References.{Piece as SpecPiece};
 ghost use Rattle.kc_text.specs.Scanning.{bytes_of, piece_of, raw_of};
+ghost use Rattle.kc_text.specs.Stopping.{Leaves};
 
 use crate::bytes::behind;
 use crate::reference::{Piece, reference};
@@ -75,10 +76,11 @@ fn quoted_parts<'a>(
 }
 
 /// The first part of a text in quotes, and the text after it: nothing after a dollar that begins no reference.
-fn quoted_piece(quote: u8, text: &str) -> Option<(Piece<'_>, &str)>
+pub(crate) fn quoted_piece(quote: u8, text: &str) -> Option<(Piece<'_>, &str)>
     requires kind { is_quote quote ≡ true }
     ensures none { IfNone result (0 < length text.now → slice_index text.now 0 ≡ quote) }
     ensures lexes { IfSome result (λ found. (ps : List SpecPiece) → lexed 0 (in_quotes quote ps) text.now ≡ lexed 0 (in_quotes quote (ps ++ piece_of found.0)) found.1.now) }
+    ensures leaves { IfSome result (λ found. Leaves found.0 text.now found.1.now) }
     ensures shorter { IfSome result (λ found. length found.1.now < length text.now) }
 {
     let len = plain_len(quote, text);
@@ -100,6 +102,7 @@ fn quoted_piece(quote: u8, text: &str) -> Option<(Piece<'_>, &str)>
 /// stands for itself anyway.
 fn escaped(text: &str) -> (Piece<'_>, &str)
     ensures lexes { (quote : ℕ) → is_quote quote ≡ true → (ps : List SpecPiece) → lexed 0 (in_quotes quote ps) (92 ∷ text.now) ≡ lexed 0 (in_quotes quote (ps ++ piece_of result.0)) result.1.now }
+    ensures leaves { Leaves result.0 (92 ∷ text.now) result.1.now }
     ensures within { length result.1.now ≤ length text.now }
 {
     match text.as_bytes() {

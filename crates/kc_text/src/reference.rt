@@ -5,6 +5,8 @@ ghost use Rattle.std.specs.Char.{is_ascii_digit};
 ghost use Rattle.std.specs.List.{list_all, prefix_len};
 ghost use Rattle.kc_text.specs.References.{is_no_dollar, is_referable, reference_after_dollar, reference_len, value_pieces};
 ghost use Rattle.kc_text.specs.Scanning.{bytes_of, piece_of, pieces_of};
+ghost use Rattle.kc_text.specs.Stopping.{Leaves};
+ghost use Rattle.kc_text.specs.Stops.{is_bad};
 
 use crate::bytes::{behind, name_len};
 use memchr::memchr;
@@ -19,6 +21,13 @@ pub(crate) enum Piece<'a> {
     Reference(&'a str),
     /// A dollar that begins no reference: nothing is read behind it.
     Malformed,
+}
+
+/// Whether a part is a dollar that begins no reference.
+pub(crate) fn is_malformed(piece: &Piece<'_>) -> bool
+    ensures { result ≡ is_bad (piece_of piece.now) }
+{
+    matches!(piece, Piece::Malformed)
 }
 
 /// Whether a name is of digits alone.
@@ -87,9 +96,10 @@ pub(crate) fn value_pieces<'a>(alloc: Global, text: &'a str) -> Result<Vec<Piece
 }
 
 /// The first part of a variable's text, and the text behind it: nothing behind a dollar that begins no reference.
-fn value_piece(text: &str) -> Option<(Piece<'_>, &str)>
+pub(crate) fn value_piece(text: &str) -> Option<(Piece<'_>, &str)>
     ensures none { IfNone result (text.now ≡ []) }
     ensures begins { IfSome result (λ found. value_pieces text.now ≡ piece_of found.0 ++ value_pieces found.1.now) }
+    ensures leaves { IfSome result (λ found. Leaves found.0 text.now found.1.now) }
     ensures shorter { IfSome result (λ found. length found.1.now < length text.now) }
 {
     let len = plain_len(text);

@@ -6,6 +6,7 @@ ghost use Rattle.kc_text.specs.Bytes.{begins_with, behind_blanks, is_blank, is_w
 ghost use Rattle.kc_text.specs.Lexing.{begins_word, is_quote, in_word, between, sign_step, on, stop, operator as an_operator, word as a_word, not_allowed, lexed, raw_tokens};
 ghost use Rattle.kc_text.specs.References.{Piece as SpecPiece};
 ghost use Rattle.kc_text.specs.Scanning.{bytes_of, piece_of, raw_of};
+ghost use Rattle.kc_text.specs.Stopping.{Leaves};
 
 use crate::bytes::{behind, behind_blanks, is_word, word_len};
 use crate::line::Operator;
@@ -101,9 +102,10 @@ fn spliced_word<'a>(alloc: Global, text: &'a str) -> Result<(RawToken<'a>, &'a s
 }
 
 /// The first part of a word, and the text after it: nothing after a dollar that begins no reference.
-fn word_piece(text: &str) -> Option<(Piece<'_>, &str)>
+pub(crate) fn word_piece(text: &str) -> Option<(Piece<'_>, &str)>
     ensures none { IfNone result (begins_word text.now ≡ false) }
     ensures lexes { IfSome result (λ found. (ps : List SpecPiece) → lexed 0 (in_word ps) text.now ≡ lexed 0 (in_word (ps ++ piece_of found.0)) found.1.now) }
+    ensures leaves { IfSome result (λ found. Leaves found.0 text.now found.1.now) }
     ensures shorter { IfSome result (λ found. length found.1.now < length text.now) }
 {
     let len = word_len(text);

@@ -4,6 +4,7 @@ use Rattle.kc_text.specs.References.{reference, reference_after_dollar, referenc
 use Rattle.kc_text.specs.Scanning.{bytes_of}
 use Rattle.kc_text.proofs.Lexing.{lexed-plain_run, lexed-quotes_reference, plain_stop_is_ascii, first_is}
 use Rattle.kc_text.proofs.Runs.{boundary_before_stop}
+use Rattle.kc_text.proofs.StopLaws.{ends_behind, ends_through}
 use Rattle.kc_text.proofs.quotes.quoted_piece.Goals as goal
 
 pub split_at-requires : goal.split_at-requires
@@ -31,3 +32,13 @@ returns-in-Some-clause-lexes c = λ ps.
     let rest = found.finds.1 ∙ ap (drop (reference_len name)) c.behind-in-36.ensures in
     ap (lexed 0 (in_quotes quote ps)) (first_is text 36 some dollar) ∙ lexed-quotes_reference quote ps (drop 1 text) name c.requires.kind named
     ∙ ap (lexed 0 (in_quotes quote (ps ++ reference name ∷ []))) (sym rest)
+
+pub returns-then-len-gt0-clause-leaves : goal.returns-then-len-gt0-clause-leaves
+returns-then-len-gt0-clause-leaves c = ends_behind c.plain_len-len.result c.args.text.now c.split_at.result.1.now c.split_at.ensures.back
+
+pub returns-in-Some-clause-leaves : goal.returns-in-Some-clause-leaves
+returns-in-Some-clause-leaves c =
+    let text = c.args.text.now in
+    let opened = c.behind-in-36.result.now in
+    let after = c.in-Some.after.now in
+    ends_through text opened after (ends_behind 1 text opened c.behind-in-36.ensures) (ends_behind (reference_len c.in-Some.name.now) opened after c.in-Some.ensures.finds.1)

@@ -4,6 +4,7 @@ use Rattle.kc_text.specs.References.{is_no_dollar, reference, reference_after_do
 use Rattle.kc_text.specs.Scanning.{bytes_of}
 use Rattle.kc_text.proofs.References.{dollar_is_ascii, value_pieces-run, value_pieces-reference}
 use Rattle.kc_text.proofs.Runs.{boundary_before_stop}
+use Rattle.kc_text.proofs.StopLaws.{ends_behind, ends_through}
 use Rattle.kc_text.proofs.reference.value_piece.Goals as goal
 
 pub split_at-requires : goal.split_at-requires
@@ -27,3 +28,13 @@ returns-in-Some-clause-begins c =
     let named = ap reference_after_dollar (sym c.behind.ensures) ∙ found.finds.0 in
     let rest = found.finds.1 ∙ ap (drop (reference_len c.in-Some.name.now)) c.behind.ensures in
     value_pieces-reference text c.in-Some.name.now some (sym none) named ∙ ap (λ bs. reference c.in-Some.name.now ∷ value_pieces bs) (sym rest)
+
+pub returns-then-len-gt0-clause-leaves : goal.returns-then-len-gt0-clause-leaves
+returns-then-len-gt0-clause-leaves c = ends_behind c.plain_len-len.result c.args.text.now c.split_at.result.1.now c.split_at.ensures.back
+
+pub returns-in-Some-clause-leaves : goal.returns-in-Some-clause-leaves
+returns-in-Some-clause-leaves c =
+    let text = c.args.text.now in
+    let opened = c.behind.result.now in
+    let after = c.in-Some.after.now in
+    ends_through text opened after (ends_behind 1 text opened c.behind.ensures) (ends_behind (reference_len c.in-Some.name.now) opened after c.in-Some.ensures.finds.1)

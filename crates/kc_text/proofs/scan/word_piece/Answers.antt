@@ -5,6 +5,7 @@ use Rattle.kc_text.specs.References.{reference, reference_after_dollar, referenc
 use Rattle.kc_text.specs.Scanning.{bytes_of}
 use Rattle.kc_text.proofs.Cuts.{boundary_after_run, word_is_ascii}
 use Rattle.kc_text.proofs.Lexing.{lexed-word_run, lexed-word_reference, first_is}
+use Rattle.kc_text.proofs.StopLaws.{ends_behind, ends_through}
 use Rattle.kc_text.proofs.scan.word_piece.Goals as goal
 
 pub split_at-requires : goal.split_at-requires
@@ -30,3 +31,13 @@ returns-in-Some-clause-lexes c = λ ps.
     let rest = found.finds.1 ∙ ap (drop (reference_len name)) c.behind.ensures in
     ap (lexed 0 (in_word ps)) (first_is text 36 some dollar) ∙ lexed-word_reference ps (drop 1 text) name named
     ∙ ap (lexed 0 (in_word (ps ++ reference name ∷ []))) (sym rest)
+
+pub returns-then-len-gt0-clause-leaves : goal.returns-then-len-gt0-clause-leaves
+returns-then-len-gt0-clause-leaves c = ends_behind c.word_len-len.result c.args.text.now c.split_at.result.1.now c.split_at.ensures.back
+
+pub returns-in-Some-clause-leaves : goal.returns-in-Some-clause-leaves
+returns-in-Some-clause-leaves c =
+    let text = c.args.text.now in
+    let opened = c.behind.result.now in
+    let after = c.in-Some.after.now in
+    ends_through text opened after (ends_behind 1 text opened c.behind.ensures) (ends_behind (reference_len c.in-Some.name.now) opened after c.in-Some.ensures.finds.1)
