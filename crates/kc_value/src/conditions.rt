@@ -101,9 +101,9 @@ fn lines_tri(known: &Known<'_>, definition: &Definition) -> Tri
     lines.and(depends_around(known, definition.block()))
 }
 
-/// The dependencies of the definition of a number (kconfig-language.rst, "Menu dependencies"): its own `depends on` lines,
-/// and those of all blocks around it; n where there is none.
-pub(crate) fn dependency_tri(known: &Known<'_>, number: usize) -> Tri
+/// What the dependencies of the definition of a number are worth (kconfig-language.rst, "Menu dependencies"): its own
+/// `depends on` lines, and those of all blocks around it; n where there is no such definition.
+pub fn dependency_tri(known: &Known<'_>, number: usize) -> Tri
     ensures { result
         ≡ option_map_or (dependency known.now.tree (given known.now)) (slice_get known.now.tree.definitions number) No }
 {

@@ -42,7 +42,7 @@ pub use assignable_values::{assignable, assignable_among};
 pub use bounds::spelled;
 pub use change::{Change, NewUser};
 pub use changed::{changed_value, is_same_user_value};
-pub use conditions::{comment_condition, menu_condition};
+pub use conditions::{comment_condition, dependency_tri, menu_condition};
 pub use evaluation::eval;
 pub use expr_value::tri;
 pub use factors::{
