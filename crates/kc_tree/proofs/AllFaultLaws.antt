@@ -1,15 +1,13 @@
--- All faults of what lines define, one more at a time, and that the first of them is the one that is sought first.
-use Rattle.std.proofs.Common.{◌≡◌, ℕ, zero, suc, ◌+◌, ◌<◌, ◌≤◌, Bool, true, false, cond, List, [], ◌∷◌, ◌++◌, Option, Some, None, option_map, option_and_then, is_some, length, filter, filter_map, option_to_list, count_by, get_or, take, drop, refl, sym, ap, ◌∙◌, subst, append_assoc, arith}
-use Rattle.std.specs.List.{find, range_with_len, slice_get, cons_option}
-use Rattle.std.specs.Option.{option_or}
-use Rattle.std.proofs.lemmas.List.{drop_more, take_more}
-use Rattle.std.proofs.lemmas.List.Elements.{filter-append, filter_map-append}
+-- All faults of what lines define: one more at a time, none where no symbol has a problem, and the first of them.
+use Rattle.std.proofs.Common.{◌≡◌, ℕ, zero, suc, ◌+◌, ◌<◌, ◌≤◌, Bool, true, false, List, [], ◌∷◌, ◌++◌, Option, Some, None, option_map, length, filter, filter_map, option_to_list, count_by, get_or, take, if◌then◌else◌, sym, refl, ap, ◌∙◌, subst, append_assoc, append-nil, arith}
+use Rattle.std.specs.List.{All, AllByRecursion, list_any, range_with_len, slice_get, cons_option}
+use Rattle.std.proofs.lemmas.Bool.{or_parts}
+use Rattle.std.proofs.lemmas.List.{take_more}
+use Rattle.std.proofs.lemmas.List.Elements.{All-append, All-cons, All-nil, filter_map-append}
 use Rattle.std.proofs.lemmas.List.Sums.{length-filter}
-use Rattle.std.proofs.Math.ListN.{take-append-drop}
+use Rattle.std.proofs.lemmas.Option.{none-some, same_Some}
 use Rattle.kc_text.specs.LineValue.{LineValue}
 use Rattle.kc_statement.specs.Keywords.{is_choice}
-use Rattle.kc_statement.specs.declared.id.SymId.{SymId}
-use Rattle.kc_outline.specs.declared.id.ChoiceId.{ChoiceId}
 use Rattle.kc_outline.specs.TreeValue.{TreeValue, name_of}
 use Rattle.kc_tree.specs.declared.problem.SymbolProblem.{SymbolProblem}
 use Rattle.kc_tree.specs.declared.problem.SymbolProblem.TheVariants.{NoType, TypeConflict, SecondPrompt, UnfitDefault, UnfitSelect, BadModules}
@@ -18,14 +16,13 @@ use Rattle.kc_tree.specs.declared.fault.TreeFault.{TreeFault}
 use Rattle.kc_tree.specs.declared.fault.TreeFault.TheVariants.{Line, Symbol, Choice, Loop, NoMemory}
 use Rattle.kc_tree.specs.declared.outline_faults.OutlineFault.{OutlineFault}
 use Rattle.kc_tree.specs.declared.outline_faults.OutlineFault.TheVariants as outline_problem
-use Rattle.kc_tree.specs.AllFaults.{symbol_fault_at, symbol_faults, choice_fault_at, choice_faults, outline_faults, AreLoops}
-use Rattle.kc_tree.specs.ChoiceFaults.{choice_fault, problem_at}
+use Rattle.kc_tree.specs.AllFaults.{reported, AreLoops}
+use Rattle.kc_tree.specs.ChoiceFaults.{problem_at}
 use Rattle.kc_tree.specs.Faults.{IsTreeProblem}
 use Rattle.kc_tree.specs.Linked.{IsLinkFault}
-use Rattle.kc_tree.specs.OutlineFaults.{of_symbol, of_choice, outline_fault}
+use Rattle.kc_tree.specs.OutlineFaults.{choice_fault_at, choice_faults, outline_fault, outline_faults, symbol_fault_at, symbol_faults, IsInside}
 use Rattle.kc_tree.specs.Parsed.{IsOfLines}
-use Rattle.kc_tree.specs.SymbolFaults.{fault_by}
-use Rattle.kc_tree.specs.SymbolTests.{has_problem, test_of}
+use Rattle.kc_tree.specs.SymbolFaults.{has_any_problem, has_problem, AreSymbolsFaultless}
 
 -- ---- one number more
 range_suc : (a n j : ℕ) → a + n ≡ j → range_with_len a (suc n) ≡ range_with_len a n ++ j ∷ []
@@ -59,133 +56,85 @@ pub added : {X Y : Type 0} (f : X → Option Y) (first before now : List Y) (xs 
 added f first before now xs more x known next is =
     is ∙ ap (λ ys. ys ++ option_to_list (f x)) known ∙ append_assoc first (filter_map f xs) (option_to_list (f x)) ∙ ap (λ ys. first ++ ys) (sym next)
 
--- ---- the lines of choices
-seam : {X : Type 0} (xs : List X) (y : X) (ys : List X) (n : ℕ) → n ≡ length xs → slice_get (xs ++ y ∷ ys) n ≡ Some y
-seam [] y ys zero e = refl
-seam [] y ys (suc n) e = absurd (omega (arith, e))
-seam (x ∷ xs) y ys zero e = absurd (omega (arith, e))
-seam (x ∷ xs) y ys (suc n) e = seam xs y ys n (omega (arith, e))
+-- ---- no symbol has a problem
+any_none : {X : Type 0} (p : X → Bool) (xs : List X) → list_any p xs ≡ false → AllByRecursion (λ x. p x ≡ false) xs
+any_none p [] none = tt
+any_none p (x ∷ xs) none =
+    let parts = or_parts (p x) (list_any p xs) none in (parts.0, any_none p xs parts.1)
 
--- an element that passes is the next of those that pass, after those before it
-pub next_passing : {X : Type 0} (p : X → Bool) (xs : List X) (i : ℕ) (x : X) → i < length xs → x ≡ get_or xs i x → p x ≡ true → slice_get (filter p xs) (count_by p (take i xs)) ≡ Some x
-next_passing p xs i x within is passes =
-    let rest : drop i xs ≡ x ∷ drop (i + 1) xs = drop_more xs i x within ∙ ap (λ y. y ∷ drop (i + 1) xs) (sym is) in
-    let parts : filter p xs ≡ filter p (take i xs) ++ filter p (drop i xs) = ap (filter p) (sym (take-append-drop i xs)) ∙ filter-append p (take i xs) (drop i xs) in
-    let after : filter p (drop i xs) ≡ x ∷ filter p (drop (i + 1) xs) = ap (filter p) rest ∙ ap (λ b. cond b (x ∷ filter p (drop (i + 1) xs)) (filter p (drop (i + 1) xs))) passes in
-    ap (λ ys. slice_get ys (count_by p (take i xs))) (parts ∙ ap (λ ys. filter p (take i xs) ++ ys) after)
-    ∙ seam (filter p (take i xs)) x (filter p (drop (i + 1) xs)) (count_by p (take i xs)) (sym (length-filter p (take i xs)))
+lacks : (t : TreeValue) (k : ℕ) → has_any_problem t k ≡ false → (problem : SymbolProblem) → has_problem t problem k ≡ false
+lacks t k none problem = of problem where
+  each : AllByRecursion (λ (p : SymbolProblem). has_problem t p k ≡ false) (NoType ∷ TypeConflict ∷ SecondPrompt ∷ UnfitDefault ∷ UnfitSelect ∷ BadModules ∷ [])
+  each = any_none (λ (p : SymbolProblem). has_problem t p k) (NoType ∷ TypeConflict ∷ SecondPrompt ∷ UnfitDefault ∷ UnfitSelect ∷ BadModules ∷ []) none
 
--- the fault of the choice that a line begins
-pub fault_at_line : (lines : List LineValue) (t : TreeValue) (k : ℕ) (l : LineValue) → slice_get (filter is_choice lines) k ≡ Some l
-    → choice_fault_at lines t k ≡ option_map (λ p. Choice p l.path l.number) (problem_at t k)
-fault_at_line lines t k l is = step (problem_at t k) where
-  step : (o : Option ChoiceProblem) → option_and_then (λ p. option_map (λ x. Choice p x.path x.number) (slice_get (filter is_choice lines) k)) o ≡ option_map (λ p. Choice p l.path l.number) o
-  step None = refl
-  step (Some p) = ap (λ (o : Option LineValue). option_map (λ x. Choice p x.path x.number) o) is
+  of : (p : SymbolProblem) → has_problem t p k ≡ false
+  of NoType = each.0
+  of TypeConflict = each.1.0
+  of SecondPrompt = each.1.1.0
+  of UnfitDefault = each.1.1.1.0
+  of UnfitSelect = each.1.1.1.1.0
+  of BadModules = each.1.1.1.1.1.0
 
--- ---- the first of all faults
--- a fault is reported as this
-abbrev Reports : List LineValue → TreeValue → TreeFault → OutlineFault → Type 0
-Reports lines t f (outline_problem.Symbol p s) = f ≡ Symbol p (name_of t s)
-Reports lines t f (outline_problem.Choice p c) = (l : LineValue) × (slice_get (filter is_choice lines) c.0 ≡ Some l) × (f ≡ Choice p l.path l.number)
+none_given : {X : Type 0} (f : ℕ → Option X) (a n : ℕ) → ((k : ℕ) → a ≤ k → k < a + n → f k ≡ None) → filter_map f (range_with_len a n) ≡ []
+none_given f a zero none = refl
+none_given f a (suc n) none = rw (none a (omega arith) (omega arith)) (none_given f (a + 1) n (λ k l m. none k (omega arith) (omega arith)))
 
--- the first of these is this, if there is one
-abbrev Heads : List LineValue → TreeValue → List TreeFault → Option OutlineFault → Type 0
-Heads lines t [] None = Unit {0}
-Heads lines t [] (Some x) = ⊥
-Heads lines t (f ∷ fs) None = ⊥
-Heads lines t (f ∷ fs) (Some x) = Reports lines t f x
+-- only choices are at fault
+pub faultless_symbols : (t : TreeValue) → AreSymbolsFaultless t → outline_faults t ≡ choice_faults t
+faultless_symbols t faultless = rw (none NoType, none TypeConflict, none SecondPrompt, none UnfitDefault, none UnfitSelect, none BadModules) (append-nil (choice_faults t)) where
+  none : (problem : SymbolProblem) → symbol_faults t problem ≡ []
+  none problem =
+      none_given (symbol_fault_at t problem) 0 (length t.symbols)
+      (λ k l m. ap (λ b. if b then Some (outline_problem.Symbol problem (record { 0 = k })) else None) (lacks t k (faultless k (omega (arith, m))) problem))
 
-heads_append : (lines : List LineValue) (t : TreeValue) (fs gs : List TreeFault) (o q : Option OutlineFault) → Heads lines t fs o → Heads lines t gs q → Heads lines t (fs ++ gs) (option_or o q)
-heads_append lines t [] gs None q h k = k
-heads_append lines t [] gs (Some x) q h k = absurd h
-heads_append lines t (f ∷ fs) gs None q h k = absurd h
-heads_append lines t (f ∷ fs) gs (Some x) q h k = h
+-- ---- each choice at fault has a line
+all_given : {X : Type 0} (P : X → Type 0) (f : ℕ → Option X) (a n : ℕ) → ((k : ℕ) (x : X) → k < a + n → f k ≡ Some x → P x) → All P (filter_map f (range_with_len a n))
+all_given P f a zero each = All-nil P
+all_given {X = X} P f a (suc n) each = by (f a) refl (all_given P f (a + 1) n (λ k x l is. each k x (omega (arith, l)) is)) where
+  by : (o : Option X) → f a ≡ o → All P (filter_map f (range_with_len (a + 1) n)) → All P (cons_option o (filter_map f (range_with_len (a + 1) n)))
+  by None is rest = rest
+  by (Some x) is rest = All-cons P x _ (each a x (omega arith) is) rest
 
-first_passing : (lines : List LineValue) (t : TreeValue) (problem : SymbolProblem) (ks : List ℕ)
-    → Heads lines t (filter_map (symbol_fault_at t problem) ks) (option_map of_symbol (option_map (λ (k : ℕ). (problem, record { 0 = k })) (find (has_problem t problem) ks)))
-first_passing lines t problem [] = tt
-first_passing lines t problem (k ∷ ks) = step (has_problem t problem k) (first_passing lines t problem ks) where
-  step : (b : Bool) → Heads lines t (filter_map (symbol_fault_at t problem) ks) (option_map of_symbol (option_map (λ (j : ℕ). (problem, record { 0 = j })) (find (has_problem t problem) ks)))
-      → Heads lines t (cons_option (cond b (Some (Symbol problem (name_of t (record { 0 = k })))) None) (filter_map (symbol_fault_at t problem) ks)) (option_map of_symbol (option_map (λ (j : ℕ). (problem, record { 0 = j })) (cond b (Some k) (find (has_problem t problem) ks))))
-  step true rest = refl
-  step false rest = rest
+pub all_inside : (lines : List LineValue) (t : TreeValue) → length t.choices ≡ count_by is_choice lines → All (IsInside (filter is_choice lines)) (outline_faults t)
+all_inside lines t choices =
+    All-append P _ _ (symbols NoType) (All-append P _ _ (symbols TypeConflict) (All-append P _ _ (symbols SecondPrompt) (All-append P _ _ (symbols UnfitDefault) (All-append P _ _ (symbols UnfitSelect)
+    (All-append P _ _ (all_given P (choice_fault_at t) 0 (length t.choices) choice) (symbols BadModules))))))
+  where
+    P : OutlineFault → Type 0
+    P = IsInside (filter is_choice lines)
 
-heads_symbols : (lines : List LineValue) (t : TreeValue) (problem : SymbolProblem) → Heads lines t (symbol_faults t problem) (option_map of_symbol (fault_by t problem (test_of problem)))
-heads_symbols lines t problem = first_passing lines t problem (range_with_len 0 (length t.symbols))
+    symbol : (problem : SymbolProblem) (k : ℕ) (b : Bool) (f : OutlineFault) → (if b then Some (outline_problem.Symbol problem (record { 0 = k })) else None) ≡ Some f → P f
+    symbol problem k true f is = subst P (same_Some _ _ is) tt
+    symbol problem k false f is = absurd (none-some _ is)
 
--- of choices, each of which has a line
-inside : {X : Type 0} (xs : List X) (i : ℕ) → i < length xs → (x : X) × (slice_get xs i ≡ Some x)
-inside [] i within = absurd (omega (arith, within))
-inside (x ∷ xs) zero within = (x, refl)
-inside (x ∷ xs) (suc i) within = inside xs i (omega (arith, within))
+    symbols : (problem : SymbolProblem) → All P (symbol_faults t problem)
+    symbols problem = all_given P (symbol_fault_at t problem) 0 (length t.symbols) (λ k f l is. symbol problem k (has_problem t problem k) f is)
 
-abbrev of_number : (ℕ → Option ChoiceProblem) → ℕ → Option (ChoiceProblem × ChoiceId)
-of_number problem k = option_map (λ p. (p, record { 0 = k })) (problem k)
+    choice_of_number : (k : ℕ) (o : Option ChoiceProblem) (f : OutlineFault) → k < length t.choices → option_map (λ p. outline_problem.Choice p (record { 0 = k })) o ≡ Some f → P f
+    choice_of_number k None f l is = absurd (none-some _ is)
+    choice_of_number k (Some p) f l is = subst P (same_Some _ _ is) (omega (arith, l, choices, length-filter is_choice lines))
 
-module _ (lines : List LineValue) (t : TreeValue) (choices : length t.choices ≡ count_by is_choice lines) where
-  first_choice : (a n : ℕ) → a + n ≤ length t.choices
-      → Heads lines t (filter_map (choice_fault_at lines t) (range_with_len a n)) (option_map of_choice (option_and_then (of_number (problem_at t)) (find (λ k. is_some (problem_at t k)) (range_with_len a n))))
-  first_choice a zero few = tt
-  first_choice a (suc n) few = step (problem_at t a) refl (first_choice (a + 1) n (omega (arith, few))) where
-    at_line : (l : LineValue) × (slice_get (filter is_choice lines) a ≡ Some l)
-    at_line = inside (filter is_choice lines) a (omega (arith, few, choices, length-filter is_choice lines))
+    choice : (k : ℕ) (f : OutlineFault) → k < 0 + length t.choices → choice_fault_at t k ≡ Some f → P f
+    choice k f l is = choice_of_number k (problem_at t k) f (omega (arith, l)) is
 
-    step : (o : Option ChoiceProblem) → problem_at t a ≡ o
-        → Heads lines t (filter_map (choice_fault_at lines t) (range_with_len (a + 1) n)) (option_map of_choice (option_and_then (of_number (problem_at t)) (find (λ k. is_some (problem_at t k)) (range_with_len (a + 1) n))))
-        → Heads lines t (cons_option (choice_fault_at lines t a) (filter_map (choice_fault_at lines t) (range_with_len (a + 1) n))) (option_map of_choice (option_and_then (of_number (problem_at t)) (cond (is_some (problem_at t a)) (Some a) (find (λ k. is_some (problem_at t k)) (range_with_len (a + 1) n)))))
-    step None e rest = rw e rest
-    step (Some p) e rest =
-        let l = at_line.0 in
-        let others = filter_map (choice_fault_at lines t) (range_with_len (a + 1) n) in
-        let found = find (λ k. is_some (problem_at t k)) (range_with_len (a + 1) n) in
-        let given : choice_fault_at lines t a ≡ Some (Choice p l.path l.number) = fault_at_line lines t a l at_line.1 ∙ ap (option_map (λ (x : ChoiceProblem). Choice x l.path l.number)) e in
-        let sought : option_and_then (of_number (problem_at t)) (cond (is_some (problem_at t a)) (Some a) found) ≡ Some (p, record { 0 = a }) =
-        ap (λ (o : Option ChoiceProblem). option_and_then (of_number (problem_at t)) (cond (is_some o) (Some a) found)) e ∙ ap (option_map (λ (x : ChoiceProblem). (x, record { 0 = a }))) e in
-        subst (λ (f : Option TreeFault). Heads lines t (cons_option f others) (option_map of_choice (option_and_then (of_number (problem_at t)) (cond (is_some (problem_at t a)) (Some a) found)))) (sym given)
-        (subst (λ (x : Option (ChoiceProblem × ChoiceId)). Heads lines t (Choice p l.path l.number ∷ others) (option_map of_choice x)) (sym sought) (l, at_line.1, refl))
+-- ---- the first fault
+first_of_all : {X : Type 0} (P : X → Type 0) (xs : List X) (x : X) → All P xs → slice_get xs 0 ≡ Some x → P x
+first_of_all P [] x all is = absurd (none-some _ is)
+first_of_all P (y ∷ ys) x all is = subst P (same_Some _ _ is) (all 0 y (omega arith))
 
-  heads_choices : Heads lines t (choice_faults lines t) (option_map of_choice (choice_fault t))
-  heads_choices = first_choice 0 (length t.choices) (omega arith)
+pub first_inside : (lines : List LineValue) (t : TreeValue) (x : OutlineFault) → length t.choices ≡ count_by is_choice lines → outline_fault t ≡ Some x → IsInside (filter is_choice lines) x
+first_inside lines t x choices first = first_of_all (IsInside (filter is_choice lines)) (outline_faults t) x (all_inside lines t choices) first
 
-  in_turn : (a b c d e f : Option (SymbolProblem × SymId)) (g : Option (ChoiceProblem × ChoiceId))
-      → option_or (option_map of_symbol a) (option_or (option_map of_symbol b) (option_or (option_map of_symbol c) (option_or (option_map of_symbol d) (option_or (option_map of_symbol e) (option_or (option_map of_choice g) (option_map of_symbol f))))))
-      ≡ option_or (option_map of_symbol (option_or a (option_or b (option_or c (option_or d e))))) (option_or (option_map of_choice g) (option_map of_symbol f))
-  in_turn (Some a) b c d e f g = refl
-  in_turn None (Some b) c d e f g = refl
-  in_turn None None (Some c) d e f g = refl
-  in_turn None None None (Some d) e f g = refl
-  in_turn None None None None e f g = refl
-
-  -- the first of all faults is the one that is sought first
-  first_in_turn : Heads lines t (outline_faults lines t) (outline_fault t)
-  first_in_turn =
-      let by = λ (problem : SymbolProblem). fault_by t problem (test_of problem) in
-      let turn = in_turn (by NoType) (by TypeConflict) (by SecondPrompt) (by UnfitDefault) (by UnfitSelect) (by BadModules) (choice_fault t) in
-      subst (Heads lines t (outline_faults lines t)) turn
-      (heads_append lines t _ _ _ _ (heads_symbols lines t NoType)
-      (heads_append lines t _ _ _ _ (heads_symbols lines t TypeConflict)
-      (heads_append lines t _ _ _ _ (heads_symbols lines t SecondPrompt)
-      (heads_append lines t _ _ _ _ (heads_symbols lines t UnfitDefault)
-      (heads_append lines t _ _ _ _ (heads_symbols lines t UnfitSelect)
-      (heads_append lines t _ _ _ _ heads_choices (heads_symbols lines t BadModules)))))))
-
-  none_at_head : (o : Option OutlineFault) → Heads lines t [] o → o ≡ None
-  none_at_head None h = refl
-  none_at_head (Some x) h = absurd h
-
-  pub faultless : outline_faults lines t ≡ [] → outline_fault t ≡ None
-  faultless none = none_at_head (outline_fault t) (subst (λ fs. Heads lines t fs (outline_fault t)) none first_in_turn)
-
-  problem_at_head : (f : TreeFault) (fs : List TreeFault) (o : Option OutlineFault) → outline_fault t ≡ o → Heads lines t (f ∷ fs) o → IsOfLines f × IsTreeProblem lines t f
-  problem_at_head f fs None e h = absurd h
-  problem_at_head f fs (Some (outline_problem.Symbol p s)) e h =
-      subst (λ g. IsOfLines g × IsTreeProblem lines t g) (sym h) (tt, record { symbol = s.0; is = e; name_is = refl })
-  problem_at_head f fs (Some (outline_problem.Choice p c)) e h =
-      subst (λ g. IsOfLines g × IsTreeProblem lines t g) (sym h.2) (tt, record { choice = c.0; is = e; line = h.0; line_is = h.1; path_is = refl; number_is = refl })
-
-  pub first_problem : (f : TreeFault) (fs : List TreeFault) → f ∷ fs ≡ outline_faults lines t → IsOfLines f × IsTreeProblem lines t f
-  first_problem f fs is = problem_at_head f fs (outline_fault t) refl (subst (λ gs. Heads lines t gs (outline_fault t)) (sym is) first_in_turn)
+-- as it is reported, it is why the lines have no tree
+pub first_problem : (lines : List LineValue) (t : TreeValue) (x : OutlineFault) (f : TreeFault) → outline_fault t ≡ Some x → Some f ≡ reported (filter is_choice lines) t x → IsOfLines f × IsTreeProblem lines t f
+first_problem lines t (outline_problem.Symbol p s) f first is =
+    subst (λ g. IsOfLines g × IsTreeProblem lines t g) (sym (same_Some _ _ is)) (tt, record { symbol = s.0; is = first; name_is = refl })
+first_problem lines t (outline_problem.Choice p c) f first is = by (slice_get (filter is_choice lines) c.0) refl where
+  by : (o : Option LineValue) → slice_get (filter is_choice lines) c.0 ≡ o → IsOfLines f × IsTreeProblem lines t f
+  by None e = absurd (none-some _ (sym (is ∙ ap (option_map (λ (l : LineValue). Choice p l.path l.number)) e)))
+  by (Some l) e =
+      let same : f ≡ Choice p l.path l.number = same_Some _ _ (is ∙ ap (option_map (λ (x : LineValue). Choice p x.path x.number)) e) in
+      subst (λ g. IsOfLines g × IsTreeProblem lines t g) (sym same) (tt, record { choice = c.0; is = first; line = l; line_is = e; path_is = refl; number_is = refl })
 
 -- ---- loops
 -- what stops the linking, but for memory, is a loop

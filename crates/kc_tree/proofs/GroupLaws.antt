@@ -1,8 +1,8 @@
 -- How choices and their members belong together where nothing that lines define has a fault.
-use Rattle.std.proofs.Common.{◌≡◌, ℕ, zero, suc, ◌+◌, ◌<◌, ◌≤◌, ◌==◌, ◌||◌, not, Bool, true, false, if◌then◌else◌, List, [], ◌∷◌, Option, Some, None, option_map, option_and_then, is_some, slice_get, length, refl, sym, ap, ◌∙◌, inl, inr, arith}
+use Rattle.std.proofs.Common.{◌≡◌, ℕ, zero, suc, ◌+◌, ◌<◌, ◌≤◌, ◌==◌, ◌||◌, not, Bool, true, false, if◌then◌else◌, List, [], ◌∷◌, ◌++◌, Option, Some, None, option_map, option_and_then, is_some, slice_get, length, filter_map, refl, sym, ap, ◌∙◌, inl, inr, arith}
 use Rattle.std.specs.Prelude.{nat_lt}
-use Rattle.std.specs.List.{AllByRecursion, find, list_any, range_with_len}
-use Rattle.std.specs.Option.{option_map_or, option_or}
+use Rattle.std.specs.List.{AllByRecursion, cons_option, list_any, range_with_len}
+use Rattle.std.specs.Option.{option_map_or}
 use Rattle.std.proofs.lemmas.Bool.{true≢false, eqb-true, eq-eqb, cases_lt, or_parts, or_left, or_right}
 use Rattle.std.proofs.lemmas.Option.{none-some, same_Some, slice_get_within}
 use Rattle.kc_statement.specs.declared.id.SymId.{SymId}
@@ -13,48 +13,58 @@ use Rattle.kc_outline.specs.declared.choice.ChoiceDefault.{ChoiceDefault}
 use Rattle.kc_outline.specs.Grouped.{IsGrouped}
 use Rattle.kc_outline.specs.Members.{AreMembersListed}
 use Rattle.kc_outline.specs.TreeValue.{TreeValue, SymbolValue, ChoiceValue, choice_of, kind_of, same_type, choice_prompt_of}
-use Rattle.kc_tree.specs.declared.problem.SymbolProblem.{SymbolProblem}
 use Rattle.kc_tree.specs.declared.problem.ChoiceProblem.{ChoiceProblem}
+use Rattle.kc_tree.specs.declared.problem.SymbolProblem.TheVariants as problem
+use Rattle.kc_tree.specs.declared.outline_faults.OutlineFault.{OutlineFault}
+use Rattle.kc_tree.specs.declared.outline_faults.OutlineFault.TheVariants as outline_problem
 use Rattle.kc_tree.specs.ChoiceFaults.{same_choice, is_member, is_of_other_type, lacks_prompt, is_defined_again, symbol_has, member_problem, choice_problem, problem_at}
-use Rattle.kc_tree.specs.OutlineFaults.{of_symbol, of_choice, outline_fault}
+use Rattle.kc_tree.specs.OutlineFaults.{choice_fault_at, choice_faults, outline_fault, outline_faults, symbol_faults}
 
 -- ---- no choice has a problem
-module _ {A B : Type 0} (f : ℕ → Option A) (g : ℕ → A → B) where
-  abbrev reported : Option ℕ → Option B
-  reported o = option_and_then (λ k. option_map (g k) (f k)) o
+none_given : {X : Type 0} (f : ℕ → Option X) (a n k : ℕ) → filter_map f (range_with_len a n) ≡ [] → a ≤ k → k < a + n → f k ≡ None
+none_given f a zero k none l m = absurd (omega (arith, l, m))
+none_given {X = X} f a (suc n) k none l m = by (f a) refl (λ rest past. none_given f (a + 1) n k rest (omega (arith, past)) (omega (arith, m))) where
+  others : List X
+  others = filter_map f (range_with_len (a + 1) n)
 
-  abbrev first_from : ℕ → ℕ → Option ℕ
-  first_from a n = find (λ k. is_some (f k)) (range_with_len a n)
+  by : (o : Option X) → f a ≡ o → (filter_map f (range_with_len (a + 1) n) ≡ [] → a < k → f k ≡ None) → f k ≡ None
+  by (Some x) is later =
+      let some : [] ≡ x ∷ others = sym none ∙ ap (λ o. cons_option o others) is in cc
+  by None is later = elim (cases_lt a k) [
+    | inl past ↦ later (sym (ap (λ o. cons_option o others) is) ∙ none) past
+    | inr same ↦ (let here : k ≡ a = omega (arith, same, l) in ap f here ∙ is)
+  ]
 
-  none_step : (a n k : ℕ) → reported (if is_some (f a) then Some a else first_from (a + 1) n) ≡ None → a ≤ k → (reported (first_from (a + 1) n) ≡ None → a < k → f k ≡ None) → (o : Option A) → f a ≡ o → f k ≡ None
-  none_step a n k none l later (Some x) e =
-      let here : reported (if is_some (f a) then Some a else first_from (a + 1) n) ≡ Some (g a x) =
-      ap (λ o. reported (if is_some o then Some a else first_from (a + 1) n)) e ∙ ap (option_map (g a)) e in
-      absurd (none-some (g a x) (sym none ∙ here))
-  none_step a n k none l later None e =
-      let rest : reported (first_from (a + 1) n) ≡ None = sym (ap (λ o. reported (if is_some o then Some a else first_from (a + 1) n)) e) ∙ none in
-      elim (cases_lt a k) [
-        | inl past ↦ later rest past
-        | inr same ↦ (let is : k ≡ a = omega (arith, same, l) in ap f is ∙ e)
-      ]
+parts_nil : {X : Type 0} (xs ys : List X) → xs ++ ys ≡ [] → (xs ≡ []) × (ys ≡ [])
+parts_nil [] ys none = (refl, none)
+parts_nil (x ∷ xs) ys none = cc
 
-  none_found : (a n : ℕ) → reported (first_from a n) ≡ None → (k : ℕ) → a ≤ k → k < a + n → f k ≡ None
-  none_found a zero none k l m = absurd (omega (arith, l, m))
-  none_found a (suc n) none k l m =
-      none_step a n k none l (λ rest past. none_found (a + 1) n rest k (omega (arith, past)) (omega (arith, m))) (f a) refl
+rest_nil : {X : Type 0} (xs ys : List X) → xs ++ ys ≡ [] → ys ≡ []
+rest_nil xs ys none = (parts_nil xs ys none).1
 
-second_none : (a : Option (SymbolProblem × SymId)) (b : Option (ChoiceProblem × ChoiceId)) (c : Option (SymbolProblem × SymId)) → option_or (option_map of_symbol a) (option_or (option_map of_choice b) (option_map of_symbol c)) ≡ None → b ≡ None
-second_none (Some x) b c e = absurd (none-some (of_symbol x) (sym e))
-second_none None (Some x) c e = absurd (none-some (of_choice x) (sym e))
-second_none None None c e = refl
+none_first : {X : Type 0} (xs : List X) → slice_get xs 0 ≡ None → xs ≡ []
+none_first [] none = refl
+none_first (x ∷ xs) none = absurd (none-some x (sym none))
 
 module _ (t : TreeValue) (faultless : outline_fault t ≡ None) (c : ChoiceId) (y : ChoiceValue) (is : slice_get t.choices c.0 ≡ Some y) where
+  no_choices : choice_faults t ≡ []
+  no_choices =
+      (parts_nil _ (symbol_faults t problem.BadModules)
+      (rest_nil (symbol_faults t problem.UnfitSelect) _
+      (rest_nil (symbol_faults t problem.UnfitDefault) _
+      (rest_nil (symbol_faults t problem.SecondPrompt) _
+      (rest_nil (symbol_faults t problem.TypeConflict) _
+      (rest_nil (symbol_faults t problem.NoType) _ (none_first (outline_faults t) faultless))))))).0
+
   no_problem : choice_problem t c y ≡ None
   no_problem =
       let inside = slice_get_within t.choices c.0 y is in
-      let none : problem_at t c.0 ≡ None =
-      none_found (problem_at t) (λ k p. (p, record { 0 = k })) 0 (length t.choices) (second_none _ _ _ faultless) c.0 (omega arith) (omega (arith, inside)) in
-      sym (ap (option_and_then (choice_problem t c)) is) ∙ none
+      let none : choice_fault_at t c.0 ≡ None = none_given (choice_fault_at t) 0 (length t.choices) c.0 no_choices (omega arith) (omega (arith, inside)) in
+      sym (ap (option_and_then (choice_problem t c)) is) ∙ unmapped (problem_at t c.0) none
+    where
+      unmapped : (o : Option ChoiceProblem) → option_map (λ p. outline_problem.Choice p c) o ≡ None → o ≡ None
+      unmapped None none = refl
+      unmapped (Some p) none = absurd (none-some _ (sym none))
 
 -- ---- what a choice and its members are not
 last_none : {A : Type 0} (a b d : Bool) (x y z : A) (e : Option A) → (if a then Some x else (if b then Some y else (if d then Some z else e))) ≡ None → (d ≡ false) × (e ≡ None)

@@ -5,7 +5,6 @@ pub mod CellSteps
 pub mod CellTables
 pub mod CellsWithin
 pub mod ChainLaws
-pub mod ChoiceLines
 pub mod ExprLaws
 pub mod FilterPlaces
 pub mod FactorLaws
@@ -20,7 +19,6 @@ pub mod OrderLaws
 pub mod ReachedLaws
 pub mod RefusalLaws
 pub mod RowLaws
-pub mod SymbolFaultLaws
 pub mod UserLaws
 pub mod WholeLoops
 pub mod WholeOrder

@@ -1,8 +1,7 @@
 -- From an order or a loop of numbers to what the tree says of its nodes.
-use Rattle.std.proofs.Common.{subst, ◌∙◌, Some, None, ◌^◌, ◌∷◌, ◌≡◌, ℕ, ◌<◌, ◌≤◌, List, [], length, map, filter, refl, sym, ap}
+use Rattle.std.proofs.Common.{subst, None, ◌^◌, ◌∷◌, ◌≡◌, ℕ, ◌<◌, ◌≤◌, List, [], length, map, filter, refl, sym, ap}
 use Rattle.std.specs.List.{All}
 use Rattle.std.proofs.lemmas.List.Elements.{All-map}
-use Rattle.kc_tree.specs.declared.problem.ChoiceProblem.{ChoiceProblem}
 use Rattle.kc_tree.specs.declared.fault.NamedNode.{NamedNode}
 use Rattle.kc_tree.specs.Accepted.{IsAccepted}
 use Rattle.kc_tree.specs.declared.node.Node.{Node}
@@ -19,13 +18,11 @@ use Rattle.kc_outline.specs.Entries.{AreMenusClosed, IsEntryOf, first_symbols, s
 use Rattle.kc_outline.specs.Members.{AreMembersListed}
 use Rattle.kc_outline.specs.NameList.{AreNames}
 use Rattle.kc_text.specs.LineValue.{LineValue}
-use Rattle.kc_outline.specs.declared.id.ChoiceId.{ChoiceId}
 use Rattle.kc_tree.specs.declared.fault.TreeFault.{TreeFault}
 use Rattle.kc_tree.specs.declared.fault.TreeFault.TheVariants.{Line, Symbol, Choice, Loop, NoMemory}
-use Rattle.kc_tree.specs.declared.outline_faults.OutlineFault.TheVariants as outline_problem
 use Rattle.kc_tree.specs.OutlineFaults.{outline_fault}
 use Rattle.kc_tree.specs.Faults.{IsNamed, IsNamedLoop, IsLoopless, IsTreeProblem}
-use Rattle.kc_tree.specs.Linked.{named_node, IsLinkFault, IsReported}
+use Rattle.kc_tree.specs.Linked.{named_node, IsLinkFault}
 use Rattle.kc_graph.specs.Graph as graph
 use Rattle.kc_tree.specs.NodeGraph.{IsGraphOf}
 use Rattle.kc_tree.proofs.GroupLaws.{grouped}
@@ -60,21 +57,6 @@ link_problem lines t none (Symbol problem name) h = absurd h
 link_problem lines t none (Choice problem path number) h = absurd h
 link_problem lines t none (Loop nodes) h = (none, h)
 link_problem lines t none NoMemory h = h
-
--- the problem of a choice that is reported is that of the choice
-pub choice_reported : (lines : List LineValue) (t : TreeValue) (p : ChoiceProblem) (c : ChoiceId) → outline_fault t ≡ Some (outline_problem.Choice p c) → (fault : TreeFault) → IsReported lines p c fault → IsTreeProblem lines t fault
-choice_reported lines t p c is (Line problem path number) h = h
-choice_reported lines t p c is (Symbol problem name) h = absurd h
-choice_reported lines t p c is (Choice problem path number) h = record {
-  choice = c.0;
-  is = is ∙ ap (λ (q : ChoiceProblem). Some (outline_problem.Choice q c)) (sym h.0);
-  line = h.1.line;
-  line_is = h.1.line_is;
-  path_is = h.1.path_is;
-  number_is = h.1.number_is;
-}
-choice_reported lines t p c is (Loop nodes) h = absurd h
-choice_reported lines t p c is NoMemory h = h
 
 -- what the lines define, without faults
 pub record IsSoundOutline (t : TreeValue) : Type 0 where

@@ -1,7 +1,7 @@
 -- What is wrong with a choice: this project's own list, after kconfig-language.rst, "choices".
-use Rattle.std.specs.Prelude.{ℕ, ◌==◌, nat_lt, Bool, false, not, List, Option, Some, None, if◌then◌else◌, is_some, option_map, option_and_then, length, find, slice_get}
+use Rattle.std.specs.Prelude.{ℕ, ◌==◌, nat_lt, Bool, false, not, List, Option, Some, None, if◌then◌else◌, is_some, option_and_then, length, slice_get}
 use Rattle.std.specs.Option.{option_map_or}
-use Rattle.std.specs.List.{list_any, range_with_len}
+use Rattle.std.specs.List.{list_any}
 use Rattle.kc_statement.specs.declared.id.SymId.{SymId}
 use Rattle.kc_outline.specs.declared.id.ChoiceId.{ChoiceId}
 use Rattle.kc_statement.specs.declared.symbol_type.SymbolType.TheVariants.{Bool as BoolType}
@@ -54,9 +54,3 @@ choice_problem t c x =
 -- the problem of the choice of a number
 abbrev pub problem_at : TreeValue → ℕ → Option ChoiceProblem
 problem_at t k = option_and_then (choice_problem t (record { 0 = k })) (slice_get t.choices k)
-
--- the first choice with a problem
-abbrev pub choice_fault : TreeValue → Option (ChoiceProblem × ChoiceId)
-choice_fault t =
-    option_and_then (λ k. option_map (λ p. (p, record { 0 = k })) (problem_at t k))
-    (find (λ k. is_some (problem_at t k)) (range_with_len 0 (length t.choices)))

@@ -17,7 +17,6 @@ pub mod Parsed
 pub mod Problems
 pub mod Reached
 pub mod SymbolFaults
-pub mod SymbolTests
 pub mod Users
 pub mod Uses
 pub mod WholeRows

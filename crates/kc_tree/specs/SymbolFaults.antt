@@ -1,8 +1,7 @@
--- What is wrong with a symbol: this project's own list, in its order, after kconfig-language.rst. Each is sought
--- among all symbols by number before the next.
-use Rattle.std.specs.Prelude.{ℕ, ◌==◌, Bool, true, false, not, ◌&&◌, ◌||◌, List, [], ◌∷◌, Option, is_some, option_map, if◌then◌else◌, length, nat_lt, find, slice_get, codes}
-use Rattle.std.specs.Option.{option_map_or, option_or}
-use Rattle.std.specs.List.{list_any, range_with_len}
+-- What is wrong with a symbol: this project's own list, after kconfig-language.rst.
+use Rattle.std.specs.Prelude.{◌≡◌, ◌<◌, ℕ, ◌==◌, Bool, true, false, not, ◌&&◌, ◌||◌, List, [], ◌∷◌, Option, is_some, if◌then◌else◌, length, nat_lt, slice_get, codes}
+use Rattle.std.specs.Option.{option_map_or}
+use Rattle.std.specs.List.{list_any}
 use Rattle.std.specs.Str.{bytes_eq}
 use Rattle.kc_statement.specs.declared.id.SymId.{SymId}
 use Rattle.kc_statement.specs.declared.symbol_type.SymbolType.{SymbolType}
@@ -22,16 +21,20 @@ use Rattle.kc_statement.specs.SymbolTypes.{is_tri_type}
 use Rattle.kc_outline.specs.TreeValue.{TreeValue, SymbolValue, DefinitionValue, kind_of, name_of, definitions_of, same_type}
 
 -- no line gives it a type; a member of a choice is a bool then
-abbrev pub lacks_type : TreeValue → SymId → SymbolValue → Bool
-lacks_type t s x = not (is_some (slice_get x.types 0)) && not (is_some x.choice)
+abbrev pub lacks_type : SymbolValue → Bool
+lacks_type x = not (is_some (slice_get x.types 0)) && not (is_some x.choice)
 
 -- a line gives it another type than the first
-abbrev pub has_types : TreeValue → SymId → SymbolValue → Bool
-has_types t s x = list_any (λ k. not (same_type (kind_of x) k)) x.types
+abbrev pub has_types : SymbolValue → Bool
+has_types x = list_any (λ k. not (same_type (kind_of x) k)) x.types
 
--- one of its definitions has two prompts or more
-abbrev pub has_two_prompts : TreeValue → SymId → SymbolValue → Bool
-has_two_prompts t s x = list_any (λ d. nat_lt 1 (length d.prompts)) (definitions_of t x)
+-- a definition has two prompts or more
+abbrev pub is_prompted_again : DefinitionValue → Bool
+is_prompted_again d = nat_lt 1 (length d.prompts)
+
+-- one of its definitions has
+abbrev pub has_two_prompts : TreeValue → SymbolValue → Bool
+has_two_prompts t x = list_any is_prompted_again (definitions_of t x)
 
 -- the text is empty or begins as a number does
 abbrev pub begins_as_number : List ℕ → Bool
@@ -66,8 +69,8 @@ is_unfit_range _ r = true
 abbrev pub has_unfit : SymbolType → DefinitionValue → Bool
 has_unfit k d = list_any (is_unfit_default k) d.defaults || list_any (is_unfit_range k) d.ranges
 
-abbrev pub has_unfit_default : TreeValue → SymId → SymbolValue → Bool
-has_unfit_default t s x = list_any (has_unfit (kind_of x)) (definitions_of t x)
+abbrev pub has_unfit_default : TreeValue → SymbolValue → Bool
+has_unfit_default t x = list_any (has_unfit (kind_of x)) (definitions_of t x)
 
 abbrev pub is_empty : List Reverse → Bool
 is_empty [] = true
@@ -83,23 +86,24 @@ abbrev pub is_bad_modules : TreeValue → SymId → SymbolValue → Bool
 is_bad_modules t s x =
     if bytes_eq (name_of t s) (codes "MODULES") then not (same_type (kind_of x) BoolType) else x.has_modules
 
--- the number of the first symbol that a test holds of
-abbrev pub first_symbol : TreeValue → (TreeValue → SymId → SymbolValue → Bool) → Option ℕ
-first_symbol t test =
-    find (λ k. option_map_or (test t (record { 0 = k })) (slice_get t.symbols k) false) (range_with_len 0 (length t.symbols))
+-- ---- by the problem
+abbrev pub is_at_fault : SymbolProblem → TreeValue → SymId → SymbolValue → Bool
+is_at_fault NoType t s x = lacks_type x
+is_at_fault TypeConflict t s x = has_types x
+is_at_fault SecondPrompt t s x = has_two_prompts t x
+is_at_fault UnfitDefault t s x = has_unfit_default t x
+is_at_fault UnfitSelect t s x = has_unfit_select x
+is_at_fault BadModules t s x = is_bad_modules t s x
 
-abbrev pub fault_by : TreeValue → SymbolProblem → (TreeValue → SymId → SymbolValue → Bool) → Option (SymbolProblem × SymId)
-fault_by t problem test = option_map (λ k. (problem, record { 0 = k })) (first_symbol t test)
+-- the symbol of a number has the problem
+abbrev pub has_problem : TreeValue → SymbolProblem → ℕ → Bool
+has_problem t problem k = option_map_or (is_at_fault problem t (record { 0 = k })) (slice_get t.symbols k) false
 
--- the first of these faults of a symbol, if there is one
-abbrev pub symbol_fault : TreeValue → Option (SymbolProblem × SymId)
-symbol_fault t =
-    option_or (fault_by t NoType lacks_type)
-    (option_or (fault_by t TypeConflict has_types)
-    (option_or (fault_by t SecondPrompt has_two_prompts)
-    (option_or (fault_by t UnfitDefault has_unfit_default)
-    (fault_by t UnfitSelect (λ t s. has_unfit_select)))))
+-- or any of them
+abbrev pub has_any_problem : TreeValue → ℕ → Bool
+has_any_problem t k =
+    list_any (λ problem. has_problem t problem k) (NoType ∷ TypeConflict ∷ SecondPrompt ∷ UnfitDefault ∷ UnfitSelect ∷ BadModules ∷ [])
 
--- and the last, which comes after those of choices
-abbrev pub modules_fault : TreeValue → Option (SymbolProblem × SymId)
-modules_fault t = fault_by t BadModules is_bad_modules
+-- no symbol has any
+abbrev pub AreSymbolsFaultless : TreeValue → Type 0
+AreSymbolsFaultless t = (k : ℕ) → k < length t.symbols → has_any_problem t k ≡ false

@@ -1,10 +1,10 @@
 //! What is wrong with a choice.
 
-ghost use Rattle.std.specs.Prelude.{◌≡◌, ◌<◌, ◌≤◌, ◌^◌, IfSome, false, is_some, length, not, slice_get};
+ghost use Rattle.std.specs.Prelude.{◌≡◌, ◌<◌, ◌^◌, false, is_some, not, slice_get};
 ghost use Rattle.std.specs.List.{list_any};
 ghost use Rattle.std.specs.Option.{option_map_or};
 ghost use Rattle.kc_outline.specs.TreeValue.{choice_of, prompt_of};
-ghost use Rattle.kc_tree.specs.ChoiceFaults.{choice_fault, choice_problem, has_prompt, is_member, is_of_other_type, lacks_prompt, is_defined_again, member_problem, problem_at, symbol_has};
+ghost use Rattle.kc_tree.specs.ChoiceFaults.{choice_problem, has_prompt, is_member, is_of_other_type, lacks_prompt, is_defined_again, member_problem, problem_at, symbol_has};
 
 use crate::problem::ChoiceProblem;
 use kc_outline::{Choice, ChoiceDefault, ChoiceId, Outline, Symbol};
@@ -18,8 +18,9 @@ fn choice_of(outline: &Outline, symbol: SymId) -> Option<ChoiceId>
     symbol.choice()
 }
 
-/// Whether the name of a default is that of a member.
-fn is_member(outline: &Outline, choice: ChoiceId, symbol: Option<SymId>) -> bool
+/// Whether the name of a default of a choice is that of one of its members (kconfig-language.rst, "choices"). A symbol that
+/// is in two choices is a member of the first.
+pub fn is_member(outline: &Outline, choice: ChoiceId, symbol: Option<SymId>) -> bool
     ensures { result ≡ is_member outline.now choice symbol }
 {
     match symbol {
@@ -50,8 +51,8 @@ fn has_prompt(outline: &Outline, symbol: &Symbol) -> bool
     false
 }
 
-/// Whether the symbol of a number is no bool.
-fn is_of_other_type(outline: &Outline, symbol: SymId) -> bool
+/// Whether the symbol of a number is no bool, which a member of a choice has to be (kconfig-language.rst, "choices").
+pub fn is_of_other_type(outline: &Outline, symbol: SymId) -> bool
     ensures { result ≡ symbol_has outline.now is_of_other_type symbol }
 {
     match outline.symbols().get(symbol.0 as usize) {
@@ -60,8 +61,9 @@ fn is_of_other_type(outline: &Outline, symbol: SymId) -> bool
     }
 }
 
-/// Whether the symbol of a number has no prompt.
-fn lacks_prompt(outline: &Outline, symbol: SymId) -> bool
+/// Whether no definition of the symbol of a number has a prompt, which a member of a choice needs (kconfig-language.rst,
+/// "choices").
+pub fn lacks_prompt(outline: &Outline, symbol: SymId) -> bool
     ensures { result ≡ symbol_has outline.now lacks_prompt symbol }
 {
     match outline.symbols().get(symbol.0 as usize) {
@@ -70,8 +72,9 @@ fn lacks_prompt(outline: &Outline, symbol: SymId) -> bool
     }
 }
 
-/// Whether the symbol of a number has another count of definitions than one.
-fn is_defined_again(outline: &Outline, symbol: SymId) -> bool
+/// Whether the symbol of a number has another count of definitions than one, which a member of a choice may not have
+/// (kconfig-language.rst, "choices").
+pub fn is_defined_again(outline: &Outline, symbol: SymId) -> bool
     ensures { result ≡ symbol_has outline.now is_defined_again symbol }
 {
     match outline.symbols().get(symbol.0 as usize) {
@@ -151,19 +154,4 @@ pub(crate) fn problem_at(outline: &Outline, number: usize) -> Option<ChoiceProbl
 {
     let choice = outline.choices().get(number)?;
     problem_of(outline, ChoiceId(number as u32), choice)
-}
-
-/// The first choice with a problem, if there is one.
-pub(crate) fn choice_fault(outline: &Outline) -> Option<(ChoiceProblem, ChoiceId)>
-    requires { length outline.now.choices ≤ 2 ^ 30 }
-    ensures first { result ≡ choice_fault outline.now }
-    ensures inside { IfSome result (λ f. f.1.0 < length outline.now.choices) }
-{
-    let count = outline.choices().len();
-    for number in 0..count {
-        if let Some(problem) = problem_at(outline, number) {
-            return Some((problem, ChoiceId(number as u32)));
-        }
-    }
-    None
 }

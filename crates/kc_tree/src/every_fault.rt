@@ -1,19 +1,17 @@
 //! All faults of logical lines at once.
 
-ghost use Rattle.std.specs.Prelude.{◌≡◌, ◌<◌, ◌≤◌, ◌^◌, ◌++◌, IfOk, OnOk, count_by, filter_map, length, option_map, option_to_list};
+ghost use Rattle.std.specs.Prelude.{◌≡◌, ◌<◌, ◌≤◌, ◌^◌, ◌++◌, All, IfOk, OnOk, count_by, filter, filter_map, length, option_to_list};
 ghost use Rattle.kc_text.specs.declared.reading.TheConstants.{MOST_LINES};
 ghost use Rattle.kc_outline.specs.Nested.{AreNested};
 ghost use Rattle.kc_statement.specs.Keywords.{is_choice};
 ghost use Rattle.kc_statement.specs.declared.limits.TheConstants.{MOST_SYMBOLS};
-ghost use Rattle.kc_tree.specs.AllFaults.{AreFaultsOf, AreFaultsOfTree, AreLoops, AreRefusedForFirst, choice_faults, line_fault_at, outline_faults, symbol_fault_at, symbol_faults};
+ghost use Rattle.kc_tree.specs.AllFaults.{AreFaultsOf, AreFaultsOfTree, AreLoops, AreRefusedForFirst, AreReported, line_fault_at};
 ghost use Rattle.kc_tree.specs.Cells.{cell_count};
-ghost use Rattle.kc_tree.specs.ChoiceFaults.{problem_at};
+ghost use Rattle.kc_tree.specs.OutlineFaults.{IsInside};
 
-use crate::choice_faults::problem_at;
 use crate::fault::TreeFault;
-use crate::link::{cell_order, is_choice};
-use crate::problem::SymbolProblem;
-use crate::symbol_faults::has_problem;
+use crate::link::cell_order;
+use crate::outline_faults::{OutlineFault, choice_lines, outline_faults, reported};
 use crate::uses::used_rows;
 use kc_outline::{FaultyLine, LineFault, Outline, faulty_lines, read_outline};
 use kc_statement::Seed;
@@ -56,103 +54,21 @@ fn reported_lines(
     Ok(faults)
 }
 
-/// Adds the symbol of a number, if it has the problem.
-fn add_symbol_fault(
-    alloc: Global,
-    outline: &Outline,
-    problem: SymbolProblem,
-    number: usize,
-    faults: &mut Vec<TreeFault>,
-) -> Result<(), AllocError>
-    ensures { OnOk result (faults.new.items ≡ faults.old.items ++ option_to_list (symbol_fault_at outline.now problem number)) }
-{
-    if !has_problem(outline, problem, number) {
-        return Ok(());
-    }
-    let name = Text::copy_of(alloc, outline.names().get(number))?;
-    faults.push(TreeFault::Symbol { problem, name })?;
-    Ok(())
-}
-
-/// Adds each symbol that has a problem.
-fn add_symbol_faults(
-    alloc: Global,
-    outline: &Outline,
-    problem: SymbolProblem,
-    faults: &mut Vec<TreeFault>,
-) -> Result<(), AllocError>
-    ensures { OnOk result (faults.new.items ≡ faults.old.items ++ symbol_faults outline.now problem) }
-{
-    let count = outline.symbols().len();
-    for number in 0..count {
-        add_symbol_fault(alloc, outline, problem, number, faults)?;
-    }
-    Ok(())
-}
-
-/// Adds the choice of a number, which this line begins, if it has a problem.
-fn add_choice_fault(
-    alloc: Global,
-    outline: &Outline,
-    number: usize,
-    line: &Line<'_>,
-    faults: &mut Vec<TreeFault>,
-) -> Result<(), AllocError>
-    requires { number < 2 ^ 32 }
-    ensures { OnOk result (faults.new.items ≡ faults.old.items ++ option_to_list (option_map (λ p. TreeFault.Choice p line.now.path line.now.number) (problem_at outline.now number))) }
-{
-    let Some(problem) = problem_at(outline, number) else {
-        return Ok(());
-    };
-    let path = Text::copy_of(alloc, line.path())?;
-    faults.push(TreeFault::Choice {
-        problem,
-        path,
-        line: line.number(),
-    })?;
-    Ok(())
-}
-
-/// Adds each choice that has a problem, in one walk over the lines.
-fn add_choice_faults(
+/// The faults of symbols and choices, each with the name of its symbol, or the path and the number of its line.
+fn reported_faults(
     alloc: Global,
     lines: &[Line<'_>],
     outline: &Outline,
-    faults: &mut Vec<TreeFault>,
-) -> Result<(), AllocError>
-    requires few { length outline.now.choices ≤ 2 ^ 30 }
-    requires choices { length outline.now.choices ≡ count_by is_choice lines.now }
-    ensures { OnOk result (faults.new.items ≡ faults.old.items ++ choice_faults lines.now outline.now) }
-{
-    let mut number = 0;
-    for line in lines {
-        if !is_choice(line) {
-            continue;
-        }
-        add_choice_fault(alloc, outline, number, line, faults)?;
-        number += 1;
-    }
-    Ok(())
-}
-
-/// All faults of symbols and choices, kind by kind.
-fn outline_faults(
-    alloc: Global,
-    lines: &[Line<'_>],
-    outline: &Outline,
+    found: &[OutlineFault],
 ) -> Result<Vec<TreeFault>, AllocError>
-    requires few { length outline.now.choices ≤ 2 ^ 30 }
-    requires choices { length outline.now.choices ≡ count_by is_choice lines.now }
-    ensures { IfOk result (λ faults. faults.items ≡ outline_faults lines.now outline.now) }
+    requires { All (IsInside (filter is_choice lines.now)) found.now }
+    ensures { IfOk result (λ faults. AreReported lines.now outline.now found.now faults.items) }
 {
-    let mut faults = Vec::new(alloc);
-    add_symbol_faults(alloc, outline, SymbolProblem::NoType, &mut faults)?;
-    add_symbol_faults(alloc, outline, SymbolProblem::TypeConflict, &mut faults)?;
-    add_symbol_faults(alloc, outline, SymbolProblem::SecondPrompt, &mut faults)?;
-    add_symbol_faults(alloc, outline, SymbolProblem::UnfitDefault, &mut faults)?;
-    add_symbol_faults(alloc, outline, SymbolProblem::UnfitSelect, &mut faults)?;
-    add_choice_faults(alloc, lines, outline, &mut faults)?;
-    add_symbol_faults(alloc, outline, SymbolProblem::BadModules, &mut faults)?;
+    let choices = choice_lines(alloc, lines)?;
+    let mut faults = Vec::with_capacity(alloc, found.len())?;
+    for fault in found {
+        faults.push(reported(alloc, outline, choices.as_slice(), *fault)?)?;
+    }
     Ok(faults)
 }
 
@@ -190,11 +106,11 @@ fn tree_faults(
     requires nested { AreNested outline.now }
     ensures { IfOk result (λ faults. AreFaultsOfTree lines.now outline.now faults.items) }
 {
-    let faults = outline_faults(alloc, lines, outline)?;
-    if !faults.is_empty() {
-        return Ok(faults);
+    let found = outline_faults(alloc, outline)?;
+    if found.is_empty() {
+        return loops(alloc, outline);
     }
-    loops(alloc, outline)
+    reported_faults(alloc, lines, outline, found.as_slice())
 }
 
 /// All faults of logical lines (this project's own, after kconfig-language.rst), where `Tree::parse` gives the first of

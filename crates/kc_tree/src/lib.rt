@@ -20,6 +20,7 @@ mod user_value;
 mod uses;
 
 pub use cell::Cell;
+pub use choice_faults::{is_defined_again, is_member, is_of_other_type, lacks_prompt};
 pub use every_fault::all_faults;
 pub use fault::{NamedNode, TreeFault};
 pub use kc_outline::{
@@ -36,5 +37,8 @@ pub use node_rows::NodeRow;
 pub use node_users::NodeUsers;
 pub use nodes::Nodes;
 pub use problem::{ChoiceProblem, Problem, SymbolProblem};
+pub use symbol_faults::{
+    differ, has_unfit, is_prompted_again, is_unfit_default, is_unfit_range, is_unfit_term,
+};
 pub use tree::Tree;
 pub use user_value::UserVal;

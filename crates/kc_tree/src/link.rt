@@ -1,8 +1,7 @@
 //! From what lines define to a tree: the faults of symbols, the order of the cells or a loop of nodes, and what each
 //! cell reads and is read by.
 
-ghost use Rattle.std.specs.Prelude.{◌≡◌, ◌≤◌, ◌<◌, ◌^◌, IfErr, IfOk, OnOk, None, All, count_by, filter, length, map, slice_get};
-ghost use Rattle.std.specs.Option.{option_copied};
+ghost use Rattle.std.specs.Prelude.{◌≡◌, ◌≤◌, ◌<◌, ◌^◌, IfErr, IfOk, OnOk, None, All, count_by, filter, length, map};
 ghost use Rattle.kc_statement.specs.Keywords.{is_choice};
 ghost use Rattle.kc_outline.specs.TreeValue.{choice_title, modules_symbol};
 ghost use Rattle.kc_graph.specs.Graph.{IsOrder};
@@ -17,19 +16,18 @@ ghost use Rattle.kc_outline.specs.Members.{AreMembersListed};
 ghost use Rattle.kc_outline.specs.NameList.{AreNames};
 ghost use Rattle.kc_tree.specs.OutlineFaults.{outline_fault};
 ghost use Rattle.kc_tree.specs.Faults.{IsLoopless, IsTreeProblem};
-ghost use Rattle.kc_tree.specs.Linked.{named_node, IsLinkFault, IsReported};
+ghost use Rattle.kc_tree.specs.Linked.{named_node, IsLinkFault};
 ghost use Rattle.kc_statement.specs.declared.limits.TheConstants.{MOST_SYMBOLS};
 
 use crate::cell::node_count;
 use crate::fault::{NamedNode, TreeFault};
 use crate::node::Node;
-use crate::outline_faults::{OutlineFault, outline_fault};
-use crate::problem::ChoiceProblem;
+use crate::outline_faults::{choice_lines, outline_faults, reported};
 use crate::tree::Tree;
 use crate::uses::used_rows;
 use kc_graph::{Graph, OrderFault, Rows};
 use kc_outline::{ChoiceId, Outline};
-use kc_statement::{Keyword, SymId, read_keyword};
+use kc_statement::SymId;
 use kc_text::{Line, Text};
 use std::alloc::{AllocError, Global};
 
@@ -117,53 +115,6 @@ pub(crate) fn cell_order(
     }
 }
 
-/// Whether a line begins a choice.
-pub(crate) fn is_choice(line: &Line<'_>) -> bool
-    ensures { result ≡ is_choice line.now }
-{
-    matches!(read_keyword(line), Some(Keyword::Choice))
-}
-
-/// The line of a choice by number: that of the first of this many `choice` lines.
-fn choice_line<'a, 'b>(lines: &'a [Line<'b>], choice: usize) -> Option<&'a Line<'b>>
-    ensures { option_copied result ≡ slice_get (filter is_choice lines.now) choice }
-{
-    let mut left = choice;
-    for line in lines {
-        if !is_choice(line) {
-            continue;
-        }
-        if left == 0 {
-            return Some(line);
-        }
-        left -= 1;
-    }
-    None
-}
-
-/// The problem of a choice, with the path and the number of its line.
-fn reported_choice(
-    alloc: Global,
-    lines: &[Line<'_>],
-    problem: ChoiceProblem,
-    choice: ChoiceId,
-) -> TreeFault
-    requires { choice.0 < count_by is_choice lines.now }
-    ensures { IsReported lines.now problem choice result }
-{
-    let Some(line) = choice_line(lines, choice.0 as usize) else {
-        unreachable!()
-    };
-    match Text::copy_of(alloc, line.path()) {
-        Ok(path) => TreeFault::Choice {
-            problem,
-            path,
-            line: line.number(),
-        },
-        Err(_) => TreeFault::NoMemory,
-    }
-}
-
 /// The first fault of a symbol or a choice, reported with its name or its line.
 fn check_outline(alloc: Global, lines: &[Line<'_>], outline: &Outline) -> Result<(), TreeFault>
     requires few { length outline.now.symbols ≤ MOST_SYMBOLS }
@@ -172,16 +123,12 @@ fn check_outline(alloc: Global, lines: &[Line<'_>], outline: &Outline) -> Result
     ensures faultless { OnOk result (outline_fault outline.now ≡ None) }
     ensures fault { IfErr result (IsTreeProblem lines.now outline.now) }
 {
-    match outline_fault(outline) {
-        None => Ok(()),
-        Some(OutlineFault::Symbol(problem, symbol)) => {
-            let name = Text::copy_of(alloc, outline.names().get(symbol.0 as usize))?;
-            Err(TreeFault::Symbol { problem, name })
-        }
-        Some(OutlineFault::Choice(problem, choice)) => {
-            Err(reported_choice(alloc, lines, problem, choice))
-        }
-    }
+    let faults = outline_faults(alloc, outline)?;
+    let Some(first) = faults.as_slice().first() else {
+        return Ok(());
+    };
+    let choices = choice_lines(alloc, lines)?;
+    Err(reported(alloc, outline, choices.as_slice(), *first)?)
 }
 
 /// The tree of what lines define.

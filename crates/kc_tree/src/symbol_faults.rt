@@ -1,20 +1,19 @@
 //! What is wrong with a symbol.
 
-ghost use Rattle.std.specs.Prelude.{◌≡◌, ◌≤◌, false, length, nat_lt, not, slice_get, IsTrue};
+ghost use Rattle.std.specs.Prelude.{◌≡◌, false, not, slice_get, IsTrue};
 ghost use Rattle.std.specs.List.{list_any};
 ghost use Rattle.std.specs.Option.{option_map_or};
-ghost use Rattle.kc_outline.specs.TreeValue.{definitions_of, kind_of, same_type};
-ghost use Rattle.kc_tree.specs.SymbolFaults.{symbol_fault, fault_by, is_bad_modules, begins_as_number, is_unfit_term, is_unfit_default, is_unfit_range, has_unfit, has_unfit_select};
-ghost use Rattle.kc_tree.specs.SymbolTests.{test_of, has_any_problem, IsFaultless};
-ghost use Rattle.kc_statement.specs.declared.limits.TheConstants.{MOST_SYMBOLS};
+ghost use Rattle.kc_outline.specs.TreeValue.{same_type};
+ghost use Rattle.kc_tree.specs.SymbolFaults.{begins_as_number, has_any_problem, has_problem, has_two_prompts, has_types, has_unfit, has_unfit_default, has_unfit_select, is_bad_modules, is_prompted_again, is_unfit_default, is_unfit_range, is_unfit_term, AreSymbolsFaultless};
 
 use crate::problem::SymbolProblem;
 use kc_outline::{Outline, Symbol};
-use kc_statement::{DefaultValue, Range, SymId, SymbolType, Term, lone_term, numeral};
+use kc_statement::{DefaultValue, Range, SymbolType, Term, lone_term, numeral};
 
-/// Whether a definition by number has two prompts or more.
-fn is_prompted_again(outline: &Outline, definition: usize) -> bool
-    ensures { result ≡ option_map_or (λ d. nat_lt 1 (length d.prompts)) (slice_get outline.now.definitions definition) false }
+/// Whether the definition of a number has two prompts or more (K14), which kconfig-language.rst, "input prompt", allows no
+/// menu entry. There is no such definition past the last.
+pub fn is_prompted_again(outline: &Outline, definition: usize) -> bool
+    ensures { result ≡ option_map_or is_prompted_again (slice_get outline.now.definitions definition) false }
 {
     match outline.definitions().get(definition) {
         Some(definition) => definition.prompts().len() > 1,
@@ -24,7 +23,7 @@ fn is_prompted_again(outline: &Outline, definition: usize) -> bool
 
 /// Whether one of a symbol's definitions has two prompts or more.
 fn has_two_prompts(outline: &Outline, symbol: &Symbol) -> bool
-    ensures { result ≡ list_any (λ d. nat_lt 1 (length d.prompts)) (definitions_of outline.now symbol.now) }
+    ensures { result ≡ has_two_prompts outline.now symbol.now }
 {
     for definition in symbol.definitions() {
         if is_prompted_again(outline, *definition) {
@@ -34,8 +33,8 @@ fn has_two_prompts(outline: &Outline, symbol: &Symbol) -> bool
     false
 }
 
-/// Whether two types differ.
-fn differ(kind: SymbolType, other: SymbolType) -> bool
+/// Whether two types differ, as no two of a symbol may (K13; kconfig-language.rst, "type definition").
+pub fn differ(kind: SymbolType, other: SymbolType) -> bool
     ensures { result ≡ not (same_type kind other) }
 {
     kind != other
@@ -43,7 +42,7 @@ fn differ(kind: SymbolType, other: SymbolType) -> bool
 
 /// Whether a line gives a symbol another type than the first.
 fn has_types(symbol: &Symbol) -> bool
-    ensures { result ≡ list_any (λ k. not (same_type (kind_of symbol.now) k)) symbol.now.types }
+    ensures { result ≡ has_types symbol.now }
 {
     let kind = symbol.kind();
     symbol.types().iter().any(|given| differ(kind, *given))
@@ -59,8 +58,9 @@ fn begins_as_number(text: &str) -> bool
     }
 }
 
-/// Whether a term is no numeral of a type, int or hex, and should be one.
-fn is_unfit_term(kind: SymbolType, term: &Term) -> bool
+/// Whether a term is no numeral of a type, int or hex, and should be one (K15): a text in quotes, or a word that nothing
+/// defines and that is empty or begins as a number does (kconfig-language.rst, "type definition").
+pub fn is_unfit_term(kind: SymbolType, term: &Term) -> bool
     ensures { result ≡ is_unfit_term kind term.now }
 {
     match term {
@@ -72,8 +72,9 @@ fn is_unfit_term(kind: SymbolType, term: &Term) -> bool
     }
 }
 
-/// Whether a default does not fit a type.
-fn is_unfit_default(kind: SymbolType, default: &DefaultValue) -> bool
+/// Whether a default does not fit a type (K15): a string, an int and a hex take one term, and an int and a hex a numeral
+/// (kconfig-language.rst, "default value").
+pub fn is_unfit_default(kind: SymbolType, default: &DefaultValue) -> bool
     ensures { result ≡ is_unfit_default kind default.now }
 {
     if kind.is_tri() {
@@ -85,8 +86,9 @@ fn is_unfit_default(kind: SymbolType, default: &DefaultValue) -> bool
     }
 }
 
-/// Whether a range does not fit a type.
-fn is_unfit_range(kind: SymbolType, range: &Range) -> bool
+/// Whether a range does not fit a type (K15): only an int and a hex have ranges, of numerals (kconfig-language.rst,
+/// "numerical ranges").
+pub fn is_unfit_range(kind: SymbolType, range: &Range) -> bool
     ensures { result ≡ is_unfit_range kind range.now }
 {
     match kind {
@@ -113,8 +115,9 @@ fn has_unfit_range(kind: SymbolType, ranges: &[Range]) -> bool
     ranges.iter().any(|range| is_unfit_range(kind, range))
 }
 
-/// Whether a definition by number has a default or a range that does not fit a type.
-fn has_unfit(outline: &Outline, kind: SymbolType, definition: usize) -> bool
+/// Whether the definition of a number has a default or a range that does not fit a type (K15). There is no such definition
+/// past the last.
+pub fn has_unfit(outline: &Outline, kind: SymbolType, definition: usize) -> bool
     ensures { result ≡ option_map_or (has_unfit kind) (slice_get outline.now.definitions definition) false }
 {
     match outline.definitions().get(definition) {
@@ -128,7 +131,7 @@ fn has_unfit(outline: &Outline, kind: SymbolType, definition: usize) -> bool
 
 /// Whether a default or a range of a symbol does not fit its type.
 fn has_unfit_default(outline: &Outline, symbol: &Symbol) -> bool
-    ensures { result ≡ list_any (has_unfit (kind_of symbol.now)) (definitions_of outline.now symbol.now) }
+    ensures { result ≡ has_unfit_default outline.now symbol.now }
 {
     let kind = symbol.kind();
     for definition in symbol.definitions() {
@@ -163,7 +166,7 @@ fn is_bad_modules(outline: &Outline, number: usize, symbol: &Symbol) -> bool
 /// Whether the symbol of a number has a problem of the kinds that symbols have.
 #[inline(always)]
 pub(crate) fn has_problem(outline: &Outline, problem: SymbolProblem, number: usize) -> bool
-    ensures { result ≡ option_map_or (test_of problem outline.now (record { 0 = number })) (slice_get outline.now.symbols number) false }
+    ensures { result ≡ has_problem outline.now problem number }
 {
     let Some(symbol) = outline.symbols().get(number) else {
         return false;
@@ -190,9 +193,9 @@ fn has_any_problem(outline: &Outline, number: usize) -> bool
         || has_problem(outline, SymbolProblem::BadModules, number)
 }
 
-/// Whether no symbol has a problem: one walk over all symbols, where a walk for each kind finds the first of them.
+/// Whether no symbol has a problem: one walk over all symbols, where a walk for each kind finds them.
 pub(crate) fn are_symbols_faultless(outline: &Outline) -> bool
-    ensures { IsTrue result → IsFaultless outline.now }
+    ensures { IsTrue result → AreSymbolsFaultless outline.now }
 {
     let count = outline.symbols().len();
     for number in 0..count {
@@ -201,42 +204,4 @@ pub(crate) fn are_symbols_faultless(outline: &Outline) -> bool
         }
     }
     true
-}
-
-/// The first symbol with a problem, if there is one.
-#[inline(never)]
-pub(crate) fn first_with(
-    outline: &Outline,
-    problem: SymbolProblem,
-) -> Option<(SymbolProblem, SymId)>
-    requires { length outline.now.symbols ≤ MOST_SYMBOLS }
-    ensures { result ≡ fault_by outline.now problem (test_of problem) }
-{
-    let count = outline.symbols().len();
-    for number in 0..count {
-        if has_problem(outline, problem, number) {
-            return Some((problem, SymId(number as u32)));
-        }
-    }
-    None
-}
-
-/// The first fault of a symbol but for `modules`, if there is one: each kind is sought among all symbols before the next.
-pub(crate) fn symbol_fault(outline: &Outline) -> Option<(SymbolProblem, SymId)>
-    requires { length outline.now.symbols ≤ MOST_SYMBOLS }
-    ensures { result ≡ symbol_fault outline.now }
-{
-    if let Some(fault) = first_with(outline, SymbolProblem::NoType) {
-        return Some(fault);
-    }
-    if let Some(fault) = first_with(outline, SymbolProblem::TypeConflict) {
-        return Some(fault);
-    }
-    if let Some(fault) = first_with(outline, SymbolProblem::SecondPrompt) {
-        return Some(fault);
-    }
-    if let Some(fault) = first_with(outline, SymbolProblem::UnfitDefault) {
-        return Some(fault);
-    }
-    first_with(outline, SymbolProblem::UnfitSelect)
 }

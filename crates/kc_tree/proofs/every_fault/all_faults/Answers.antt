@@ -10,7 +10,7 @@ returns-in-Ok-clause-first c =
     let o = c.in-Ok.outline in
     let known = c.in-Ok.ensures in
     IfOk-weaker c.tree_faults.result (λ v. AreFaultsOfTree lines o v.items) (λ v. AreRefusedForFirst lines v.items)
-    (λ v are. refused_tree lines o known.outline known.only known.exact known.choices v.items are) c.tree_faults.ensures
+    (λ v are. refused_tree lines o known.outline known.only known.exact v.items are) c.tree_faults.ensures
 
 pub returns-in-Err-At-clause-faults : goal.returns-in-Err-At-clause-faults
 returns-in-Err-At-clause-faults c =

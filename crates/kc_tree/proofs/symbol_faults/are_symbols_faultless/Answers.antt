@@ -1,6 +1,6 @@
 use Rattle.std.proofs.Common.{◌≡◌, ◌≤◌, length, sym, ap, ◌∙◌, inl, inr, arith}
 use Rattle.std.proofs.lemmas.Bool.{cases_lt}
-use Rattle.kc_tree.specs.SymbolTests.{has_any_problem}
+use Rattle.kc_tree.specs.SymbolFaults.{has_any_problem}
 use Rattle.kc_tree.proofs.symbol_faults.are_symbols_faultless.Goals as goal
 
 pub loop-number-preserved : goal.loop-number-preserved

@@ -1,5 +1,5 @@
 use Rattle.std.proofs.Common.{◌≡◌, ℕ, ◌<◌, false}
-use Rattle.kc_tree.specs.SymbolTests.{has_any_problem}
+use Rattle.kc_tree.specs.SymbolFaults.{has_any_problem}
 use Rattle.kc_tree.proofs.symbol_faults.are_symbols_faultless.Given as goal
 
 -- none so far

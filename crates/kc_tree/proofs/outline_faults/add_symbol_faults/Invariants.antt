@@ -1,7 +1,7 @@
 use Rattle.std.proofs.Common.{◌≡◌, ◌++◌, filter_map}
 use Rattle.std.specs.List.{range_with_len}
-use Rattle.kc_tree.specs.AllFaults.{symbol_fault_at}
-use Rattle.kc_tree.proofs.every_fault.add_symbol_faults.Given as goal
+use Rattle.kc_tree.specs.OutlineFaults.{symbol_fault_at}
+use Rattle.kc_tree.proofs.outline_faults.add_symbol_faults.Given as goal
 
 -- the symbols below this number are added
 abbrev pub invariant-loop-number : goal.invariant-loop-number
