@@ -1,9 +1,12 @@
 pub mod BlockLaws
 pub mod CountLaws
+pub mod CulpritLaws
 pub mod ForcedLaws
 pub mod FragmentLaws
 pub mod HelpLaws
 pub mod NthLaws
 pub mod OutcomeSearch
+pub mod PartLaws
 pub mod RowLemmas
 pub mod StartLaws
+pub mod WhyLaws

@@ -1,11 +1,14 @@
 pub mod Attributes
+pub mod Culprits
 pub mod Defaults
 pub mod FactorPlaces
 pub mod Forced
 pub mod LineIndex
 pub mod MenuTree
 pub mod Named
+pub mod NearName
 pub mod Outcomes
 pub mod Ranges
 pub mod RowSteps
 pub mod Shown
+pub mod WhyRows

@@ -16,29 +16,12 @@ use Rattle.kc_facts.specs.declared.parts.Attribute.TheVariants as attribute
 use Rattle.kc_facts.specs.Attributes.{is_of}
 use Rattle.kc_facts.specs.LineIndex.{begins_word}
 
--- the line gives its symbol a type
-abbrev pub is_type_word : Keyword → Bool
-is_type_word keyword.Bool = true
-is_type_word keyword.Tristate = true
-is_type_word keyword.String = true
-is_type_word keyword.Int = true
-is_type_word keyword.Hex = true
-is_type_word keyword.DefBool = true
-is_type_word keyword.DefTristate = true
-is_type_word _ = false
-
 -- the line has a default or a range
 abbrev pub is_value_word : Keyword → Bool
 is_value_word k = is_of attribute.Default k || is_of attribute.Range k
 
 abbrev pub is_selecting_word : Keyword → Bool
 is_selecting_word k = is_of attribute.Select k || is_of attribute.Imply k
-
--- the line can say that its symbol switches modules
-abbrev pub is_modules_word : Keyword → Bool
-is_modules_word keyword.Modules = true
-is_modules_word keyword.Option = true
-is_modules_word _ = false
 
 -- the line is a default, and no type
 abbrev pub is_plain_default : Keyword → Bool
@@ -55,24 +38,24 @@ is_condition_word _ = false
 -- a fault of a symbol
 abbrev pub symbol_shown_by : SymbolProblem → Keyword → Bool
 symbol_shown_by NoType k = begins_word family.Definition k
-symbol_shown_by TypeConflict k = is_type_word k
+symbol_shown_by TypeConflict k = is_of attribute.Type k
 symbol_shown_by SymbolPrompts k = is_of attribute.Prompt k
-symbol_shown_by UnfitDefault k = is_value_word k || is_type_word k
-symbol_shown_by UnfitSelect k = is_selecting_word k || is_type_word k
-symbol_shown_by BadModules k = is_modules_word k || is_type_word k
+symbol_shown_by UnfitDefault k = is_value_word k || is_of attribute.Type k
+symbol_shown_by UnfitSelect k = is_selecting_word k || is_of attribute.Type k
+symbol_shown_by BadModules k = is_of attribute.Modules k || is_of attribute.Type k
 
 -- a fault of a choice
 abbrev pub choice_shown_by : ChoiceProblem → Keyword → Bool
 choice_shown_by NoPrompt k = begins_word family.Choice k
 choice_shown_by ChoicePrompts k = is_of attribute.Prompt k
 choice_shown_by ForeignDefault k = is_plain_default k
-choice_shown_by MemberType k = is_type_word k
+choice_shown_by MemberType k = is_of attribute.Type k
 choice_shown_by MemberWithoutPrompt k = begins_word family.Definition k
 choice_shown_by MemberDefinedAgain k = begins_word family.Definition k
 
 -- a loop: its lines are those by which a node uses another
 abbrev pub loop_shown_by : Keyword → Bool
-loop_shown_by k = is_condition_word k || (is_value_word k || (is_selecting_word k || (is_type_word k || (is_of attribute.Prompt k || (begins_word family.Definition k || begins_word family.Choice k)))))
+loop_shown_by k = is_condition_word k || (is_value_word k || (is_selecting_word k || (is_of attribute.Type k || (is_of attribute.Prompt k || (begins_word family.Definition k || begins_word family.Choice k)))))
 
 -- a line shows a fault: that of a line each line, the others those of the right first words
 abbrev pub shows : Fault → LineValue → Bool

@@ -147,7 +147,13 @@ impl<'i, 'l, 'a> FactorLines<'i, 'l, 'a> {
     }
 
     /// The line of a part.
-    fn line(&mut self, alloc: Global, part: Part) -> Result<Option<&'l Line<'a>>, AllocError>
+    ///
+    /// The error comes where memory is refused.
+    pub(crate) fn line(
+        &mut self,
+        alloc: Global,
+        part: Part,
+    ) -> Result<Option<&'l Line<'a>>, AllocError>
         ensures line { IfOk result (λ found. option_copied found ≡ line_of self.old part) }
         ensures lines { self.new ≡ self.old }
     {

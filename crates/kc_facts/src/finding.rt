@@ -1,9 +1,11 @@
 //! What is found of a fault: words, and lines by their numbers among all lines.
 
-ghost use Rattle.std.specs.Prelude.{IfOk, IfSome};
+ghost use Rattle.std.specs.Prelude.{◌≡◌, ◌++◌, IfOk, IfSome, OnOk, option_to_list};
 ghost use Rattle.kc_facts.specs.Named.{AreRemarksOf, IsRemarkOf};
 
 use crate::explanation::{Explanation, Place, Remark};
+use crate::line_index::LineIndex;
+use crate::parts::Part;
 use crate::shown::{Fault, shows};
 use kc_text::{Line, Text};
 use std::alloc::{AllocError, Global};
@@ -91,11 +93,83 @@ fn remark_of(
     if !shows(fault, line) {
         return Ok(None);
     }
-    let words = String::from_str(alloc, mention.words.as_str())?;
+    Ok(Some(line_remark(alloc, mention.words.as_str(), line)?))
+}
+
+/// A line, after some words.
+fn line_remark(alloc: Global, words: &str, line: &Line<'_>) -> Result<Remark, AllocError>
+    ensures path { IfOk result (λ remark. remark.place.path ≡ line.now.path) }
+    ensures number { IfOk result (λ remark. remark.place.line ≡ line.now.number) }
+{
+    let words = String::from_str(alloc, words)?;
     let path = Text::copy_of(alloc, line.path())?;
     let place = Place {
         path,
         line: line.number(),
     };
-    Ok(Some(Remark { words, place }))
+    Ok(Remark { words, place })
+}
+
+/// What is said of a fault: words, and the lines of the parts that make it. A part without a line, or whose line does not
+/// show such a fault, is not named.
+///
+/// # Errors
+///
+/// `AllocError` where memory is refused.
+pub fn explain_parts(
+    alloc: Global,
+    fault: Fault,
+    words: String,
+    index: &LineIndex<'_, '_>,
+    parts: &[Part],
+) -> Result<Explanation, AllocError>
+    ensures { IfOk result (λ e. AreRemarksOf fault index.now e.remarks.items) }
+{
+    let remarks = part_remarks(alloc, fault, index, parts)?;
+    Ok(Explanation { words, remarks })
+}
+
+/// The lines of parts, each with its place.
+fn part_remarks(
+    alloc: Global,
+    fault: Fault,
+    index: &LineIndex<'_, '_>,
+    parts: &[Part],
+) -> Result<Vec<Remark>, AllocError>
+    ensures { IfOk result (λ remarks. AreRemarksOf fault index.now remarks.items) }
+{
+    let mut remarks = Vec::new(alloc);
+    for part in parts {
+        add_remark(&mut remarks, part_remark(alloc, fault, index, *part)?)?;
+    }
+    Ok(remarks)
+}
+
+/// Adds a line with its place, if there is one.
+fn add_remark(remarks: &mut Vec<Remark>, remark: Option<Remark>) -> Result<(), AllocError>
+    ensures { OnOk result (remarks.new.items ≡ remarks.old.items ++ option_to_list remark) }
+{
+    if let Some(remark) = remark {
+        remarks.push(remark)?;
+    }
+    Ok(())
+}
+
+/// The line of a part, with its place, if it is one that shows the fault.
+#[tactic(auto, using(crate::proofs::PartLaws::part_shown))]
+fn part_remark(
+    alloc: Global,
+    fault: Fault,
+    index: &LineIndex<'_, '_>,
+    part: Part,
+) -> Result<Option<Remark>, AllocError>
+    ensures { IfOk result (λ found. IfSome found (IsRemarkOf fault index.now)) }
+{
+    let Some(line) = index.line(part) else {
+        return Ok(None);
+    };
+    if !shows(fault, line) {
+        return Ok(None);
+    }
+    Ok(Some(line_remark(alloc, "", line)?))
 }

@@ -1,5 +1,11 @@
 //! The parts of conditions that are below a value.
 
+ghost use Rattle.std.specs.Prelude.{◌≡◌, IfSome, option_map};
+ghost use Rattle.kc_value.specs.declared.factors.Origin.TheVariants.{Condition};
+ghost use Rattle.kc_value.specs.Assignment.{assignment_of};
+ghost use Rattle.kc_value.specs.Factors.{judged, judged_expression};
+ghost use Rattle.kc_facts.specs.WhyRows.{choice_if};
+
 use crate::view::View;
 use kc_statement::ExprNode;
 use kc_tree::{ChoiceId, Expr, Tri};
@@ -13,7 +19,11 @@ pub(crate) fn is_below(value: Tri, bound: Tri) -> bool {
 
 /// The condition that the prompt of a choice has after `if`, which is all of the condition of that prompt that a member of
 /// the choice has no factor for.
-pub fn choice_condition<'s>(view: &View<'s>, choice: ChoiceId) -> Option<Factor<'s>> {
+pub fn choice_condition<'s>(view: &View<'s>, choice: ChoiceId) -> Option<Factor<'s>>
+    ensures judged { option_map judged result
+        ≡ option_map (judged_expression view.now.tree (assignment_of view.now.tree view.now.values)) (choice_if view.now.tree choice) }
+    ensures origin { IfSome result (λ f. f.origin ≡ Condition) }
+{
     let prompt = view.tree().choices().get(choice.0 as usize)?.prompt()?;
     let condition = prompt.condition.as_ref()?;
     Some(Factor {

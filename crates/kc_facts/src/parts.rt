@@ -2,10 +2,10 @@
 
 ghost use Rattle.std.specs.Prelude.{◌≡◌, ◌&&◌, false, true};
 ghost use Rattle.std.specs.Option.{option_map_or};
-ghost use Rattle.kc_facts.specs.Attributes.{is_of, is_quoted_second, is_whole, says, takes_prompt};
+ghost use Rattle.kc_facts.specs.Attributes.{is_modules_word, is_of, is_quoted_second, is_second_modules, is_type_word, is_whole, says, takes_prompt};
 ghost use Rattle.kc_facts.specs.LineIndex.{begins, begins_word};
 
-use kc_statement::{Keyword, read_keyword};
+use kc_statement::{Keyword, is_word, read_keyword};
 use kc_text::{Line, Token};
 
 /// What a line begins.
@@ -22,6 +22,8 @@ pub enum Family {
 /// What an attribute line says.
 #[derive(Clone, Copy, Debug, PartialEq, Eq)]
 pub enum Attribute {
+    /// A type: its word, `def_bool` or `def_tristate`.
+    Type,
     /// A prompt: `prompt`, or the word of a type with a text in quotes.
     Prompt,
     /// `depends on`
@@ -33,6 +35,8 @@ pub enum Attribute {
     Range,
     Select,
     Imply,
+    /// `modules` or `option modules`
+    Modules,
 }
 
 /// A part of a tree that a line says. All numbers are from 0, in the order of the lines.
@@ -64,6 +68,7 @@ impl Attribute {
         ensures { result ≡ true → self ≡ other }
     {
         match self {
+            Attribute::Type => matches!(other, Attribute::Type),
             Attribute::Prompt => matches!(other, Attribute::Prompt),
             Attribute::Depends => matches!(other, Attribute::Depends),
             Attribute::Visible => matches!(other, Attribute::Visible),
@@ -71,6 +76,7 @@ impl Attribute {
             Attribute::Range => matches!(other, Attribute::Range),
             Attribute::Select => matches!(other, Attribute::Select),
             Attribute::Imply => matches!(other, Attribute::Imply),
+            Attribute::Modules => matches!(other, Attribute::Modules),
         }
     }
 }
@@ -102,6 +108,7 @@ pub(crate) fn is_of(attribute: Attribute, word: Keyword) -> bool
     ensures { result ≡ is_of attribute word }
 {
     match attribute {
+        Attribute::Type => is_type_word(word),
         Attribute::Prompt => takes_prompt(word),
         Attribute::Depends => matches!(word, Keyword::Depends),
         Attribute::Visible => matches!(word, Keyword::Visible),
@@ -112,7 +119,31 @@ pub(crate) fn is_of(attribute: Attribute, word: Keyword) -> bool
         Attribute::Range => matches!(word, Keyword::Range),
         Attribute::Select => matches!(word, Keyword::Select),
         Attribute::Imply => matches!(word, Keyword::Imply),
+        Attribute::Modules => is_modules_word(word),
     }
+}
+
+/// Whether a word gives a symbol its type.
+fn is_type_word(word: Keyword) -> bool
+    ensures { result ≡ is_type_word word }
+{
+    matches!(
+        word,
+        Keyword::Bool
+            | Keyword::Tristate
+            | Keyword::String
+            | Keyword::Int
+            | Keyword::Hex
+            | Keyword::DefBool
+            | Keyword::DefTristate
+    )
+}
+
+/// Whether a word can say that its symbol switches modules.
+fn is_modules_word(word: Keyword) -> bool
+    ensures { result ≡ is_modules_word word }
+{
+    matches!(word, Keyword::Modules | Keyword::Option)
 }
 
 /// Whether a prompt can come after a word.
@@ -140,13 +171,26 @@ fn is_quoted_second(tokens: &[Token<'_>]) -> bool
     }
 }
 
-/// Whether tokens have what an attribute needs beside its first word: a prompt has a text in quotes.
-fn is_whole(attribute: Attribute, tokens: &[Token<'_>]) -> bool
-    ensures { result ≡ is_whole attribute tokens.now }
+/// Whether the second token is the word `modules`.
+fn is_second_modules(tokens: &[Token<'_>]) -> bool
+    ensures { result ≡ is_second_modules tokens.now }
+{
+    match tokens {
+        [_, second, ..] => is_word(second, "modules"),
+        _ => false,
+    }
+}
+
+/// Whether tokens have what an attribute needs beside its first word: a prompt has a text in quotes, and `option` another
+/// word.
+fn is_whole(attribute: Attribute, word: Keyword, tokens: &[Token<'_>]) -> bool
+    ensures { result ≡ is_whole attribute word tokens.now }
 {
     match attribute {
         Attribute::Prompt => is_quoted_second(tokens),
-        Attribute::Depends
+        Attribute::Modules => !matches!(word, Keyword::Option) || is_second_modules(tokens),
+        Attribute::Type
+        | Attribute::Depends
         | Attribute::Visible
         | Attribute::Default
         | Attribute::Range
@@ -160,7 +204,7 @@ pub fn says(attribute: Attribute, line: &Line<'_>) -> bool
     ensures { result ≡ says attribute line.now }
 {
     match read_keyword(line) {
-        Some(word) => is_of(attribute, word) && is_whole(attribute, line.tokens()),
+        Some(word) => is_of(attribute, word) && is_whole(attribute, word, line.tokens()),
         None => false,
     }
 }

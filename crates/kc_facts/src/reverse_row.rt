@@ -1,5 +1,8 @@
 //! Who selects or implies a symbol, in a row.
 
+ghost use Rattle.std.specs.Prelude.{◌≡◌};
+ghost use Rattle.kc_facts.specs.WhyRows.{reverses_of};
+
 use crate::expressions::push_valued_expr;
 use crate::low_parts::{is_below, parts_below};
 use crate::view::View;
@@ -21,7 +24,9 @@ pub enum ReverseKind {
 
 impl ReverseKind {
     /// The lines of this kind that name a symbol.
-    pub fn of(self, symbol: &Symbol) -> &[Reverse] {
+    pub fn of(self, symbol: &Symbol) -> &[Reverse]
+        ensures { result.now ≡ reverses_of self symbol.now }
+    {
         match self {
             ReverseKind::Select => symbol.selected(),
             ReverseKind::Imply => symbol.implied(),

@@ -1,7 +1,7 @@
 //! By which lines a fault is shown.
 
 ghost use Rattle.std.specs.Prelude.{◌≡◌};
-ghost use Rattle.kc_facts.specs.Shown.{choice_shown_by, is_condition_word, is_modules_word, is_plain_default, is_selecting_word, is_type_word, is_value_word, loop_shown_by, shows, symbol_shown_by};
+ghost use Rattle.kc_facts.specs.Shown.{choice_shown_by, is_condition_word, is_plain_default, is_selecting_word, is_value_word, loop_shown_by, shows, symbol_shown_by};
 
 use crate::parts::{Attribute, Family, begins_word, is_of};
 use kc_statement::{Keyword, read_keyword};
@@ -42,11 +42,12 @@ fn symbol_shown_by(problem: SymbolProblem, word: Keyword) -> bool
 {
     match problem {
         SymbolProblem::NoType => begins_word(Family::Definition, word),
-        SymbolProblem::TypeConflict => is_type_word(word),
+        SymbolProblem::TypeConflict => is_of(Attribute::Type, word),
         SymbolProblem::SecondPrompt => is_of(Attribute::Prompt, word),
-        SymbolProblem::UnfitDefault => is_value_word(word) || is_type_word(word),
-        SymbolProblem::UnfitSelect => is_selecting_word(word) || is_type_word(word),
-        SymbolProblem::BadModules => is_modules_word(word) || is_type_word(word),
+        SymbolProblem::UnfitDefault => is_value_word(word) || is_of(Attribute::Type, word),
+        SymbolProblem::UnfitSelect => is_selecting_word(word) || is_of(Attribute::Type, word),
+        SymbolProblem::BadModules => is_of(Attribute::Modules, word)
+            || is_of(Attribute::Type, word),
     }
 }
 
@@ -58,7 +59,7 @@ fn choice_shown_by(problem: ChoiceProblem, word: Keyword) -> bool
         ChoiceProblem::NoPrompt => begins_word(Family::Choice, word),
         ChoiceProblem::SecondPrompt => is_of(Attribute::Prompt, word),
         ChoiceProblem::ForeignDefault => is_plain_default(word),
-        ChoiceProblem::MemberType => is_type_word(word),
+        ChoiceProblem::MemberType => is_of(Attribute::Type, word),
         ChoiceProblem::MemberWithoutPrompt => begins_word(Family::Definition, word),
         ChoiceProblem::MemberDefinedAgain => begins_word(Family::Definition, word),
     }
@@ -71,26 +72,10 @@ fn loop_shown_by(word: Keyword) -> bool
     is_condition_word(word)
         || is_value_word(word)
         || is_selecting_word(word)
-        || is_type_word(word)
+        || is_of(Attribute::Type, word)
         || is_of(Attribute::Prompt, word)
         || begins_word(Family::Definition, word)
         || begins_word(Family::Choice, word)
-}
-
-/// Whether a line of this word gives its symbol a type.
-fn is_type_word(word: Keyword) -> bool
-    ensures { result ≡ is_type_word word }
-{
-    matches!(
-        word,
-        Keyword::Bool
-            | Keyword::Tristate
-            | Keyword::String
-            | Keyword::Int
-            | Keyword::Hex
-            | Keyword::DefBool
-            | Keyword::DefTristate
-    )
 }
 
 /// Whether a line of this word has a default or a range.
@@ -105,13 +90,6 @@ fn is_selecting_word(word: Keyword) -> bool
     ensures { result ≡ is_selecting_word word }
 {
     is_of(Attribute::Select, word) || is_of(Attribute::Imply, word)
-}
-
-/// Whether a line of this word can say that its symbol switches modules.
-fn is_modules_word(word: Keyword) -> bool
-    ensures { result ≡ is_modules_word word }
-{
-    matches!(word, Keyword::Modules | Keyword::Option)
 }
 
 /// Whether a line of this word is a default, and no type.

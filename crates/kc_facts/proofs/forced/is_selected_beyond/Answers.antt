@@ -11,7 +11,7 @@ pub returns : goal.returns
 returns c =
     let t = c.args.known.now.tree in
     let a = given c.args.known.now in
-    let most = c.in_ok-most.most in
+    let most = c.most_worth-most.result in
     c.has_above-2.ensures
     ∙ ap (λ lines. list_any (λ r. is_above (reverse_value t a r) most) lines) c.selected-2.ensures
-    ∙ selected_beyond t a c.args.symbol.now most (c.in_ok-most.ensures ∙ ap (λ numbers. greatest_of (map (worth t a) numbers)) c.definitions.ensures)
+    ∙ selected_beyond t a c.args.symbol.now most (c.most_worth-most.ensures ∙ ap (λ numbers. greatest_of (map (worth t a) numbers)) c.definitions.ensures)
