@@ -1,11 +1,12 @@
 //! What is said of a line that does not have the form of its statement (K05).
 
 use crate::lines::Suspect;
+use crate::messages::FormMessage;
+use crate::piece::{texts, words_of};
 use crate::said::{Said, Unsaid};
-use crate::spelling::{first_word, token_text, tokens_text};
+use crate::spelling::{first_word, tokens_text};
 use kc_statement::{Keyword, Mistake, Names, Seed, Unread, Wanted, read_keyword, read_statement};
-use kc_text::{Line, Token};
-use std::alloc::{AllocError, Global};
+use std::alloc::AllocError;
 
 /// How each statement and attribute is written, where E is an expression and `[..]` may be missing, as in
 /// docs/LANGUAGE.md.
@@ -44,16 +45,14 @@ pub(crate) static FORMS: [(&str, &str); 29] = [
 /// What is said of a line whose tokens are not those of its statement's form: what was wanted, and what was found
 /// there.
 pub(crate) fn explain_form(suspect: &Suspect<'_, '_, '_>) -> Said {
-    let alloc = suspect.statements.alloc;
     let keyword = read_keyword(suspect.line).ok_or(Unsaid::Nothing)?;
     if let Some(mistake) = mistake_of(suspect)? {
-        let words = mistake_words(alloc, &mistake, suspect.line)?;
-        return suspect.say(words.as_str());
+        return explain_mistake(suspect, &mistake);
     }
     if keyword != Keyword::Default || suspect.owner() != Some(Keyword::Choice) {
         return Err(Unsaid::Nothing);
     }
-    suspect.say("the default of a choice is the name of a member alone: default NAME [if E]")
+    suspect.say(FormMessage::DefaultOfChoice.row(), &texts!())
 }
 
 /// The first place in which a line goes another way than its form, if it does. That depends on no names. A `source` that
@@ -77,47 +76,33 @@ fn mistake_of(suspect: &Suspect<'_, '_, '_>) -> Result<Option<Mistake>, AllocErr
     }
 }
 
-/// What is said of a mistake in a line.
-fn mistake_words(alloc: Global, mistake: &Mistake, line: &Line<'_>) -> Result<String, AllocError> {
-    let tokens = line.tokens();
-    let word = first_word(line);
+/// What is said of a mistake in a line: what is wanted after which token, what is there, and the form.
+fn explain_mistake(suspect: &Suspect<'_, '_, '_>, mistake: &Mistake) -> Said {
+    let alloc = suspect.statements.alloc;
+    let tokens = suspect.line.tokens();
     if mistake.wanted == Wanted::On {
         let rest = tokens_text(alloc, tokens.get(1..).unwrap_or(&[]))?;
-        return format!(in alloc; "`depends` wants `on`: depends on {rest}");
+        return suspect.say(FormMessage::WithoutOn.row(), &texts!(text: rest.as_str()));
     }
-    let mut words = String::new(alloc);
-    push_wanted(alloc, &mut words, mistake, tokens)?;
-    if let Some((_, form)) = FORMS.iter().find(|row| row.0 == word) {
-        write!(words, ": {form}")?;
-    }
-    Ok(words)
-}
-
-/// Adds what is wanted after which token, and what is there.
-fn push_wanted(
-    alloc: Global,
-    words: &mut String,
-    mistake: &Mistake,
-    tokens: &[Token<'_>],
-) -> Result<(), AllocError> {
     let at = tokens.len().saturating_sub(mistake.left);
-    let wanted = wanted_words(mistake.wanted);
-    let before = match tokens.get(at.saturating_sub(1)) {
-        Some(token) => token_text(alloc, token)?,
-        None => String::new(alloc),
+    let is_first = at == 1 && mistake.wanted != Wanted::Nothing;
+    let message = match (is_first, at < tokens.len()) {
+        (true, true) => FormMessage::WantsNot,
+        (true, false) => FormMessage::WantsMore,
+        (false, true) => FormMessage::WantedNot,
+        (false, false) => FormMessage::WantedMore,
     };
-    if at == 1 && mistake.wanted != Wanted::Nothing {
-        write!(words, "`{before}` wants {wanted}")?;
-    } else {
-        write!(words, "after `{before}` {wanted} is wanted")?;
-    }
-    match tokens.get(at) {
-        Some(token) => {
-            let found = token_text(alloc, token)?;
-            write!(words, ", not `{found}`")
-        }
-        None => words.push_str(", and the line ends"),
-    }
+    let before = tokens_text(alloc, tokens.get(at.saturating_sub(1)..at).unwrap_or(&[]))?;
+    let found = tokens_text(alloc, tokens.get(at..at.saturating_add(1)).unwrap_or(&[]))?;
+    let wanted = wanted_words(mistake.wanted);
+    let texts = texts!(word: before.as_str(), wanted: wanted, text: found.as_str());
+    let word = first_word(suspect.line);
+    let Some((_, form)) = FORMS.iter().find(|row| row.0 == word) else {
+        return suspect.say(message.row(), &texts);
+    };
+    let words = words_of(alloc, message.row(), &texts)?;
+    let texts = texts!(text: words.as_str(), form: form);
+    suspect.say(FormMessage::WithForm.row(), &texts)
 }
 
 /// The words for what a form wants.

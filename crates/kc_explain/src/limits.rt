@@ -1,6 +1,8 @@
 //! What is said of a line that passes a limit of the tree (K01).
 
 use crate::lines::Suspect;
+use crate::messages::LineMessage;
+use crate::piece::texts;
 use crate::said::Said;
 use kc_outline::MOST_OPEN_BLOCKS;
 use kc_statement::{MOST_NESTED, MOST_SYMBOLS, nests_too_deep, read_keyword};
@@ -8,19 +10,18 @@ use kc_text::{Operator, Token};
 
 /// Which limit a line passes, by what is around it.
 pub(crate) fn explain_limit(suspect: &Suspect<'_, '_, '_>) -> Said {
-    let alloc = suspect.statements.alloc;
     let tokens = suspect.line.tokens();
     let opens = read_keyword(suspect.line).is_some_and(|keyword| keyword.opens());
-    let words = if nests_too_deep(tokens) && longest_row(tokens) > MOST_NESTED {
-        format!(in alloc; "more than {MOST_NESTED} `!` are in a row")?
+    let (message, number) = if nests_too_deep(tokens) && longest_row(tokens) > MOST_NESTED {
+        (LineMessage::NotsInRow, MOST_NESTED)
     } else if nests_too_deep(tokens) {
-        format!(in alloc; "more than {MOST_NESTED} parentheses are open at once")?
+        (LineMessage::OpenParentheses, MOST_NESTED)
     } else if opens && suspect.statements.open_before(suspect.at)?.len() >= MOST_OPEN_BLOCKS {
-        format!(in alloc; "more than {MOST_OPEN_BLOCKS} blocks are open in one another")?
+        (LineMessage::OpenBlocks, MOST_OPEN_BLOCKS)
     } else {
-        format!(in alloc; "more than {MOST_SYMBOLS} symbols are defined")?
+        (LineMessage::Symbols, MOST_SYMBOLS)
     };
-    suspect.say(words.as_str())
+    suspect.say(message.row(), &texts!(number: number))
 }
 
 /// How many `!` are in the longest row of them.

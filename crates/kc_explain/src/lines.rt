@@ -7,7 +7,8 @@ ghost use Rattle.kc_facts.specs.Named.{AreRemarksOf};
 use crate::blocks::explain_block;
 use crate::forms::explain_form;
 use crate::limits::explain_limit;
-use crate::said::{Said, Unsaid, or_meaning};
+use crate::piece::{Piece, Texts};
+use crate::said::{Said, Unsaid, or_meaning, say};
 use crate::statements::Statements;
 use crate::strays::explain_stray;
 use crate::unknown::explain_unknown;
@@ -29,14 +30,14 @@ pub(crate) struct Suspect<'s, 'l, 'a> {
 }
 
 impl<'s, 'l, 'a> Suspect<'s, 'l, 'a> {
-    /// Words that it shows.
-    pub fn say(&self, words: &str) -> Said {
-        self.statements.say(words, &[self.at])
+    /// A message that it shows.
+    pub fn say(&self, message: &[Piece], texts: &Texts<'_>) -> Said {
+        say(self.statements.alloc, message, texts, &[self.at])
     }
 
-    /// Words that another line shows, and then it.
-    pub fn say_after(&self, words: &str, line: usize) -> Said {
-        self.statements.say(words, &[line, self.at])
+    /// A message that another line shows, and then it.
+    pub fn say_after(&self, message: &[Piece], texts: &Texts<'_>, line: usize) -> Said {
+        say(self.statements.alloc, message, texts, &[line, self.at])
     }
 
     /// The keyword of the nearest line before it that is no attribute.

@@ -6,13 +6,15 @@ ghost use Rattle.kc_facts.specs.Named.{AreRemarksOf};
 
 use crate::causes::{Cause, Way, causes_of};
 use crate::meanings::fault_meaning;
+use crate::messages::{node_pieces, way_pieces};
+use crate::piece::{texts, words_of};
 use crate::spelling::repeated;
 use crate::statements::Statements;
 use crate::steps::Steps;
 use kc_facts::{Explanation, Fault, Finding, Mention};
 use kc_statement::Keyword;
 use kc_text::Line;
-use kc_tree::{NamedNode, Node};
+use kc_tree::NamedNode;
 use std::alloc::{AllocError, Global};
 
 /// What is said of a loop of nodes, each of which uses the next and the last the first, by the lines of its Kconfig:
@@ -61,7 +63,8 @@ fn add_step(
     cause: &Cause,
 ) -> Result<(), AllocError> {
     if let Way::OfSelecting(line) | Way::AroundSelecting(line) = cause.way {
-        let words = selected_words(statements, node, line)?;
+        let way = Way::Selected;
+        let words = cause_words(statements, node, &Cause { line, way })?;
         mentions.push(Mention { words, line })?;
     }
     let words = cause_words(statements, node, cause)?;
@@ -70,58 +73,25 @@ fn add_step(
     Ok(())
 }
 
-/// The words before the line by which a node uses the next.
+/// The words before the line by which a node uses the next: what the node has, and by what, where no line before it says
+/// that.
 fn cause_words(
     statements: &Statements<'_, '_>,
     node: &NamedNode,
     cause: &Cause,
 ) -> Result<String, AllocError> {
-    let alloc = statements.alloc;
+    let (selecting, is_later) = match cause.way {
+        Way::OfSelecting(line) | Way::AroundSelecting(line) => (line, true),
+        _ => (cause.line, false),
+    };
     let block = block_words(statements, cause.line);
-    match cause.way {
-        Way::Own if matches!(node.node, Node::Vis(_)) => by(alloc, node, "   "),
-        Way::Own => by(alloc, node, ""),
-        Way::Around => {
-            let what = format!(in alloc; "the {block} around it, ")?;
-            by(alloc, node, what.as_str())
-        }
-        Way::Selected => selected_words(statements, node, cause.line),
-        Way::OfSelecting(line) => {
-            let selecting = statements.symbol(line);
-            format!(in alloc; "and {selecting}'s ")
-        }
-        Way::AroundSelecting(line) => {
-            let selecting = statements.symbol(line);
-            format!(in alloc; "and the {block} around {selecting}, ")
-        }
-        Way::Type => by(alloc, node, "its type, "),
-        Way::Visibility => by(alloc, node, "its visibility, "),
-        Way::Choice => by(alloc, node, "its choice, "),
-        Way::Mode => by(alloc, node, "its mode, "),
-        Way::Member => by(alloc, node, "its member "),
+    let texts = texts!(kind: block, other: statements.symbol(selecting));
+    let by = words_of(statements.alloc, way_pieces(cause.way, node.node), &texts)?;
+    if is_later {
+        return Ok(by);
     }
-}
-
-/// What a node has, and by what. Blanks after `visible by` have the places of visibilities and values in one column.
-fn by(alloc: Global, node: &NamedNode, what: &str) -> Result<String, AllocError> {
-    let name = repeated(node.name.as_str());
-    match node.node {
-        Node::Vis(_) => format!(in alloc; "{name} is visible by {what}"),
-        Node::Val(_) => format!(in alloc; "{name} has its value by {what}"),
-        Node::Mode(_) => format!(in alloc; "the choice \"{name}\" has its mode by {what}"),
-        Node::Sel(_) => format!(in alloc; "the choice \"{name}\" has its selection by {what}"),
-    }
-}
-
-/// What a node has by a line of another symbol that selects or implies its own.
-fn selected_words(
-    statements: &Statements<'_, '_>,
-    node: &NamedNode,
-    line: usize,
-) -> Result<String, AllocError> {
-    let selecting = statements.symbol(line);
-    let what = format!(in statements.alloc; "{selecting}'s ")?;
-    by(statements.alloc, node, what.as_str())
+    let texts = texts!(name: repeated(node.name.as_str()), text: by.as_str());
+    words_of(statements.alloc, node_pieces(node.node), &texts)
 }
 
 /// The word for the block that a line belongs to.

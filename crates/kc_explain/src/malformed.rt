@@ -1,6 +1,8 @@
 //! What is said of a line that a `.config` does not have (warning 4).
 
 use crate::meanings::warning_meaning;
+use crate::messages::ConfigMessage;
+use crate::piece::{texts, words_of};
 use kc_facts::{has_name_bytes, shown_line};
 use std::alloc::{AllocError, Global};
 
@@ -15,10 +17,10 @@ pub(crate) fn malformed_words(
     text: Option<&str>,
 ) -> Result<String, AllocError> {
     let Some(text) = text else {
-        return String::from_str(alloc, "the line is not UTF-8");
+        return words_of(alloc, ConfigMessage::NotText.row(), &texts!());
     };
     if CONFLICT_MARKS.iter().any(|mark| text.starts_with(*mark)) {
-        return String::from_str(alloc, "a mark of a conflict between two versions");
+        return words_of(alloc, ConfigMessage::ConflictMark.row(), &texts!());
     }
     match text.split_once('=') {
         Some((name, value)) => assignment_words(alloc, prefix, name, value),
@@ -34,19 +36,16 @@ fn assignment_words(
     value: &str,
 ) -> Result<String, AllocError> {
     let bare = name.trim();
-    let shown = shown_line(value);
+    let texts = texts!(name: bare, prefix: prefix, value: shown_line(value));
     if bare.is_empty() || !has_name_bytes(bare) {
-        let name = shown_line(name);
-        return format!(in alloc; "`{name}` is no name: {prefix} and letters, digits and _");
+        let texts = texts!(name: shown_line(name), ..texts);
+        return words_of(alloc, ConfigMessage::NoName.row(), &texts);
     }
-    match bare.strip_prefix(prefix) {
-        Some("") => format!(in alloc; "no name is after {prefix}"),
-        Some(_) if name.ends_with([' ', '\t']) => {
-            format!(in alloc; "blanks around `=`; write {bare}={shown}")
-        }
-        Some(_) => format!(in alloc; "blanks before the name; write {bare}={shown}"),
-        None => {
-            format!(in alloc; "the name does not begin with {prefix}; write {prefix}{bare}={shown}")
-        }
-    }
+    let message = match bare.strip_prefix(prefix) {
+        Some("") => ConfigMessage::PrefixAlone,
+        Some(_) if name.ends_with([' ', '\t']) => ConfigMessage::BlanksAround,
+        Some(_) => ConfigMessage::BlanksBefore,
+        None => ConfigMessage::WithoutPrefix,
+    };
+    words_of(alloc, message.row(), &texts)
 }

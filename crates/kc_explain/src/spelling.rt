@@ -31,13 +31,6 @@ pub(crate) fn tokens_text(alloc: Global, tokens: &[Token<'_>]) -> Result<String,
     String::from_str(alloc, shown_line(text.as_str()))
 }
 
-/// A token as it is quoted.
-pub(crate) fn token_text(alloc: Global, token: &Token<'_>) -> Result<String, AllocError> {
-    let mut text = String::new(alloc);
-    push_token(&mut text, token)?;
-    String::from_str(alloc, shown_line(text.as_str()))
-}
-
 fn push_token(text: &mut String, token: &Token<'_>) -> Result<(), AllocError> {
     match token {
         Token::Word(word) | Token::Expanded(word) => text.push_str(word.as_str()),

@@ -5,10 +5,9 @@ ghost use Rattle.kc_statement.specs.Names.{token_word};
 
 use crate::said::{Said, Unsaid};
 use kc_facts::{Attribute, Family, Finding, LineIndex, is_attribute, says};
-use kc_statement::{Keyword, SymbolType, is_word, read_keyword};
+use kc_statement::{Keyword, SymbolType, read_keyword};
 use kc_text::{Line, LineKind, Token};
 use std::alloc::{AllocError, Global};
-use std::ops::Range;
 
 /// A definition of a symbol, with the numbers of its first and its last line.
 #[derive(Clone, Copy)]
@@ -112,29 +111,12 @@ impl<'l, 'a> Statements<'l, 'a> {
         }
     }
 
-    /// The first two prompts in what a line begins, if it begins a definition or a choice.
-    pub fn two_prompts(&self, line: usize) -> Option<(usize, usize)> {
-        let mut prompts = self.attributes(line).filter(|line| self.has_prompt(*line));
-        Some((prompts.next()?, prompts.next()?))
-    }
-
     /// Whether a line is an attribute.
     fn is_attribute(&self, line: usize) -> bool {
         match self.lines.get(line) {
             Some(line) => is_attribute(line),
             None => false,
         }
-    }
-
-    /// The lines of the attributes of what a line begins; none where it is an attribute.
-    pub fn attributes(&self, line: usize) -> Range<usize> {
-        let first = line.saturating_add(1);
-        let attributes = self.lines.get(first..).unwrap_or(&[]).iter();
-        let is_owner = !self.is_attribute(line);
-        let count = attributes
-            .take_while(|line| is_owner && is_attribute(line))
-            .count();
-        first..first.saturating_add(count)
     }
 
     /// The first line of a definition that gives its symbol a type, and the type.
@@ -285,7 +267,7 @@ pub(crate) fn is_end(line: &Line<'_>) -> bool {
 }
 
 /// The second word of a line.
-fn second_word_of<'l>(line: &'l Line<'_>) -> Option<&'l str> {
+pub(crate) fn second_word_of<'l>(line: &'l Line<'_>) -> Option<&'l str> {
     word_of(line.tokens().get(1)?)
 }
 
@@ -297,13 +279,5 @@ pub(crate) fn word_of<'t>(token: &'t Token<'_>) -> Option<&'t str>
         Token::Word(word) => Some(word.as_str()),
         Token::Expanded(word) => Some(word.as_str()),
         Token::Quoted(_) | Token::Operator(_) => None,
-    }
-}
-
-/// The tokens before an `if`.
-pub(crate) fn before_if<'t, 'a>(tokens: &'t [Token<'a>]) -> &'t [Token<'a>] {
-    match tokens.iter().position(|token| is_word(token, "if")) {
-        Some(end) => tokens.get(..end).unwrap_or(tokens),
-        None => tokens,
     }
 }

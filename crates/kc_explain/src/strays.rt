@@ -1,11 +1,13 @@
 //! What is said of an attribute that the nearest statement does not take (K06).
 
 use crate::lines::Suspect;
+use crate::messages::LineMessage;
+use crate::piece::texts;
 use crate::said::{Said, Unsaid};
 use crate::spelling::{first_word, tokens_text};
 use crate::statements::is_end;
 use kc_statement::{Keyword, read_keyword};
-use std::alloc::AllocError;
+use std::alloc::{AllocError, Global};
 
 /// The statements that take attributes, each with how it is written.
 static OWNERS: [(Keyword, &str); 4] = [
@@ -22,31 +24,26 @@ pub(crate) fn explain_stray(suspect: &Suspect<'_, '_, '_>) -> Said {
         return Err(Unsaid::Nothing);
     }
     let alloc = suspect.statements.alloc;
-    let word = first_word(suspect.line);
-    let mut words = format!(in alloc; "`{word}` is an attribute of ")?;
-    push_owners(&mut words, attribute)?;
+    let list = owners_of(alloc, attribute)?;
+    let texts = texts!(word: first_word(suspect.line), list: list.as_str());
     let Some(number) = suspect.statements.statement_before(suspect.at) else {
-        words.push_str(", and no statement is before it")?;
-        return suspect.say(words.as_str());
+        return suspect.say(LineMessage::StrayAlone.row(), &texts);
     };
     let statement = suspect.statements.get(number)?;
     if is_end(statement) {
-        let path = statement.path();
-        write!(
-            words,
-            ", and the end of {path} has ended the entry before it"
-        )?;
-        return suspect.say(words.as_str());
+        let texts = texts!(path: statement.path(), ..texts);
+        return suspect.say(LineMessage::StrayAfterEnd.row(), &texts);
     }
     let text = tokens_text(alloc, statement.tokens())?;
-    write!(words, ", and the statement before it is `{text}`")?;
-    suspect.say_after(words.as_str(), number)
+    let texts = texts!(text: text.as_str(), ..texts);
+    suspect.say_after(LineMessage::StrayAfter.row(), &texts, number)
 }
 
-/// Adds the statements that take an attribute.
-fn push_owners(words: &mut String, attribute: Keyword) -> Result<(), AllocError> {
-    let count = count_owners(attribute);
+/// The statements that take an attribute.
+fn owners_of(alloc: Global, attribute: Keyword) -> Result<String, AllocError> {
+    let mut words = String::new(alloc);
     let owners = OWNERS.iter().filter(|row| row.0.takes(attribute));
+    let count = OWNERS.iter().filter(|row| row.0.takes(attribute)).count();
     for (index, (_, name)) in owners.enumerate() {
         words.push_str(match index.saturating_add(1) {
             1 => "",
@@ -55,9 +52,5 @@ fn push_owners(words: &mut String, attribute: Keyword) -> Result<(), AllocError>
         })?;
         words.push_str(name)?;
     }
-    Ok(())
-}
-
-fn count_owners(attribute: Keyword) -> usize {
-    OWNERS.iter().filter(|row| row.0.takes(attribute)).count()
+    Ok(words)
 }

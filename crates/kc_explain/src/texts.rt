@@ -1,12 +1,13 @@
 //! What is said of a fault of a text.
 
-use crate::characters::{Spot, find_faults, push_character};
-use crate::dollars::bad_dollar;
-use crate::indentation::line_of;
+use crate::characters::push_character;
+use crate::items::{Found, Spot, find_item, spot_after};
 use crate::meanings::fault_meaning;
-use crate::variables::{explain_ring, names_used_in};
-use kc_facts::{Dollar, Explanation};
-use kc_text::TextProblem;
+use crate::messages::TextMessage;
+use crate::piece::{Texts, texts, words_of};
+use crate::variables::explain_ring;
+use kc_facts::{Dollar, Explanation, dollar_of};
+use kc_text::{StopKind, TextProblem};
 use std::alloc::{AllocError, Global};
 
 /// The most bytes of a line, after lines were joined (docs/SECURITY.md).
@@ -42,125 +43,142 @@ pub fn explain_text(
         path,
         number,
     };
+    let Some(found) = find_item(alloc, text, number)? else {
+        return line.explain_whole(problem);
+    };
     match problem {
-        TextProblem::Limit => line.explain_limit(),
-        TextProblem::BadCharacter => line.explain_character(),
-        TextProblem::UnclosedQuote => line.explain_quote(),
-        TextProblem::BadReference => line.explain_dollar(),
-        TextProblem::RecursiveVariable => explain_ring(&line),
+        TextProblem::Limit => line.say(limit_of(&found), texts!(), number),
+        TextProblem::BadCharacter => line.explain_character(&found, StopKind::BadCharacter),
+        TextProblem::UnclosedQuote => line.explain_character(&found, StopKind::UnclosedQuote),
+        TextProblem::BadReference => line.explain_dollar(&found),
+        TextProblem::RecursiveVariable => explain_ring(&line, &found),
         TextProblem::MissingSource(_) | TextProblem::RecursiveSource => {
             line.plain(problem.number())
         }
     }
 }
 
+/// Which limit a line passes (K01).
+fn limit_of(found: &Found<'_>) -> TextMessage {
+    let text = found.text();
+    if text.len() > MOST_LINE {
+        TextMessage::LineLimit
+    } else if found.value().is_none() && text.trim().starts_with("source") {
+        TextMessage::SourceLimit
+    } else {
+        TextMessage::ReferenceLimit
+    }
+}
+
 impl TextLine<'_> {
     /// What is said of a fault where no more is known: the words of its number, and the line.
     pub fn plain(&self, fault: u8) -> Result<Explanation, AllocError> {
-        self.say(fault_meaning(fault).unwrap_or(""), self.number)
+        let words = String::from_str(self.alloc, fault_meaning(fault).unwrap_or(""))?;
+        self.show(words, self.number)
+    }
+
+    /// A message, and the line of a number, if that is one.
+    fn say(
+        &self,
+        message: TextMessage,
+        texts: Texts<'_>,
+        number: usize,
+    ) -> Result<Explanation, AllocError> {
+        self.show(words_of(self.alloc, message.row(), &texts)?, number)
     }
 
     /// Words, and the line of a number, if that is one.
-    fn say(&self, words: &str, number: usize) -> Result<Explanation, AllocError> {
-        let mut explanation = Explanation::new(self.alloc, String::from_str(self.alloc, words)?);
+    fn show(&self, words: String, number: usize) -> Result<Explanation, AllocError> {
+        let mut explanation = Explanation::new(self.alloc, words);
         if number > 0 {
             explanation.name_line(self.alloc, "", self.path, number)?;
         }
         Ok(explanation)
     }
 
-    /// What is said of a limit that a file, a variable or a line passes (K01).
-    fn explain_limit(&self) -> Result<Explanation, AllocError> {
-        let words = if self.number == 0 {
-            "the file has more than 16,777,216 bytes, with those of all other files, or is one more than 4,096"
-        } else if self.joined_len() > MOST_LINE {
-            "the line has more than 65,536 bytes"
-        } else if line_of(self.text, self.number).trim().starts_with("source") {
-            "more than 64 files are open at once, or more than 4,096 `source` lines are followed, or they put more than 16,777,216 bytes in place"
-        } else {
-            "the line with its references expanded has more than 65,536 bytes, or needs more than 65,536 references, or 64 variables within one another"
-        };
-        self.say(words, self.number)
-    }
-
-    /// How many bytes the line has together with those that it is joined with.
-    fn joined_len(&self) -> usize {
-        let mut len = 0usize;
-        for line in self.text.lines().skip(self.number.saturating_sub(1)) {
-            len = len.saturating_add(line.len());
-            if !line.ends_with('\\') {
-                break;
+    /// What is said where no line is known: of a file as a whole, or of a variable that is passed in, the number is 0.
+    fn explain_whole(&self, problem: &TextProblem) -> Result<Explanation, AllocError> {
+        match problem {
+            TextProblem::Limit if self.number == 0 => {
+                self.say(TextMessage::FileLimit, texts!(), 0)
             }
+            TextProblem::BadCharacter if self.number == 0 => {
+                self.say(TextMessage::ValueCharacter, texts!(), 0)
+            }
+            _ => self.plain(problem.number()),
         }
-        len
     }
 
-    /// What is said of a character that is not allowed (K02).
-    fn explain_character(&self) -> Result<Explanation, AllocError> {
-        if self.number == 0 {
-            return self.say("its value has a line feed, a carriage return or a NUL", 0);
-        }
-        let (Some(spot), _) = find_faults(self.text, self.number) else {
-            return self.plain(2);
+    /// Where the reading of joined lines stops for a reason, and their text from there on.
+    fn stop<'f>(&self, found: &'f Found<'_>, kind: StopKind) -> Option<(Spot, &'f str)> {
+        let stop = found.stop(kind)?;
+        let before = found.text().len().saturating_sub(stop.len());
+        Some((spot_after(self.text, self.number, before)?, stop))
+    }
+
+    /// What is said of a character that is not allowed (K02), or of a quote that its line does not close (K03).
+    fn explain_character(
+        &self,
+        found: &Found<'_>,
+        kind: StopKind,
+    ) -> Result<Explanation, AllocError> {
+        let (message, fault) = match kind {
+            StopKind::UnclosedQuote => (TextMessage::UnclosedQuote, 3),
+            _ => (TextMessage::Character, 2),
         };
-        let mut words = String::new(self.alloc);
-        push_character(&mut words, spot.character)?;
-        self.say_column(words, spot)
-    }
-
-    /// What is said of a quote that its line does not close (K03).
-    fn explain_quote(&self) -> Result<Explanation, AllocError> {
-        let (_, Some(spot)) = find_faults(self.text, self.number) else {
-            return self.plain(3);
+        let Some((spot, stop)) = self.stop(found, kind) else {
+            return self.plain(fault);
         };
-        let mut words = String::from_str(self.alloc, "no ")?;
-        push_character(&mut words, spot.character)?;
-        words.push_str(" closes the one")?;
-        self.say_column(words, spot)
-    }
-
-    /// Words, with where in its line a character is, and which line that is if it is joined with this one.
-    fn say_column(&self, words: String, spot: Spot) -> Result<Explanation, AllocError> {
-        let mut words = words;
-        let column = spot.column;
-        write!(words, " in column {column}")?;
-        if spot.line != self.number {
-            let line = spot.line;
-            write!(words, " of line {line}")?;
-        }
-        self.say(words.as_str(), spot.line)
+        let mut text = String::new(self.alloc);
+        push_character(&mut text, stop)?;
+        let place = self.place_words(spot)?;
+        let texts = texts!(text: text.as_str(), place: place.as_str());
+        self.say(message, texts, spot.line)
     }
 
     /// What is said of a dollar that begins no reference (K10).
-    fn explain_dollar(&self) -> Result<Explanation, AllocError> {
-        let alloc = self.alloc;
-        let line = line_of(self.text, self.number);
-        let words = match bad_dollar(line) {
-            Some((Dollar::Function(name), _)) => {
-                format!(in alloc;
-                    "the function `{name}` is not run: expand the tree first, see docs/TREES.md"
-                )?
-            }
-            Some((Dollar::Reserved(name), column)) => {
-                format!(in alloc;
-                    "`$({name})` in column {column} is no reference: no variable has this name"
-                )?
-            }
-            Some((_, column)) => {
-                format!(in alloc;
-                    "the dollar in column {column} begins no reference: write $(NAME), or \\$ in quotes for a plain dollar, and expand a tree with functions first, see docs/TREES.md"
-                )?
-            }
-            None => {
-                let names = names_used_in(alloc, line)?;
-                let [name] = names.as_slice() else {
-                    return self.plain(10);
-                };
-                format!(in alloc;
-                    "the text of `{name}`, or of a variable in it, has a dollar that begins no reference"
-                )?
-            }
+    fn explain_dollar(&self, found: &Found<'_>) -> Result<Explanation, AllocError> {
+        let Some((spot, stop)) = self.stop(found, StopKind::BadReference) else {
+            return self.explain_expanded(found);
         };
-        self.say(words.as_str(), self.number)
+        let (message, name) = match dollar_of(stop.get(1..).unwrap_or("")) {
+            Dollar::Function(name) => (TextMessage::Function, name),
+            Dollar::Reserved(name) => (TextMessage::ReservedName, name),
+            Dollar::Reference(_) | Dollar::Other => (TextMessage::Dollar, ""),
+        };
+        let place = self.place_words(spot)?;
+        self.say(
+            message,
+            texts!(name: name, place: place.as_str()),
+            spot.line,
+        )
+    }
+
+    /// What is said of a dollar that begins no reference in the text of a variable (K10).
+    fn explain_expanded(&self, found: &Found<'_>) -> Result<Explanation, AllocError> {
+        let names = found.names(self.alloc)?;
+        let [name] = names.as_slice() else {
+            return self.plain(10);
+        };
+        self.say(
+            TextMessage::DollarOfVariable,
+            texts!(name: name),
+            self.number,
+        )
+    }
+
+    /// Where in its line a character is, and which line that is if it is joined with this one.
+    fn place_words(&self, spot: Spot) -> Result<String, AllocError> {
+        let Spot { line, column } = spot;
+        let message = if line == self.number {
+            TextMessage::InColumn
+        } else {
+            TextMessage::InColumnOfLine
+        };
+        words_of(
+            self.alloc,
+            message.row(),
+            &texts!(number: column, line: line),
+        )
     }
 }

@@ -2,17 +2,18 @@
 
 use crate::indentation::{help_indentation, indentation, line_of};
 use crate::lines::Suspect;
+use crate::messages::LineMessage;
 use crate::nearest::nearest_keyword;
+use crate::piece::texts;
 use crate::said::Said;
-use crate::spelling::token_text;
+use crate::spelling::tokens_text;
 use kc_text::Token;
-use std::alloc::{AllocError, Global};
 
 /// How a line after a help text is indented.
-#[derive(Drop)]
+#[derive(Clone, Copy)]
 struct AfterHelp {
     /// The number of the `help` line.
-    number: usize,
+    line: usize,
     /// The indentation of the `help` line, of the text after it, and of the line.
     of_help: usize,
     of_text: usize,
@@ -21,24 +22,16 @@ struct AfterHelp {
 
 /// What is said of a line that begins with no known word, by the text of its file.
 pub(crate) fn explain_unknown(suspect: &Suspect<'_, '_, '_>, text: &str) -> Said {
-    let alloc = suspect.statements.alloc;
-    let Some(token) = suspect.line.tokens().first() else {
-        return suspect.say("the line has no word");
+    let first = suspect.line.tokens().get(..1).unwrap_or(&[]);
+    let message = match first.first() {
+        Some(Token::Word(word)) => return explain_word(suspect, word.as_str(), text),
+        Some(Token::Operator(_)) => LineMessage::NoKeyword,
+        Some(Token::Quoted(_)) => LineMessage::QuotedKeyword,
+        Some(Token::Expanded(_)) => LineMessage::ExpandedKeyword,
+        None => LineMessage::NoWord,
     };
-    let word = token_text(alloc, token)?;
-    let words = match token {
-        Token::Word(word) => word_words(alloc, word.as_str(), after_help(suspect, text))?,
-        Token::Operator(_) => format!(in alloc; "`{word}` begins no statement")?,
-        Token::Quoted(_) => {
-            format!(in alloc; "{word} begins no statement, as a text in quotes is no keyword")?
-        }
-        Token::Expanded(_) => {
-            format!(in alloc;
-                "`{word}` begins no statement, as a word with a reference is no keyword"
-            )?
-        }
-    };
-    suspect.say(words.as_str())
+    let word = tokens_text(suspect.statements.alloc, first)?;
+    suspect.say(message.row(), &texts!(word: word.as_str()))
 }
 
 /// How a line is indented, where a help text is before it in the same file and it is indented less than that.
@@ -50,7 +43,7 @@ fn after_help(suspect: &Suspect<'_, '_, '_>, text: &str) -> Option<AfterHelp> {
     }
     let number = help.number();
     let after = AfterHelp {
-        number,
+        line: number,
         of_help: indentation(line_of(text, number)),
         of_text: help_indentation(text, number)?,
         of_line: indentation(line_of(text, line.number())),
@@ -60,34 +53,23 @@ fn after_help(suspect: &Suspect<'_, '_, '_>, text: &str) -> Option<AfterHelp> {
 
 /// What is said of an unknown word. After a help text it is one of that text, unless it is near a keyword and indented as
 /// `help` is.
-fn word_words(
-    alloc: Global,
-    word: &str,
-    after_help: Option<AfterHelp>,
-) -> Result<String, AllocError> {
-    let mut words = format!(in alloc; "`{word}` begins no statement")?;
-    if word == "allnoconfig_y" {
-        words.push_str("; did you mean `option allnoconfig_y`?")?;
-        return Ok(words);
-    }
-    match (nearest_keyword(word), after_help) {
-        (Some(keyword), None) => write!(words, "; did you mean `{keyword}`?")?,
-        (Some(keyword), Some(after)) if after.of_line == after.of_help => {
-            write!(words, "; did you mean `{keyword}`?")?;
+fn explain_word(suspect: &Suspect<'_, '_, '_>, word: &str, text: &str) -> Said {
+    let after = after_help(suspect, text);
+    let wanted = match nearest_keyword(word) {
+        _ if word == "allnoconfig_y" => Some("option allnoconfig_y"),
+        Some(_) if after.is_some_and(|after| after.of_line != after.of_help) => None,
+        nearest => nearest,
+    };
+    match (wanted, after) {
+        (Some(wanted), _) => {
+            let texts = texts!(word: word, wanted: wanted);
+            suspect.say(LineMessage::Misspelt.row(), &texts)
         }
-        (_, Some(after)) => push_help(&mut words, &after)?,
-        (None, None) => {}
+        (None, Some(after)) => {
+            let (number, second) = (after.of_line, after.of_text);
+            let texts = texts!(word: word, line: after.line, number: number, second: second);
+            suspect.say(LineMessage::AfterHelp.row(), &texts)
+        }
+        (None, None) => suspect.say(LineMessage::NoKeyword.row(), &texts!(word: word)),
     }
-    Ok(words)
-}
-
-/// Adds how the line and the help text before it are indented.
-fn push_help(words: &mut String, after: &AfterHelp) -> Result<(), AllocError> {
-    let number = after.number;
-    let of_line = after.of_line;
-    let of_text = after.of_text;
-    write!(
-        words,
-        "; the line is indented by {of_line}, the help text of line {number} by {of_text}, so that ended"
-    )
 }

@@ -1,6 +1,8 @@
 //! What is said of a word or a form that is unsupported (K20).
 
 use crate::lines::Suspect;
+use crate::messages::FormMessage;
+use crate::piece::texts;
 use crate::said::{Said, Unsaid};
 use crate::spelling::{first_word, tokens_text};
 use kc_statement::{Keyword, is_word, read_keyword};
@@ -39,11 +41,18 @@ pub(crate) fn explain_unsupported(suspect: &Suspect<'_, '_, '_>) -> Said {
         Keyword::Unsupported => fixed_words(suspect, tokens.get(..1).unwrap_or(&[])),
         Keyword::Option => fixed_words(suspect, tokens.get(..2).unwrap_or(&[])),
         Keyword::Depends => condition_words(suspect, rest),
-        Keyword::Choice if !rest.is_empty() => named_words(suspect, rest),
+        Keyword::Choice if !rest.is_empty() => {
+            let name = tokens_text(suspect.statements.alloc, rest)?;
+            suspect.say(FormMessage::NamedChoice.row(), &texts!(text: name.as_str()))
+        }
         _ if starts_unquoted(rest) && keyword.wants_quotes() => {
             unquoted_words(suspect, keyword, rest)
         }
-        Keyword::Tristate if suspect.owner() == Some(Keyword::Choice) => of_choice(suspect),
+        Keyword::Tristate if suspect.owner() == Some(Keyword::Choice) => {
+            let choice = suspect.statements.statement_before(suspect.at);
+            let choice = choice.ok_or(Unsaid::Nothing)?;
+            suspect.say_after(FormMessage::TristateOfChoice.row(), &texts!(), choice)
+        }
         Keyword::Menu | Keyword::Choice => in_choice(suspect),
         _ => Err(Unsaid::Nothing),
     }
@@ -56,38 +65,35 @@ fn starts_unquoted(tokens: &[Token<'_>]) -> bool {
 
 /// What is said of words that are unsupported.
 fn fixed_words(suspect: &Suspect<'_, '_, '_>, tokens: &[Token<'_>]) -> Said {
-    let alloc = suspect.statements.alloc;
-    let text = tokens_text(alloc, tokens)?;
+    let text = tokens_text(suspect.statements.alloc, tokens)?;
     let text = text.as_str();
-    let (_, advice) = WORDS
-        .iter()
-        .find(|row| row.0 == text)
-        .ok_or(Unsaid::Nothing)?;
-    let words = format!(in alloc; "`{text}` is unsupported: {advice}")?;
-    suspect.say(words.as_str())
+    let form = form_for(text).ok_or(Unsaid::Nothing)?;
+    suspect.say(
+        FormMessage::UnsupportedWord.row(),
+        &texts!(text: text, form: form),
+    )
 }
 
-/// What is said of a choice with a name.
-fn named_words(suspect: &Suspect<'_, '_, '_>, name: &[Token<'_>]) -> Said {
-    let alloc = suspect.statements.alloc;
-    let name = tokens_text(alloc, name)?;
-    let words = format!(in alloc; "a choice with the name `{name}`: write `choice` alone")?;
-    suspect.say(words.as_str())
+/// What to write in place of words that are unsupported.
+fn form_for(text: &str) -> Option<&'static str> {
+    for (words, form) in &WORDS {
+        if *words == text {
+            return Some(*form);
+        }
+    }
+    None
 }
 
 /// What is said of a condition of `depends on`, where there is one.
 fn condition_words(suspect: &Suspect<'_, '_, '_>, rest: &[Token<'_>]) -> Said {
-    let alloc = suspect.statements.alloc;
     let mut parts = rest.splitn(2, |token| is_word(token, "if"));
     let (Some(needed), Some(condition)) = (parts.next(), parts.next()) else {
         return Err(Unsaid::Nothing);
     };
-    let needed = tokens_text(alloc, needed)?;
-    let condition = tokens_text(alloc, condition)?;
-    let words = format!(in alloc;
-        "a condition of `depends on`: depends {needed} || !({condition})"
-    )?;
-    suspect.say(words.as_str())
+    let needed = tokens_text(suspect.statements.alloc, needed)?;
+    let condition = tokens_text(suspect.statements.alloc, condition)?;
+    let texts = texts!(text: needed.as_str(), other: condition.as_str());
+    suspect.say(FormMessage::ConditionOfDepends.row(), &texts)
 }
 
 /// What is said of a prompt, a title or a path without quotes.
@@ -95,8 +101,7 @@ fn unquoted_words(suspect: &Suspect<'_, '_, '_>, keyword: Keyword, rest: &[Token
     let alloc = suspect.statements.alloc;
     let word = first_word(suspect.line);
     if rest.first().is_some_and(|token| is_word(token, "if")) {
-        let words = format!(in alloc; "`if` in place of a prompt: {word} \"prompt\" if ..")?;
-        return suspect.say(words.as_str());
+        return suspect.say(FormMessage::IfForPrompt.row(), &texts!(word: word));
     }
     let kind = match keyword {
         Keyword::Menu | Keyword::Comment | Keyword::MainMenu => "title",
@@ -105,33 +110,21 @@ fn unquoted_words(suspect: &Suspect<'_, '_, '_>, keyword: Keyword, rest: &[Token
     };
     let mut parts = rest.splitn(2, |token| is_word(token, "if"));
     let text = tokens_text(alloc, parts.next().unwrap_or(rest))?;
-    let mut words = format!(in alloc; "a {kind} without quotes: {word} \"{text}\"")?;
-    if let Some(condition) = parts.next() {
-        let condition = tokens_text(alloc, condition)?;
-        write!(words, " if {condition}")?;
-    }
-    suspect.say(words.as_str())
-}
-
-/// What is said of `tristate` as an attribute of a choice.
-fn of_choice(suspect: &Suspect<'_, '_, '_>) -> Said {
-    let choice = suspect
-        .statements
-        .statement_before(suspect.at)
-        .ok_or(Unsaid::Nothing)?;
-    let words = "`tristate` of a choice is unsupported: write `bool`, or `prompt` alone";
-    suspect.say_after(words, choice)
+    let texts = texts!(kind: kind, word: word, text: text.as_str());
+    let Some(condition) = parts.next() else {
+        return suspect.say(FormMessage::Unquoted.row(), &texts);
+    };
+    let condition = tokens_text(alloc, condition)?;
+    let texts = texts!(other: condition.as_str(), ..texts);
+    suspect.say(FormMessage::UnquotedIf.row(), &texts)
 }
 
 /// What is said of a menu or a choice in a choice, and nothing outside one.
 fn in_choice(suspect: &Suspect<'_, '_, '_>) -> Said {
-    let alloc = suspect.statements.alloc;
-    let number = suspect
-        .statements
-        .choice(suspect.at)
-        .ok_or(Unsaid::Nothing)?;
-    let line = suspect.statements.get(number)?.number();
-    let text = tokens_text(alloc, suspect.line.tokens())?;
-    let words = format!(in alloc; "`{text}` is inside the choice of line {line}")?;
-    suspect.say_after(words.as_str(), number)
+    let choice = suspect.statements.choice(suspect.at);
+    let choice = choice.ok_or(Unsaid::Nothing)?;
+    let line = suspect.statements.get(choice)?.number();
+    let text = tokens_text(suspect.statements.alloc, suspect.line.tokens())?;
+    let texts = texts!(text: text.as_str(), line: line);
+    suspect.say_after(FormMessage::InChoice.row(), &texts, choice)
 }

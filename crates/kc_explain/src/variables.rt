@@ -1,16 +1,14 @@
 //! What is said of a variable that its own expansion needs (K11).
 
-use crate::indentation::line_of;
+use crate::items::{Definitions, Found};
+use crate::messages::TextMessage;
+use crate::piece::{texts, words_of};
 use crate::texts::TextLine;
-use kc_facts::{Explanation, is_variable_byte, references_in, value_references_in};
+use kc_facts::{Explanation, value_references_in};
 use std::alloc::{AllocError, Global};
-use std::collections::BTreeMap;
 
 /// The most variables that are followed from one line.
 const MOST_FOLLOWED: usize = 4_096;
-
-/// The last definitions before a line, by the names of their variables: the number of the line and the text.
-type Definitions<'t> = BTreeMap<&'t str, (usize, &'t str)>;
 
 /// A variable that is followed, with the references in its text that are left to follow, the next one last.
 #[derive(Drop)]
@@ -21,14 +19,17 @@ struct Step<'t> {
 
 /// What is said of a variable in a line that its own expansion needs, by the definitions before that in the same file:
 /// the variable, and the lines by which it comes to itself.
-pub(crate) fn explain_ring(line: &TextLine<'_>) -> Result<Explanation, AllocError> {
+pub(crate) fn explain_ring(
+    line: &TextLine<'_>,
+    found: &Found<'_>,
+) -> Result<Explanation, AllocError> {
     let alloc = line.alloc;
-    let definitions = definitions_before(alloc, line.text, line.number)?;
-    for name in names_used_in(alloc, line_of(line.text, line.number))?.as_slice() {
-        let ring = ring_of(alloc, &definitions, name)?;
+    let names = found.names(alloc)?;
+    for name in names.as_slice() {
+        let ring = ring_of(alloc, &found.definitions, name)?;
         if let [first, ..] = ring.as_slice() {
-            let words = format!(in alloc; "`{first}` needs itself")?;
-            return name_ring(line, words, &definitions, ring.as_slice());
+            let words = words_of(alloc, TextMessage::NeedsItself.row(), &texts!(name: first))?;
+            return name_ring(line, words, &found.definitions, ring.as_slice());
         }
     }
     line.plain(11)
@@ -38,7 +39,7 @@ pub(crate) fn explain_ring(line: &TextLine<'_>) -> Result<Explanation, AllocErro
 fn name_ring(
     line: &TextLine<'_>,
     words: String,
-    definitions: &Definitions<'_>,
+    definitions: &Definitions,
     ring: &[&str],
 ) -> Result<Explanation, AllocError> {
     let mut explanation = Explanation::new(line.alloc, words);
@@ -51,49 +52,11 @@ fn name_ring(
     Ok(explanation)
 }
 
-/// The definitions in the lines of a text before the line of a number.
-fn definitions_before<'t>(
-    alloc: Global,
-    text: &'t str,
-    number: usize,
-) -> Result<Definitions<'t>, AllocError> {
-    let mut definitions = BTreeMap::new(alloc);
-    let lines = text.lines().take(number.saturating_sub(1));
-    for (index, line) in lines.enumerate() {
-        if let Some((name, value)) = definition_in(line) {
-            definitions.insert(name, (index.saturating_add(1), value))?;
-        }
-    }
-    Ok(definitions)
-}
-
-/// The names of the variables that a line refers to, in a value where it defines a variable.
-///
-/// # Errors
-///
-/// `AllocError` where memory is refused.
-pub(crate) fn names_used_in<'t>(alloc: Global, line: &'t str) -> Result<Vec<&'t str>, AllocError> {
-    match definition_in(line) {
-        Some((_, value)) => value_references_in(alloc, value),
-        None => references_in(alloc, line),
-    }
-}
-
-/// The name and the value that a line defines, where it has no blank in the name.
-fn definition_in(line: &str) -> Option<(&str, &str)> {
-    let (name, value) = line.split_once('=')?;
-    let name = name.strip_suffix(':').unwrap_or(name);
-    let name = name.strip_suffix('+').unwrap_or(name).trim();
-    name.bytes()
-        .all(|byte| is_variable_byte(byte))
-        .then_some((name, value))
-}
-
 /// The variables from a variable on that lead back to the first of them, each of which the text of the one before refers
 /// to. They are found as the expansion of the variable finds them; there are none where it does not, or after 4,096 steps.
 fn ring_of<'t>(
     alloc: Global,
-    definitions: &Definitions<'t>,
+    definitions: &'t Definitions,
     name: &'t str,
 ) -> Result<Vec<&'t str>, AllocError> {
     let mut path = Vec::new(alloc);
@@ -115,11 +78,11 @@ fn ring_of<'t>(
 /// A variable whose references are not followed yet.
 fn step_of<'t>(
     alloc: Global,
-    definitions: &Definitions<'t>,
+    definitions: &'t Definitions,
     name: &'t str,
 ) -> Result<Step<'t>, AllocError> {
     let mut left = match definitions.get(name) {
-        Some((_, text)) => value_references_in(alloc, text)?,
+        Some((_, value)) => value_references_in(alloc, value.as_str())?,
         None => Vec::new(alloc),
     };
     left.reverse();

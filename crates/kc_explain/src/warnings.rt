@@ -1,8 +1,10 @@
 //! What is said of the warnings of a `.config`.
 
 use crate::malformed::malformed_words;
+use crate::messages::ConfigMessage;
+use crate::piece::{Texts, texts, words_of};
 use crate::statements::{Definition, Statements};
-use kc_facts::{NamedLine, name_in, push_quoted, shown_line, type_words};
+use kc_facts::{MeantNames, NamedLine, name_in, push_meant, push_quoted, shown_line, type_words};
 use kc_files::{Warning, WarningKind};
 use kc_statement::SymbolType;
 use kc_text::Line;
@@ -42,6 +44,7 @@ pub fn explain_warnings(
     let warned = warned_lines(alloc, prefix, config, warnings)?;
     let statements = Statements::read(alloc, lines)?;
     let types = types_of(&statements, warned.as_slice())?;
+    let meant = meant_names(&statements, warned.as_slice())?;
     let mut all = Vec::new(alloc);
     for warned in warned.as_slice() {
         let (kind, line) = match types.get(warned.line.name).copied().flatten() {
@@ -51,7 +54,11 @@ pub fn explain_warnings(
             ),
             None => (SymbolType::Bool, None),
         };
-        all.push(warning_words(alloc, prefix, warned, kind, line)?)?;
+        let mut words = warning_words(alloc, prefix, warned, kind, line)?;
+        if warned.kind == WarningKind::UndefinedSymbol {
+            push_meant(&mut words, meant.meant(prefix, warned.line.name))?;
+        }
+        all.push(words)?;
     }
     Ok(all)
 }
@@ -81,6 +88,21 @@ fn warned_lines<'c>(
         }
     }
     Ok(warned)
+}
+
+/// The names of symbols that a name may have been meant as, if a line names no symbol, and else none.
+fn meant_names<'l>(
+    statements: &Statements<'l, '_>,
+    warned: &[Warned<'_>],
+) -> Result<MeantNames<'l>, AllocError> {
+    let mut names = Vec::new(statements.alloc);
+    let is_needed = warned
+        .iter()
+        .any(|warned| warned.kind == WarningKind::UndefinedSymbol);
+    for definition in statements.definitions.iter().filter(|_| is_needed) {
+        names.push(definition.name)?;
+    }
+    MeantNames::of(statements.alloc, names)
 }
 
 /// The types of the symbols that lines of a `.config` name. The lines of the Kconfig are read once.
@@ -125,43 +147,43 @@ fn warning_words(
     kind: SymbolType,
     line: Option<&Line<'_>>,
 ) -> Result<String, AllocError> {
-    let name = warned.line.name;
-    let before = warned.before;
+    let texts = texts!(name: warned.line.name, prefix: prefix, line: warned.before);
     match (warned.kind, line) {
-        (WarningKind::UndefinedSymbol, _) => format!(in alloc; "no symbol is named {name}"),
-        (WarningKind::BadValue, Some(line)) => value_words(alloc, &warned.line, kind, line),
-        (WarningKind::BadString, Some(line)) => string_words(alloc, prefix, &warned.line, line),
-        (WarningKind::Repeated, _) => {
-            format!(in alloc; "{name} has a usable line before, line {before}; this one counts")
+        (WarningKind::UndefinedSymbol, _) => {
+            words_of(alloc, ConfigMessage::UndefinedName.row(), &texts)
         }
+        (WarningKind::BadValue | WarningKind::BadString, Some(line)) => {
+            let texts = texts!(path: line.path(), line: line.number(), ..texts);
+            value_words(alloc, warned, kind, texts)
+        }
+        (WarningKind::Repeated, _) => words_of(alloc, ConfigMessage::Repeated.row(), &texts),
         (WarningKind::Malformed | WarningKind::BadValue | WarningKind::BadString, _) => {
             malformed_words(alloc, prefix, warned.line.text)
         }
     }
 }
 
-/// What is said of a value that its symbol does not take.
+/// What is said of a value that its symbol does not take, or of that of a string that is no text in quotes.
 fn value_words(
     alloc: Global,
-    named: &NamedLine<'_>,
-    symbol_type: SymbolType,
-    line: &Line<'_>,
+    warned: &Warned<'_>,
+    kind: SymbolType,
+    texts: Texts<'_>,
 ) -> Result<String, AllocError> {
-    let name = named.name;
-    let kind = type_words(symbol_type);
-    let values = values_of(symbol_type);
-    let path = line.path();
-    let number = line.number();
-    let mut words = format!(in alloc; "{name} is {kind} ({path}:{number}), which takes {values}")?;
-    match named.value {
-        None => words.push_str(", not `is not set`")?,
-        Some("") => words.push_str(", not an empty value")?,
-        Some(value) => {
-            let value = shown_line(value);
-            write!(words, ", not {value}")?;
+    let mut quoted = String::new(alloc);
+    let spelt = warned.line.value.unwrap_or("");
+    push_quoted(&mut quoted, shown_line(spelt))?;
+    let (message, value) = match (warned.kind, warned.line.value, spelt.strip_prefix('"')) {
+        (WarningKind::BadString, _, Some(open)) => {
+            (ConfigMessage::UnclosedString, shown_line(open))
         }
-    }
-    Ok(words)
+        (WarningKind::BadString, _, None) => (ConfigMessage::BareString, quoted.as_str()),
+        (_, None, _) => (ConfigMessage::NotSet, ""),
+        (_, Some(""), _) => (ConfigMessage::EmptyValue, ""),
+        (_, Some(value), _) => (ConfigMessage::UnfitValue, shown_line(value)),
+    };
+    let texts = texts!(kind: type_words(kind), list: values_of(kind), value: value, ..texts);
+    words_of(alloc, message.row(), &texts)
 }
 
 /// The values that a type takes.
@@ -173,28 +195,4 @@ fn values_of(kind: SymbolType) -> &'static str {
         SymbolType::Int => "a decimal number of 64 bits",
         SymbolType::Hex => "a hexadecimal number of 64 bits",
     }
-}
-
-/// What is said of the value of a string that is no text in quotes.
-fn string_words(
-    alloc: Global,
-    prefix: &str,
-    named: &NamedLine<'_>,
-    line: &Line<'_>,
-) -> Result<String, AllocError> {
-    let name = named.name;
-    let path = line.path();
-    let number = line.number();
-    let value = named.value.unwrap_or("");
-    if let Some(open) = value.strip_prefix('"') {
-        let open = shown_line(open);
-        return format!(in alloc;
-            "no `\"` ends the text of the string {name} ({path}:{number}); write {prefix}{name}=\"{open}\""
-        );
-    }
-    let mut words = format!(in alloc;
-        "{name} is a string ({path}:{number}); write {prefix}{name}="
-    )?;
-    push_quoted(&mut words, shown_line(value))?;
-    Ok(words)
 }
