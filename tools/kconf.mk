@@ -13,7 +13,8 @@
 #     KCONFIG_FRAGMENTS  the fragments: files with some lines of a .config, the most specific last (none)
 #     KCONFIG_FOLDER     the directory of KCONFIG and of the files that it sources, as kconf's -C (that of the makefile)
 #     KCONFIG_WORDS      words and options of kconf, as ARCH=x86, --variables FILE, --prefix P (none)
-#     KCONFIG_STRICT     y: checkconfig fails on a finding, mergeconfig and defconfig on a line without effect (none)
+#     KCONFIG_STRICT     y: checkconfig fails on a finding of the .config, mergeconfig and defconfig on a line without
+#                        effect (none)
 #     KCONFIG_MENU       the menu (menuconfig.py in the directory of this file, or in clients of a checkout of kconf)
 #
 # Targets that a user calls:

@@ -7,7 +7,7 @@ _kconf() {
     local options="--variables -C --prefix --explain --help"
     case ${COMP_WORDS[1]} in
         why) options+=" --all" ;;
-        check) options+=" --undefined --strict" ;;
+        check) options+=" --undefined --strict --tree" ;;
         merge) options+=" --strict" ;;
         menu) options+=" --no-help" ;;
     esac

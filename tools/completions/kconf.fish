@@ -49,6 +49,7 @@ complete -c kconf -n "__kconf_target $named" -l prefix -x -d 'what precedes the 
 complete -c kconf -n "__kconf_target $named" -l explain -d 'explain each warning and error'
 complete -c kconf -n '__kconf_target why' -l all -d 'show the whole of each list'
 complete -c kconf -n '__kconf_target check' -l undefined -d 'list all undefined names'
-complete -c kconf -n '__kconf_target check' -l strict -d 'make the status 1 where there is a finding'
+complete -c kconf -n '__kconf_target check' -l strict -d 'make the status 1 where there is a finding of CONFIG'
+complete -c kconf -n '__kconf_target check' -l tree -d 'judge the Kconfig, too'
 complete -c kconf -n '__kconf_target merge' -l strict -d 'make the status 1 where a line has no effect'
 complete -c kconf -n '__kconf_target menu' -l no-help -d 'write no help texts'

@@ -3,17 +3,18 @@
 use crate::config_findings::config_findings;
 use crate::finding::Findings;
 use crate::inputs::{CheckInputs, Extent};
-use crate::missing_variables::MissingVariables;
 use crate::tree_findings::tree_findings;
 use crate::variables::Variables;
 use kc_facts::{LineIndex, View};
 use kc_files::ReadFault;
+use kc_text::Text;
 use std::alloc::Global;
 
-/// What is likely a mistake in a tree and a `.config` (this project's own): in the order of the lines, of the tree
-/// variables that nobody gave, where they are used first, names that no line defines, selects without effect, defaults
-/// and ranges that can't be meant, and symbols that are selected while their dependencies are n; then of the `.config`
-/// the lines that can't be used and those without effect; and last given variables that no file uses.
+/// What is likely a mistake in a tree and a `.config` (this project's own). Of the `.config` these are the lines that
+/// can't be used, those that take the place of others, those without effect, and comments that are meant as lines. Of the
+/// tree they are, in the order of the lines, variables that nobody gave, where they are used first, names that no line
+/// defines, conditions that are always n, selects without effect, defaults and ranges that can't be meant, and symbols
+/// that are selected for more than their dependencies are worth; and last given variables that no file uses.
 ///
 /// # Errors
 ///
@@ -27,11 +28,28 @@ pub fn check(
     extent: Extent,
 ) -> Result<Findings, ReadFault> {
     let variables = Variables::of(alloc, inputs.sources)?;
-    let mut missing = MissingVariables::new(alloc, &variables, inputs)?;
-    let mut findings = tree_findings(alloc, view, index, inputs, &mut missing, extent)?;
+    let mut findings = Findings {
+        config: None,
+        of_config: Vec::new(alloc),
+        of_tree: Vec::new(alloc),
+        unlisted: 0,
+    };
     if let Some(config) = inputs.config {
-        config_findings(alloc, view, index, inputs, config, &mut findings.all)?;
+        findings.config = Some(Text::copy_of(alloc, config.path)?);
+        config_findings(alloc, view, index, inputs, config, &mut findings.of_config)?;
     }
-    variables.add_unused(alloc, inputs.given, &mut findings.all)?;
+    if view.tree().symbols().is_empty() {
+        variables.add_exchanged(alloc, &mut findings.of_tree)?;
+    }
+    tree_findings(
+        alloc,
+        view,
+        index,
+        inputs,
+        &variables,
+        extent,
+        &mut findings,
+    )?;
+    variables.add_unused(alloc, inputs.given, &mut findings.of_tree)?;
     Ok(findings)
 }

@@ -2,15 +2,16 @@
 
 use crate::finding::Finding;
 use crate::inputs::CheckInputs;
+use crate::meant_lines::{character_without_backslash, name_meant_unset};
 use crate::replaced::{Replaced, assign_at};
 use crate::selections::push_bracketed;
 use crate::shown_values::{has_no_value, push_asked, push_value};
 use kc_facts::{
     Attribute, Family, FragmentLine, FragmentLines, Input, LineIndex, NamedLine, Outcome, Part,
-    View, outcomes_of, push_shortfall, read_fragments, shown_line,
+    View, name_in, outcomes_of, push_shortfall, read_fragments, shown_line,
 };
 use kc_files::{Assign, LineSays, ReadFault};
-use kc_tree::{ChoiceId, SymId, Tree};
+use kc_tree::{ChoiceId, SymId, SymbolType, Tree};
 use kc_value::{Reason, active_range, reason_over, spelled};
 use std::alloc::{AllocError, Global};
 
@@ -36,12 +37,13 @@ pub(crate) fn config_findings(
     let report = Report {
         view,
         line_index: index,
+        prefix: inputs.prefix.as_str(),
         path: config.path,
         lines: read.lines.as_slice(),
         outcomes: outcomes.as_slice(),
         replaced,
     };
-    report.add(alloc, &read, inputs.unusable, found)?;
+    report.add(alloc, config.bytes, &read, inputs.unusable, found)?;
     Ok(())
 }
 
@@ -50,6 +52,7 @@ pub(crate) fn config_findings(
 struct Report<'r, 's, 'l, 'a> {
     view: &'r View<'s>,
     line_index: &'r LineIndex<'l, 'a>,
+    prefix: &'r str,
     path: &'r str,
     lines: &'r [FragmentLine],
     outcomes: &'r [Outcome],
@@ -57,25 +60,92 @@ struct Report<'r, 's, 'l, 'a> {
 }
 
 impl Report<'_, '_, '_, '_> {
-    /// Adds what is found in each line.
+    /// Adds what is found in each line of the bytes.
     fn add(
         &self,
         alloc: Global,
+        bytes: &[u8],
         read: &FragmentLines<'_>,
         unusable: &[String],
         found: &mut Vec<Finding>,
     ) -> Result<(), AllocError> {
         let mut left = read.unusable.iter().zip(unusable);
-        for (index, line) in self.lines.iter().enumerate() {
-            let number = line.line.number;
+        let mut index = 0usize;
+        for (before, text) in bytes.split(|byte| *byte == b'\n').enumerate() {
+            let number = before.saturating_add(1);
+            let Some(line) = self.line_at(index, number) else {
+                self.add_comment(alloc, number, text, found)?;
+                continue;
+            };
             match &line.line.says {
-                LineSays::Usable(assign) => self.add_usable(alloc, index, number, assign, found)?,
+                LineSays::Usable(assign) => {
+                    self.add_usable(alloc, index, number, assign, found)?;
+                    self.add_dropped(alloc, number, text, assign, found)?;
+                }
                 LineSays::Warned(_) => {
                     if let Some((named, words)) = left.next() {
                         self.add_unusable(alloc, number, named, words.as_str(), found)?;
                     }
                 }
             }
+            index = index.saturating_add(1);
+        }
+        Ok(())
+    }
+
+    /// The line of an index, if it has a number.
+    fn line_at(&self, index: usize, number: usize) -> Option<&FragmentLine> {
+        let line = self.lines.get(index)?;
+        (line.line.number == number).then_some(line)
+    }
+
+    /// Adds that a line is a comment, which is likely meant as one that sets a bool or a tristate to n.
+    fn add_comment(
+        &self,
+        alloc: Global,
+        number: usize,
+        text: &[u8],
+        found: &mut Vec<Finding>,
+    ) -> Result<(), AllocError> {
+        let tree = self.view.tree();
+        let prefix = self.prefix;
+        let Some(name) = name_meant_unset(prefix, text) else {
+            return Ok(());
+        };
+        if tree
+            .find(name)
+            .is_some_and(|symbol| tree.symbol_type(symbol).is_tri())
+        {
+            let words = format!(in alloc;
+                "a comment, which sets nothing; write # {prefix}{name} is not set"
+            )?;
+            found.push(Finding::in_line(alloc, self.path, number, name, words)?)?;
+        }
+        Ok(())
+    }
+
+    /// Adds that a text in quotes loses a backslash.
+    fn add_dropped(
+        &self,
+        alloc: Global,
+        number: usize,
+        text: &[u8],
+        assign: &Assign,
+        found: &mut Vec<Finding>,
+    ) -> Result<(), AllocError> {
+        let tree = self.view.tree();
+        if tree.symbol_type(assign.symbol) != SymbolType::String {
+            return Ok(());
+        }
+        let value = name_in(self.prefix, text).value.unwrap_or("");
+        if let Some(character) = character_without_backslash(value) {
+            let mut words = String::from_str(alloc, "`\\")?;
+            words.push(character)?;
+            words.push_str("` is read as `")?;
+            words.push(character)?;
+            words.push_str("`; write `\\\\` for a backslash")?;
+            let name = tree.name(assign.symbol);
+            found.push(Finding::in_line(alloc, self.path, number, name, words)?)?;
         }
         Ok(())
     }

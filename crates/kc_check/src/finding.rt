@@ -90,45 +90,93 @@ impl Finding {
     }
 }
 
-/// What is found in a tree and a `.config`, in its order, and how many names are defined nowhere and not listed.
+/// Which findings are judged.
+#[derive(Clone, Copy, Debug, PartialEq, Eq)]
+pub enum Judged {
+    /// Those of the `.config`; without one, all.
+    Config,
+    /// All.
+    All,
+}
+
+/// What is found in a tree and a `.config`, and how many names are defined nowhere and not listed.
 #[derive(Debug, Drop)]
 pub struct Findings {
-    pub all: Vec<Finding>,
+    /// The path of the `.config`, if one was checked.
+    pub config: Option<Text>,
+    /// What is found in the `.config`, in the order of its lines.
+    pub of_config: Vec<Finding>,
+    /// What is found in the tree, in the order in which its lines are read, and then in what was given.
+    pub of_tree: Vec<Finding>,
     /// How many names that are defined nowhere are in no finding.
     pub unlisted: usize,
 }
 
 impl Findings {
-    /// The lines of the findings, and a last line with their count.
+    /// The lines of the findings, those of the `.config` first, and a last line with their count.
     ///
     /// # Errors
     ///
     /// `AllocError` where memory is refused.
     pub fn to_text(&self, alloc: Global) -> Result<String, AllocError> {
         let mut text = String::new(alloc);
-        for finding in &self.all {
-            finding.push_line(&mut text)?;
-        }
-        push_count(&mut text, self.all.len(), self.unlisted)?;
+        push_lines(&mut text, self.of_config.as_slice())?;
+        push_lines(&mut text, self.of_tree.as_slice())?;
+        self.push_counts(&mut text)?;
+        push_unlisted(&mut text, self.unlisted)?;
+        text.push('\n')?;
         Ok(text)
+    }
+
+    /// Whether there is a finding among those that are judged.
+    pub fn has_any(&self, judged: Judged) -> bool {
+        let is_config_alone = judged == Judged::Config && self.config.is_some();
+        !self.of_config.is_empty() || !is_config_alone && !self.of_tree.is_empty()
+    }
+
+    /// Adds how many findings there are, with a `.config` of each of the two.
+    fn push_counts(&self, text: &mut String) -> Result<(), AllocError> {
+        let in_tree = self.of_tree.len();
+        match &self.config {
+            Some(path) if self.has_any(Judged::All) => {
+                push_count(text, self.of_config.len())?;
+                text.push_str(" in ")?;
+                text.push_str(path.as_str())?;
+                match in_tree {
+                    0 => text.push_str(", none in the tree"),
+                    _ => write!(text, ", {in_tree} in the tree"),
+                }
+            }
+            _ => push_count(text, in_tree),
+        }
     }
 }
 
-/// Adds the last line: how many findings there are, and how many names that are defined nowhere are not among them.
-fn push_count(text: &mut String, findings: usize, unlisted: usize) -> Result<(), AllocError> {
-    match findings {
-        0 => text.push_str("no findings")?,
-        1 => text.push_str("1 finding")?,
-        _ => write!(text, "{findings} findings")?,
+/// Adds the lines of findings.
+fn push_lines(text: &mut String, findings: &[Finding]) -> Result<(), AllocError> {
+    for finding in findings {
+        finding.push_line(text)?;
     }
+    Ok(())
+}
+
+/// Adds a number of findings.
+fn push_count(text: &mut String, findings: usize) -> Result<(), AllocError> {
+    match findings {
+        0 => text.push_str("no findings"),
+        1 => text.push_str("1 finding"),
+        _ => write!(text, "{findings} findings"),
+    }
+}
+
+/// Adds how many names that are defined nowhere are not among the findings.
+fn push_unlisted(text: &mut String, unlisted: usize) -> Result<(), AllocError> {
     match unlisted {
-        0 => {}
-        1 => text.push_str(", 1 undefined name (--undefined lists it)")?,
+        0 => Ok(()),
+        1 => text.push_str(", 1 undefined name (--undefined lists it)"),
         _ => write!(
             text,
             ", {unlisted} undefined names (--undefined lists them)"
-        )?,
+        ),
     }
-    text.push('\n')?;
-    Ok(())
 }

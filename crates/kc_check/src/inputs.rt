@@ -31,7 +31,7 @@ pub struct CheckInputs<'a, 'l> {
 /// Which names that are defined nowhere are listed.
 #[derive(Clone, Copy, Debug, PartialEq, Eq)]
 pub enum Extent {
-    /// Those that are near a defined name, and those that begin with the prefix of names.
+    /// Those that are likely mistakes: near a defined name, with the prefix of names, or as the value of a symbol.
     Near,
     /// All.
     All,

@@ -4,12 +4,13 @@
 mod checking;
 mod config_findings;
 mod earlier_effects;
+mod entry_faults;
 mod finding;
 mod inputs;
+mod meant_lines;
 mod merge_lines;
 mod merging;
 mod missing_variables;
-mod near_names;
 mod replaced;
 mod selections;
 mod shown_values;
@@ -23,6 +24,7 @@ mod walk;
 
 pub use checking::check;
 pub use earlier_effects::{EffectsBefore, effects_before};
-pub use finding::{Finding, Findings, FoundAt};
+pub use entry_faults::without_strays;
+pub use finding::{Finding, Findings, FoundAt, Judged};
 pub use inputs::{CheckInputs, Extent, SourceText};
 pub use merging::{MergeReport, merge_report};

@@ -4,10 +4,10 @@ use crate::earlier_effects::{EffectsBefore, UsableLine};
 use crate::replaced::{Replaced, assign_at};
 use crate::shown_values::{push_asked, push_value};
 use kc_facts::{
-    FragmentLines, Input, MergeCounts, NamedLine, Outcome, View, push_shortfall, shown_line,
-    type_words,
+    FragmentLines, Input, MeantNames, MergeCounts, NamedLine, Outcome, View, push_meant,
+    push_shortfall, shown_line, symbol_names, type_words,
 };
-use kc_files::{Assign, LineSays, WarningKind};
+use kc_files::{Assign, LineSays, Prefix, WarningKind};
 use kc_tree::SymbolType;
 use kc_value::is_same_user_value;
 use std::alloc::{AllocError, Global};
@@ -16,13 +16,14 @@ use std::alloc::{AllocError, Global};
 #[derive(Drop)]
 pub(crate) struct MergeText<'r, 's, 'f> {
     pub view: &'r View<'s>,
+    pub prefix: &'r Prefix,
     pub fragments: &'r [Input<'f>],
     pub read: &'r FragmentLines<'f>,
     pub outcomes: &'r [Outcome],
     pub replaced: &'r Replaced,
 }
 
-impl MergeText<'_, '_, '_> {
+impl<'r> MergeText<'r, '_, '_> {
     /// The lines of the report on each line of the fragments, in their order.
     ///
     /// # Errors
@@ -30,13 +31,14 @@ impl MergeText<'_, '_, '_> {
     /// `AllocError` where memory is refused.
     pub fn written(&self, alloc: Global) -> Result<String, AllocError> {
         let mut left = self.read.unusable.iter();
+        let meant = self.meant_names(alloc)?;
         let got = self.lines_that_got(alloc)?;
         let mut text = String::new(alloc);
         for (index, line) in self.read.lines.iter().enumerate() {
             match &line.line.says {
                 LineSays::Warned(kind) => {
                     if let Some(named) = left.next() {
-                        self.push_unusable(&mut text, index, *kind, named)?;
+                        self.push_unusable(&mut text, index, *kind, named, &meant)?;
                     }
                 }
                 LineSays::Usable(assign) => {
@@ -47,6 +49,21 @@ impl MergeText<'_, '_, '_> {
             }
         }
         Ok(text)
+    }
+
+    /// The names of symbols that a name may have been meant as, if a line names no symbol, and else none.
+    fn meant_names(&self, alloc: Global) -> Result<MeantNames<'r>, AllocError> {
+        let is_needed = self.read.lines.iter().any(|line| {
+            matches!(
+                line.line.says,
+                LineSays::Warned(WarningKind::UndefinedSymbol)
+            )
+        });
+        if is_needed {
+            MeantNames::of(alloc, symbol_names(alloc, self.view.tree())?)
+        } else {
+            MeantNames::of(alloc, Vec::new(alloc))
+        }
     }
 
     /// By the number of a symbol, the line that gives it the value that it has.
@@ -97,6 +114,7 @@ impl MergeText<'_, '_, '_> {
         index: usize,
         kind: WarningKind,
         named: &NamedLine<'_>,
+        meant: &MeantNames<'_>,
     ) -> Result<(), AllocError> {
         self.push_at(text, index)?;
         text.push_str(": ")?;
@@ -110,6 +128,9 @@ impl MergeText<'_, '_, '_> {
             .find(named.name)
             .map(|symbol| self.view.tree().symbol_type(symbol));
         push_unusable_words(text, kind, named.value, kind_of)?;
+        if kind == WarningKind::UndefinedSymbol {
+            push_meant(text, meant.meant(self.prefix.as_str(), named.name))?;
+        }
         text.push('\n')?;
         Ok(())
     }

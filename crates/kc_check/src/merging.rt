@@ -58,6 +58,7 @@ pub fn merge_report(
     let counts = MergeCounts::of(outcomes.as_slice(), lost.len());
     let lines = MergeText {
         view,
+        prefix,
         fragments,
         read: &read,
         outcomes: outcomes.as_slice(),

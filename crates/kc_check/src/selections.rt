@@ -5,12 +5,12 @@ use crate::tokens::word_of;
 use crate::walk::Placed;
 use kc_facts::{
     Attribute, FactorLines, Family, LineIndex, Part, View, is_above, is_beyond, is_if, push_expr,
-    push_place, shown_line, worth_of_dependencies,
+    push_place, shown_line,
 };
 use kc_statement::Keyword;
 use kc_text::Line;
 use kc_tree::{Expr, Reverse, Symbol, Tree, Tri};
-use kc_value::{Factor, FactorPart, Origin, dependency_factors, reverse_value};
+use kc_value::{Factor, FactorPart, Origin, dependency_factors, dependency_tri, reverse_value};
 use std::alloc::{AllocError, Global};
 
 /// Adds that a `select` or an `imply` names a member of a choice, which passes it over (docs/VALUES.md).
@@ -79,10 +79,10 @@ pub(crate) fn check_selected(
     let Some(symbol) = tree.symbols().get(id.0 as usize) else {
         return Ok(());
     };
-    if symbol.definitions().first() != Some(&number) || !is_beyond(alloc, view, id)? {
+    if symbol.definitions().first() != Some(&number) || !is_beyond(view, id) {
         return Ok(());
     }
-    let worth = nearest_worth(alloc, view, symbol)?;
+    let worth = nearest_worth(view, symbol);
     let Some(place) = selection_above(view, symbol.selected(), worth.value) else {
         return Ok(());
     };
@@ -107,14 +107,14 @@ struct Worth {
 }
 
 /// Of the definitions of a symbol the one whose dependencies are worth most, the first of several.
-fn nearest_worth(alloc: Global, view: &View<'_>, symbol: &Symbol) -> Result<Worth, AllocError> {
+fn nearest_worth(view: &View<'_>, symbol: &Symbol) -> Worth {
     let definition = symbol.definitions().first().copied().unwrap_or(0);
     let mut nearest = Worth {
         definition,
         value: Tri::No,
     };
     for number in symbol.definitions() {
-        let value = worth_of_dependencies(alloc, view.known(), *number)?;
+        let value = dependency_tri(view.known(), *number);
         if is_above(value, nearest.value) {
             nearest = Worth {
                 definition: *number,
@@ -122,7 +122,7 @@ fn nearest_worth(alloc: Global, view: &View<'_>, symbol: &Symbol) -> Result<Wort
             };
         }
     }
-    Ok(nearest)
+    nearest
 }
 
 /// The place of the first of the `select` lines of a symbol that gives more than a value.

@@ -7,14 +7,15 @@ use crate::selections::{check_member, check_selected};
 use crate::undefined_names::UndefinedNames;
 use crate::unused_defaults::UnusedDefaults;
 use crate::values::{check_default, check_range};
+use crate::variables::Variables;
 use crate::walk::{Part, Placed, Walk};
 use kc_facts::{LineIndex, View};
 use kc_text::Line;
 use std::alloc::{AllocError, Global};
 use std::collections::BTreeSet;
 
-/// What is found in the lines of a tree, in their order, each finding once. Variables that are missing come before what
-/// else is found in their lines.
+/// Adds what is found in the lines of a tree, in their order, each finding once. Variables that are missing come before
+/// what else is found in their lines.
 ///
 /// # Errors
 ///
@@ -24,12 +25,15 @@ pub(crate) fn tree_findings(
     view: &View<'_>,
     index: &LineIndex<'_, '_>,
     inputs: &CheckInputs<'_, '_>,
-    missing: &mut MissingVariables<'_>,
+    variables: &Variables,
     extent: Extent,
-) -> Result<Findings, AllocError> {
+    findings: &mut Findings,
+) -> Result<(), AllocError> {
+    let tree = view.tree();
     let prefix = inputs.prefix.as_str();
-    let mut undefined = UndefinedNames::new(alloc, view.tree(), prefix, extent)?;
-    let mut unused = UnusedDefaults::of(alloc, view.tree(), index)?;
+    let mut missing = MissingVariables::new(alloc, variables, inputs)?;
+    let mut undefined = UndefinedNames::of(alloc, tree, inputs.lines, prefix, extent)?;
+    let mut unused = UnusedDefaults::of(alloc, tree, index)?;
     let mut walk = Walk::new();
     let mut all = Vec::new(alloc);
     for (number, line) in inputs.lines.iter().enumerate() {
@@ -37,11 +41,10 @@ pub(crate) fn tree_findings(
         missing.come_to(alloc, line, &mut all)?;
         check_part(alloc, view, index, line, &placed, &mut all)?;
         unused.check(alloc, inputs.lines, number, &placed, &mut all)?;
-        undefined.check(alloc, line, &placed, &mut all)?;
+        undefined.check(alloc, line, number, &placed, &mut all)?;
     }
-    let all = without_repeats(alloc, all)?;
-    let unlisted = undefined.unlisted();
-    Ok(Findings { all, unlisted })
+    findings.unlisted = undefined.unlisted();
+    add_once(alloc, all, &mut findings.of_tree)
 }
 
 /// Adds what is found in a line beside names that no line defines, and defaults that are never used.
@@ -65,11 +68,10 @@ fn check_part(
     }
 }
 
-/// Findings without those that an earlier one says, word for word: the lines of a file that is put in place twice have
-/// theirs twice.
-fn without_repeats(alloc: Global, all: Vec<Finding>) -> Result<Vec<Finding>, AllocError> {
+/// Adds findings without those that an earlier one says, word for word: the lines of a file that is put in place twice
+/// have theirs twice.
+fn add_once(alloc: Global, all: Vec<Finding>, once: &mut Vec<Finding>) -> Result<(), AllocError> {
     let mut said = BTreeSet::new(alloc);
-    let mut once = Vec::with_capacity(alloc, all.len())?;
     for finding in all {
         let mut line = String::new(alloc);
         finding.push_line(&mut line)?;
@@ -78,5 +80,5 @@ fn without_repeats(alloc: Global, all: Vec<Finding>) -> Result<Vec<Finding>, All
             once.push(finding)?;
         }
     }
-    Ok(once)
+    Ok(())
 }

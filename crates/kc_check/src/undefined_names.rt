@@ -2,11 +2,10 @@
 
 use crate::finding::Finding;
 use crate::inputs::Extent;
-use crate::near_names::NearNames;
 use crate::selections::owner_name;
 use crate::tokens::{is_compared, lone_value, names_start, word_of};
-use crate::walk::{Part, Placed};
-use kc_facts::meant_tri;
+use crate::walk::{Part, Placed, Walk};
+use kc_facts::{NearNames, meant_tri, push_meant, symbol_names, type_words};
 use kc_statement::{Keyword, SymbolType, is_name, numeral};
 use kc_text::{Line, Token};
 use kc_tree::{SymId, Tree};
@@ -16,28 +15,42 @@ use std::collections::BTreeMap;
 /// What is known of a name that no line defines.
 #[derive(Clone, Copy)]
 struct Known {
-    /// The symbol that it may have been meant as, by its name.
-    meant: Option<SymId>,
-    /// The last line that has it, counted from 1.
-    line: usize,
+    /// The first line that has it, and the last one that was read, by their indices.
+    first: usize,
+    last: usize,
+    /// Whether all lines that have it are one line of a file, as a typing error is.
+    is_in_one_place: bool,
     /// Whether it is in a finding.
     is_listed: bool,
 }
 
-/// How a name that no line defines is read.
+/// A name that is read as something other than a symbol's value, in a line.
+#[derive(Clone, Copy)]
+struct Doubtful<'i> {
+    name: &'i str,
+    /// The index of the line.
+    line: usize,
+    reading: Reading,
+}
+
+/// How a name is read.
 #[derive(Clone, Copy, PartialEq, Eq)]
 enum Reading {
     /// As n, which the value of an undefined symbol is.
     No,
     /// As a text, the name itself.
     Text,
+    /// As the text that its symbol gets.
+    Default,
     /// As a symbol to select, which is not there.
     Select,
     /// As a symbol to imply, which is not there.
     Imply,
+    /// As n, which a string, an int or a hex of this type is in a condition.
+    Condition(SymbolType),
 }
 
-/// The names that no line defines, as far as lines were read.
+/// The names in expressions that no line defines, and those of strings, ints and hexes that are conditions.
 #[derive(Drop)]
 pub(crate) struct UndefinedNames<'i, 't> {
     tree: &'t Tree,
@@ -45,32 +58,42 @@ pub(crate) struct UndefinedNames<'i, 't> {
     extent: Extent,
     near: NearNames<'t>,
     known: BTreeMap<&'i str, Known>,
-    /// How many lines were read.
-    lines: usize,
+    /// In the order of the lines.
+    doubtful: Vec<Doubtful<'i>>,
+    /// How many of these were passed.
+    passed: usize,
     unlisted: usize,
 }
 
 impl<'i, 't> UndefinedNames<'i, 't> {
-    /// Before the first line.
+    /// Those of lines.
     ///
     /// # Errors
     ///
     /// `AllocError` where memory is refused.
-    pub fn new(
+    pub fn of(
         alloc: Global,
         tree: &'t Tree,
+        lines: &'i [Line<'_>],
         prefix: &'i str,
         extent: Extent,
     ) -> Result<UndefinedNames<'i, 't>, AllocError> {
-        Ok(UndefinedNames {
+        let mut names = UndefinedNames {
             tree,
             prefix,
             extent,
-            near: NearNames::of(alloc, tree)?,
+            near: NearNames::of(alloc, symbol_names(alloc, tree)?)?,
             known: BTreeMap::new(alloc),
-            lines: 0,
+            doubtful: Vec::new(alloc),
+            passed: 0,
             unlisted: 0,
-        })
+        };
+        let mut walk = Walk::new();
+        for (index, line) in lines.iter().enumerate() {
+            let placed = walk.place(line);
+            names.read_line(lines, index, line.tokens(), &placed)?;
+        }
+        Ok(names)
     }
 
     /// How many names that no line defines are not listed.
@@ -78,7 +101,85 @@ impl<'i, 't> UndefinedNames<'i, 't> {
         self.unlisted
     }
 
-    /// Adds the names in a line that no line defines and that are listed, each once.
+    /// Takes over the doubtful names in the tokens of the line of an index.
+    fn read_line(
+        &mut self,
+        lines: &'i [Line<'_>],
+        index: usize,
+        tokens: &'i [Token<'_>],
+        placed: &Placed,
+    ) -> Result<(), AllocError> {
+        let Some(start) = names_start(placed) else {
+            return Ok(());
+        };
+        let value = lone_value(tokens, placed);
+        for place in start..tokens.len() {
+            let Some(name) = tokens.get(place).and_then(|token| word_of(token)) else {
+                continue;
+            };
+            let reading = reading_at(self.tree, tokens, place, value, placed);
+            match self.tree.find(name) {
+                Some(symbol) => self.read_symbol(index, name, symbol, reading)?,
+                None if is_constant(self.tree, tokens, value, placed, name) => {}
+                None => self.read_undefined(lines, index, name, reading)?,
+            }
+        }
+        Ok(())
+    }
+
+    /// Takes over the name of a symbol, if it is that of a string, an int or a hex which is a condition.
+    fn read_symbol(
+        &mut self,
+        line: usize,
+        name: &'i str,
+        symbol: SymId,
+        reading: Reading,
+    ) -> Result<(), AllocError> {
+        let kind = self.tree.symbol_type(symbol);
+        if reading != Reading::No || kind.is_tri() {
+            return Ok(());
+        }
+        self.doubtful.push(Doubtful {
+            name,
+            line,
+            reading: Reading::Condition(kind),
+        })?;
+        Ok(())
+    }
+
+    /// Takes over a name that no line defines, once for each line. A word that can't be a name is no name to list where it
+    /// is a text.
+    fn read_undefined(
+        &mut self,
+        lines: &'i [Line<'_>],
+        line: usize,
+        name: &'i str,
+        reading: Reading,
+    ) -> Result<(), AllocError> {
+        let is_named = is_name(name);
+        if !is_named && matches!(reading, Reading::Text | Reading::Default) {
+            return Ok(());
+        }
+        let mut known = match self.known.get(name).copied() {
+            Some(known) if known.last == line => return Ok(()),
+            Some(known) => known,
+            None => {
+                self.note_new(is_named);
+                first_known(line)
+            }
+        };
+        known.last = line;
+        known.is_in_one_place = known.is_in_one_place && is_same_place(lines, known.first, line);
+        self.known.insert(name, known)?;
+        self.doubtful.push(Doubtful {
+            name,
+            line,
+            reading,
+        })?;
+        Ok(())
+    }
+
+    /// Comes to the line of an index: adds the doubtful names in it that are listed.
     ///
     /// # Errors
     ///
@@ -86,101 +187,60 @@ impl<'i, 't> UndefinedNames<'i, 't> {
     pub fn check(
         &mut self,
         alloc: Global,
-        line: &'i Line<'_>,
+        line: &Line<'_>,
+        index: usize,
         placed: &Placed,
         found: &mut Vec<Finding>,
     ) -> Result<(), AllocError> {
-        self.lines = self.lines.saturating_add(1);
-        let tokens = line.tokens();
-        let Some(start) = names_start(placed) else {
-            return Ok(());
-        };
-        let value = lone_value(tokens, placed);
-        for place in start..tokens.len() {
-            let Some(name) = self.undefined_at(tokens, place, value, placed) else {
+        let passed = self.passed;
+        self.passed = passed.saturating_add(self.count_up_to(index));
+        for number in passed..self.passed {
+            let Some(doubtful) = self.doubtful.get(number).copied() else {
                 continue;
             };
-            let Some(meant) = self.listed(name, owner_of(self.tree, placed))? else {
-                continue;
-            };
-            let reading = reading_at(self.tree, tokens, place, value, placed);
-            let words = words_of(alloc, self.tree, name, reading, meant)?;
-            found.push(self.finding(alloc, line, placed, words)?)?;
+            let meant = self.meant(&doubtful, owner_of(self.tree, placed));
+            if self.is_listed(&doubtful, meant) {
+                self.note_listed(doubtful.name)?;
+                let words = words_of(alloc, &doubtful, meant)?;
+                let owner = owner_name(self.tree, placed);
+                found.push(Finding::in_line(alloc, line.path(), line.number(), owner, words)?)?;
+            }
         }
         Ok(())
     }
 
-    /// The name at a place that no line defines. A line may have one token as the value of a default.
-    fn undefined_at(
-        &self,
-        tokens: &'i [Token<'_>],
-        place: usize,
-        value: Option<usize>,
-        placed: &Placed,
-    ) -> Option<&'i str> {
-        let name = word_of(tokens.get(place)?)?;
-        if self.tree.find(name).is_some() || !is_name(name) {
-            return None;
-        }
-        let kind = type_of(self.tree, placed);
-        if is_number(name, kind) || is_meant_constant(tokens, value, kind, name) {
-            return None;
-        }
-        Some(name)
+    /// How many doubtful names, after those that were passed, are in lines up to that of an index.
+    fn count_up_to(&self, line: usize) -> usize {
+        let left = self.doubtful.as_slice().get(self.passed..).unwrap_or(&[]);
+        left.iter()
+            .take_while(|doubtful| doubtful.line <= line)
+            .count()
     }
 
-    /// What a name in the line that is read may have been meant as, if it is listed and was not in the line before: no
-    /// symbol, or one other than that to which the line belongs.
-    fn listed(
-        &mut self,
-        name: &'i str,
-        owner: Option<SymId>,
-    ) -> Result<Option<Option<SymId>>, AllocError> {
-        let known = self.known_of(name);
-        if known.line == self.lines {
-            return Ok(None);
-        }
-        let meant = self.meant_beside(name, known.meant, owner);
-        let is_listed = self.extent == Extent::All || self.bare(name).is_some() || meant.is_some();
-        self.note(name, known, is_listed)?;
-        Ok(is_listed.then_some(meant))
-    }
-
-    /// What is known of a name that no line defines, which is examined where it is new.
-    fn known_of(&self, name: &str) -> Known {
-        if let Some(known) = self.known.get(name) {
-            return *known;
-        }
-        let meant = match self.bare(name) {
-            Some(bare) => match self.tree.find(bare) {
-                Some(symbol) => Some(symbol),
-                None => self.near.nearest(bare, None),
-            },
-            None => self.near.nearest(name, None),
+    /// Whether a name in a line is listed, by what it may have been meant as.
+    fn is_listed(&self, doubtful: &Doubtful<'i>, meant: Option<&'t str>) -> bool {
+        let is_always = match doubtful.reading {
+            Reading::Condition(_) | Reading::Default => true,
+            Reading::No | Reading::Text | Reading::Select | Reading::Imply => {
+                self.extent == Extent::All && is_name(doubtful.name)
+            }
         };
-        Known {
-            meant,
-            line: 0,
-            is_listed: false,
-        }
+        is_always || meant.is_some() || self.bare(doubtful.name).is_some()
     }
 
-    /// The symbol that a name may have been meant as, where the first that it is near may be that of the line: then
-    /// another, but none for the prefix and its very name.
-    fn meant_beside(
-        &self,
-        name: &str,
-        meant: Option<SymId>,
-        owner: Option<SymId>,
-    ) -> Option<SymId> {
-        if meant.is_none() || meant != owner {
-            return meant;
+    /// What a name in a line may have been meant as: the name without the prefix, or one that it is near, if it is in one
+    /// place; but not the symbol that the line belongs to.
+    fn meant(&self, doubtful: &Doubtful<'i>, owner: Option<SymId>) -> Option<&'t str> {
+        let known = self.known.get(doubtful.name)?;
+        let bare = self.bare(doubtful.name);
+        if let Some(symbol) = bare.and_then(|bare| self.tree.find(bare)) {
+            return (Some(symbol) != owner).then_some(self.tree.name(symbol));
         }
-        match self.bare(name) {
-            Some(bare) if self.tree.find(bare).is_some() => None,
-            Some(bare) => self.near.nearest(bare, owner),
-            None => self.near.nearest(name, owner),
+        if !known.is_in_one_place {
+            return None;
         }
+        let excepted = owner.map(|symbol| self.tree.name(symbol));
+        self.near.nearest(bare.unwrap_or(doubtful.name), excepted)
     }
 
     /// A name without the prefix that it has.
@@ -191,33 +251,44 @@ impl<'i, 't> UndefinedNames<'i, 't> {
         name.strip_prefix(self.prefix)
     }
 
-    /// Notes that a name was in the line that is read, whether it is listed there, and so how many names are in none.
-    fn note(&mut self, name: &'i str, known: Known, is_listed: bool) -> Result<(), AllocError> {
-        if known.line == 0 && !is_listed {
+    /// Notes that a word is new, which is a name or can't be one.
+    fn note_new(&mut self, is_named: bool) {
+        if is_named {
             self.unlisted = self.unlisted.saturating_add(1);
         }
-        if known.line > 0 && !known.is_listed && is_listed {
-            self.unlisted = self.unlisted.saturating_sub(1);
-        }
-        let noted = Known {
-            meant: known.meant,
-            line: self.lines,
-            is_listed: known.is_listed || is_listed,
-        };
-        self.known.insert(name, noted)?;
-        Ok(())
     }
 
-    /// Words about a name in a line.
-    fn finding(
-        &self,
-        alloc: Global,
-        line: &Line<'_>,
-        placed: &Placed,
-        words: String,
-    ) -> Result<Finding, AllocError> {
-        let owner = owner_name(self.tree, placed);
-        Finding::in_line(alloc, line.path(), line.number(), owner, words)
+    /// Notes that a name is in a finding, so that it is not among those that are in none.
+    fn note_listed(&mut self, name: &'i str) -> Result<(), AllocError> {
+        let Some(mut known) = self.known.get(name).copied() else {
+            return Ok(());
+        };
+        if !known.is_listed && is_name(name) {
+            self.unlisted = self.unlisted.saturating_sub(1);
+        }
+        known.is_listed = true;
+        self.known.insert(name, known)?;
+        Ok(())
+    }
+}
+
+/// What is known of a name that a line, by its index, has first.
+fn first_known(line: usize) -> Known {
+    Known {
+        first: line,
+        last: line,
+        is_in_one_place: true,
+        is_listed: false,
+    }
+}
+
+/// Whether two lines, by their indices, are one line of a file.
+fn is_same_place(lines: &[Line<'_>], first: usize, second: usize) -> bool {
+    match (lines.get(first), lines.get(second)) {
+        (Some(first), Some(second)) => {
+            first.number() == second.number() && first.path() == second.path()
+        }
+        _ => false,
     }
 }
 
@@ -254,6 +325,18 @@ fn is_meant_constant(
         && meant_tri(word).is_some()
 }
 
+/// Whether a word of a line is no name, but a number, or a constant that is meant.
+fn is_constant(
+    tree: &Tree,
+    tokens: &[Token<'_>],
+    value: Option<usize>,
+    placed: &Placed,
+    word: &str,
+) -> bool {
+    let kind = type_of(tree, placed);
+    is_number(word, kind) || is_meant_constant(tokens, value, kind, word)
+}
+
 /// How the name at a place is read. A line may have one token as the value of a default.
 fn reading_at(
     tree: &Tree,
@@ -272,31 +355,32 @@ fn reading_at(
         Some(SymbolType::String | SymbolType::Int | SymbolType::Hex)
     );
     let is_bound = place <= 2 && matches!(placed.part, Part::Range(_));
-    let is_value = is_bound || value == Some(place);
-    if is_compared(tokens, place) || is_text_type && is_value {
+    if is_text_type && value == Some(place) {
+        Reading::Default
+    } else if is_compared(tokens, place) || is_text_type && is_bound {
         Reading::Text
     } else {
         Reading::No
     }
 }
 
-/// What is said of a name that no line defines, and of the symbol that it may have been meant as.
+/// What is said of a name in a line, and of what it may have been meant as.
 fn words_of(
     alloc: Global,
-    tree: &Tree,
-    name: &str,
-    reading: Reading,
-    meant: Option<SymId>,
+    doubtful: &Doubtful<'_>,
+    meant: Option<&str>,
 ) -> Result<String, AllocError> {
-    let mut words = match reading {
+    let name = doubtful.name;
+    let mut words = match doubtful.reading {
         Reading::No => format!(in alloc; "undefined: {name} (always n)")?,
-        Reading::Text => format!(in alloc; "undefined: {name} (a text)")?,
+        Reading::Text | Reading::Default => format!(in alloc; "undefined: {name} (a text)")?,
         Reading::Select => format!(in alloc; "undefined: select {name} has no effect")?,
         Reading::Imply => format!(in alloc; "undefined: imply {name} has no effect")?,
+        Reading::Condition(kind) => {
+            let kind = type_words(kind);
+            format!(in alloc; "{name} is {kind}, which is always n as a condition")?
+        }
     };
-    if let Some(meant) = meant {
-        let meant = tree.name(meant);
-        write!(words, "; did you mean {meant}?")?;
-    }
+    push_meant(&mut words, meant)?;
     Ok(words)
 }

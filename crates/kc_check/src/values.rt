@@ -2,8 +2,8 @@
 
 use crate::finding::Finding;
 use kc_facts::{
-    certain_range, has_exchanged_sides, is_outside, is_unread_text, meant_tri, push_term,
-    shown_line,
+    certain_range, has_exchanged_sides, is_outside, is_unread_text, meant_tri, push_expr,
+    push_term, shown_line,
 };
 use kc_statement::{DefaultValue, Range, SymbolType, Term, lone_term};
 use kc_text::Line;
@@ -29,16 +29,16 @@ pub(crate) fn check_default(
     let Some(default) = definition.defaults().get(place) else {
         return Ok(());
     };
-    if let Some(words) = constant_words(alloc, tree, number, definition, default)? {
+    if let Some(words) = default_words(alloc, tree, number, definition, default)? {
         let name = tree.name(definition.symbol());
         found.push(Finding::in_line(alloc, line.path(), line.number(), name, words)?)?;
     }
     Ok(())
 }
 
-/// What is said of a default, in the definition of a number, that is a constant which its symbol does not take as it is
-/// written.
-fn constant_words(
+/// What is said of a default, in the definition of a number, that has no effect, or is a constant which its symbol does not
+/// take as it is written.
+fn default_words(
     alloc: Global,
     tree: &Tree,
     number: usize,
@@ -46,6 +46,9 @@ fn constant_words(
     default: &DefaultValue,
 ) -> Result<Option<String>, AllocError> {
     let kind = tree.symbol_type(definition.symbol());
+    if tree.choice_of(definition.symbol()).is_some() {
+        return Ok(Some(member_words(alloc, tree, definition, default)?));
+    }
     let Some(term) = lone_term(&default.value) else {
         return Ok(None);
     };
@@ -57,6 +60,20 @@ fn constant_words(
         }
         SymbolType::String => Ok(None),
     }
+}
+
+/// What is said of the default of a member of a choice, which has no effect (docs/VALUES.md, "Choices").
+fn member_words(
+    alloc: Global,
+    tree: &Tree,
+    definition: &Definition,
+    default: &DefaultValue,
+) -> Result<String, AllocError> {
+    let mut value = String::new(alloc);
+    push_expr(&mut value, tree, &default.value)?;
+    let shown = shown_line(value.as_str());
+    let name = tree.name(definition.symbol());
+    format!(in alloc; "default {shown} has no effect: {name} is a member of a choice")
 }
 
 /// What is said of the default of a bool or a tristate that is no constant and no symbol.

@@ -47,6 +47,8 @@ pub(crate) struct Variables {
     used: BTreeMap<String, usize>,
     defined: BTreeSet<String>,
     files: Vec<MarkedFile>,
+    /// The number of the first file that defines a variable, and the number of its first line that does.
+    first_defined: Option<(usize, usize)>,
 }
 
 impl Variables {
@@ -61,6 +63,7 @@ impl Variables {
             used: BTreeMap::new(alloc),
             defined: BTreeSet::new(alloc),
             files: Vec::new(alloc),
+            first_defined: None,
         };
         for source in sources {
             let marks = variables.marks_of(alloc, source.text)?;
@@ -102,6 +105,24 @@ impl Variables {
         Ok(())
     }
 
+    /// Adds that a Kconfig which defines no symbol defines variables, as a `.config` does that is read as a Kconfig.
+    ///
+    /// # Errors
+    ///
+    /// `AllocError` where memory is refused.
+    pub fn add_exchanged(&self, alloc: Global, found: &mut Vec<Finding>) -> Result<(), AllocError> {
+        let Some((number, line)) = self.first_defined else {
+            return Ok(());
+        };
+        let files = self.files();
+        let Some(file) = files.get(number) else {
+            return Ok(());
+        };
+        let words = String::from_str(alloc, "defines no symbol: is it a .config?")?;
+        found.push(Finding::in_line(alloc, file.path.as_str(), line, "", words)?)?;
+        Ok(())
+    }
+
     /// Takes over the references and definitions of a text, and gives its marks.
     fn marks_of(&mut self, alloc: Global, text: &str) -> Result<Vec<Mark>, AllocError> {
         let mut marks = Vec::new(alloc);
@@ -126,6 +147,9 @@ impl Variables {
         if let Some(definition) = item.definition() {
             let name = String::from_str(alloc, definition.name.as_str())?;
             self.defined.insert(name)?;
+            if self.first_defined.is_none() {
+                self.first_defined = Some((self.files.len(), line));
+            }
             let names = value_references_in(alloc, definition.value.as_str())?;
             return self.add_uses(alloc, names.as_slice(), line, marks);
         }

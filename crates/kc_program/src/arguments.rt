@@ -42,6 +42,8 @@ pub struct Arguments<'a> {
     pub is_all: bool,
     /// Whether a finding makes the status 1.
     pub is_strict: bool,
+    /// Whether a finding of the tree does so also where there is a CONFIG.
+    pub judges_tree: bool,
     /// Whether help texts are written.
     pub has_help: bool,
 }
@@ -156,6 +158,7 @@ fn read_matches<'a>(
         operands: words.others,
         is_all: found.get_flag("all"),
         is_strict: found.get_flag("strict"),
+        judges_tree: found.get_flag("tree"),
         has_help: !found.get_flag("no-help"),
     })
 }
@@ -254,10 +257,13 @@ fn with_own_options<'a>(
 ) -> Result<Command<'a>, AllocError> {
     match target {
         Target::Why => command.arg(all_option(alloc)),
-        Target::Check => command.arg(undefined_option(alloc))?.arg(strict_option(
-            alloc,
-            "Makes the status 1 where there is a finding",
-        )),
+        Target::Check => command
+            .arg(undefined_option(alloc))?
+            .arg(strict_option(
+                alloc,
+                "Makes the status 1 where there is a finding of CONFIG, or without CONFIG of the Kconfig",
+            ))?
+            .arg(tree_option(alloc)),
         Target::Merge => command.arg(strict_option(
             alloc,
             "Makes the status 1 where a line of a FRAGMENT has no effect",
@@ -278,7 +284,7 @@ fn undefined_option<'a>(alloc: Global) -> Arg<'a> {
     Arg::new(alloc, "all")
         .long("undefined")
         .action(ArgAction::SetTrue)
-        .help("Lists all undefined names, not only those that are near a defined one")
+        .help("Lists all undefined names, not only those that are likely mistakes")
 }
 
 fn strict_option<'a>(alloc: Global, help: &'a str) -> Arg<'a> {
@@ -286,6 +292,13 @@ fn strict_option<'a>(alloc: Global, help: &'a str) -> Arg<'a> {
         .long("strict")
         .action(ArgAction::SetTrue)
         .help(help)
+}
+
+fn tree_option<'a>(alloc: Global) -> Arg<'a> {
+    Arg::new(alloc, "tree")
+        .long("tree")
+        .action(ArgAction::SetTrue)
+        .help("Makes --strict judge the findings of the Kconfig, too, not only those of CONFIG")
 }
 
 fn no_help_option<'a>(alloc: Global) -> Arg<'a> {

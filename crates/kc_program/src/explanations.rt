@@ -191,13 +191,13 @@ fn explain_lines<F: Folder>(
             explain_line(alloc, lines, text.as_str(), *problem, path, *line)?
         }
         TreeFault::Symbol { problem, name } => {
-            explain_symbol(alloc, lines, *problem, name.as_str())?
+            explain_symbol(alloc, files.seed(), lines, *problem, name.as_str())?
         }
         TreeFault::Choice {
             problem,
             path,
             line,
-        } => explain_choice(alloc, lines, *problem, path.as_str(), *line)?,
+        } => explain_choice(alloc, files.seed(), lines, *problem, path.as_str(), *line)?,
         TreeFault::Loop(nodes) => explain_loop(alloc, lines, nodes.as_slice())?,
     };
     Ok(Some(explanation))

@@ -12,6 +12,7 @@ use crate::messages::Fault;
 use crate::read_ahead::{Named, Reach, Waiting, path_of_source};
 use crate::targets::Target;
 use bumpalo::Bump;
+use kc_check::without_strays;
 use kc_files::{Prefix, Warning};
 use kc_session::{KconfigTexts, OpenFault, Session, open_seeded};
 use kc_text::{Line, Sources, Text, TextFault, TextProblem, Vars, logical_lines};
@@ -276,11 +277,18 @@ impl<'a, F: Folder> Files<'a, F> {
         logical_lines(self.alloc, arena, &self.sources, kconfig.vars, kconfig.top)
     }
 
-    /// All faults of the lines, the symbols and the choices of the files that were read.
+    /// The seed of the hash under which names are kept.
+    pub fn seed(&self) -> Seed {
+        self.seed
+    }
+
+    /// All faults of the lines, the symbols and the choices of the files that were read, without those that an unknown word
+    /// before them explains.
     pub fn faults(&self, kconfig: &Kconfig<'_, F>) -> Result<Vec<TreeFault>, TextFault> {
         let arena = Bump::new(self.alloc);
         let lines = self.lines(&arena, kconfig)?;
-        Ok(all_faults(self.alloc, self.seed, lines.as_slice())?)
+        let faults = all_faults(self.alloc, self.seed, lines.as_slice())?;
+        Ok(without_strays(self.alloc, lines.as_slice(), faults)?)
     }
 
     /// The text of the file of a path, for a message: none where it is not held and can't be read again.

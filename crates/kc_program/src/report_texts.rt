@@ -4,9 +4,9 @@ use crate::messages::Status;
 use crate::opening::ConfigFile;
 use crate::paths_read::paths_read;
 use crate::reports::{Outcome, ReportInputs};
-use kc_check::{CheckInputs, SourceText, check, effects_before, merge_report};
+use kc_check::{CheckInputs, Judged, SourceText, check, effects_before, merge_report};
 use kc_explain::explain_warnings;
-use kc_facts::{Input, LineIndex, View};
+use kc_facts::{Input, LineIndex, MeantNames, View, push_meant, symbol_names};
 use kc_files::{ReadFault, Warning, WarningKind};
 use kc_menu::{Help, menu_text};
 use kc_report::{Extent, why_text};
@@ -16,7 +16,7 @@ use kc_value::Resolver;
 use std::alloc::{AllocError, Global};
 
 /// What is said of a name that is no symbol's.
-const NO_SYMBOL: &str = "no symbol has this name";
+const NO_SYMBOL: &str = "no such symbol";
 
 /// The report of `why`: of each symbol that is named. Where a name is no symbol's, that is reported, and nothing else.
 pub(crate) fn why_outcome(
@@ -77,7 +77,7 @@ fn symbol_of(tree: &Tree, prefix: &str, name: &str) -> Option<SymId> {
     }
 }
 
-/// A line for each name that is no symbol's.
+/// A line for each name that is no symbol's, with the symbol that it may have been meant as.
 fn unknown_names(
     alloc: Global,
     tree: &Tree,
@@ -85,9 +85,18 @@ fn unknown_names(
     names: &[&str],
 ) -> Result<String, AllocError> {
     let mut errors = String::new(alloc);
+    if names
+        .iter()
+        .all(|name| symbol_of(tree, prefix, name).is_some())
+    {
+        return Ok(errors);
+    }
+    let meant = MeantNames::of(alloc, symbol_names(alloc, tree)?)?;
     for name in names {
         if symbol_of(tree, prefix, name).is_none() {
-            writeln!(errors, "kconf: {name}: {NO_SYMBOL}")?;
+            write!(errors, "kconf: {name}: {NO_SYMBOL}")?;
+            push_meant(&mut errors, meant.meant(prefix, name))?;
+            errors.push('\n')?;
         }
     }
     Ok(errors)
@@ -121,7 +130,12 @@ pub(crate) fn check_outcome(
     };
     let findings = read_again(check(alloc, &view, &index, &checked, extent))?;
     let output = findings.to_text(alloc)?;
-    let is_at_fault = inputs.arguments.is_strict && !findings.all.is_empty();
+    let judged = if inputs.arguments.judges_tree {
+        Judged::All
+    } else {
+        Judged::Config
+    };
+    let is_at_fault = inputs.arguments.is_strict && findings.has_any(judged);
     Ok(Outcome {
         output,
         errors: String::new(alloc),

@@ -204,14 +204,15 @@ Example:
         target: Target::Check,
         operands: Operands::PerhapsConfig,
         about: "Lists what is doubtful: lines without effect, undefined names, unmet dependencies",
-        notes: "Standard output is a line PATH:LINE: NAME: WORDS for each finding, those of the
-Kconfig first, then those of CONFIG, each in the order of their lines, and at the end
-how many there are. An undefined name is listed where it is near a defined one, and
-with --undefined always.
+        notes: "Standard output is a line PATH:LINE: NAME: WORDS for each finding, those of CONFIG
+first, then those of the Kconfig, each in the order of their lines, and at the end
+how many there are of each. An undefined name is listed where it is likely a mistake, and with
+--undefined always.
 
 Where the Kconfig has errors, all of them are reported on standard error, and nothing
-else is checked. The status is 0, also with findings, which --strict makes 1; 1 after
-an error, 2 after a usage error.
+else is checked. The status is 0, also with findings; with --strict it is 1 if CONFIG
+has one, or the Kconfig where there is no CONFIG or --tree; 1 after an error, 2 after a
+usage error.
 
 Example:
   kconf check Kconfig .config",

@@ -6,12 +6,10 @@ ghost use Rattle.kc_report.specs.declared.extent.Extent.TheVariants.{Short, All}
 use crate::extent::Extent;
 use crate::factors_in_words::push_factor;
 use kc_facts::{
-    Attribute, FactorLines, Family, LineIndex, Part, View, choice_condition, push_place,
-    push_quoted, shown_line,
+    DefinitionRow, LineIndex, View, definition_rows, push_place, push_quoted, shown_line,
 };
 use kc_text::{Line, Token};
-use kc_tree::{ChoiceId, Definition, Symbol};
-use kc_value::{Factor, FactorPart, dependency_factors, prompt_factors};
+use kc_tree::Symbol;
 use std::alloc::{AllocError, Global};
 
 /// The most definitions that are shown, where not all are wanted.
@@ -32,12 +30,13 @@ fn first_word<'l>(line: &'l Line<'_>) -> &'l str {
 fn push_head(
     text: &mut String,
     view: &View<'_>,
-    index: &LineIndex<'_, '_>,
-    number: usize,
-    definition: &Definition,
+    row: &DefinitionRow<'_, '_, '_>,
 ) -> Result<(), AllocError> {
+    let Some(definition) = view.tree().definitions().get(row.number) else {
+        return Ok(());
+    };
     text.push_str("  ")?;
-    let word = match index.line(Part::Owner(Family::Definition, number)) {
+    let word = match row.line {
         Some(line) => {
             push_place(text, line)?;
             text.push_str(": ")?;
@@ -55,69 +54,27 @@ fn push_head(
     text.push('\n')
 }
 
-/// The factors of the prompt of a definition, or of its dependencies where it has none.
-pub(crate) fn definition_factors<'s>(
-    alloc: Global,
-    view: &View<'s>,
-    number: usize,
-    definition: &Definition,
-) -> Result<Vec<Factor<'s>>, AllocError> {
-    if definition.prompt().is_some() {
-        prompt_factors(alloc, view.known(), number)
-    } else {
-        dependency_factors(alloc, view.known(), number)
-    }
-}
-
 /// Adds a definition: its line, and each factor of what it depends on.
 fn push_definition(
     alloc: Global,
     text: &mut String,
     view: &View<'_>,
-    index: &LineIndex<'_, '_>,
-    number: usize,
+    row: &DefinitionRow<'_, '_, '_>,
     extent: Extent,
 ) -> Result<(), AllocError> {
-    let Some(definition) = view.tree().definitions().get(number) else {
-        return Ok(());
-    };
-    push_head(text, view, index, number, definition)?;
-    let factors = definition_factors(alloc, view, number, definition)?;
-    let shown = shown_of(extent, factors.len(), MOST_FACTORS);
-    let mut lines = FactorLines::new(alloc, index);
-    for factor in factors.iter().take(shown) {
-        let line = lines.find(alloc, view.tree(), number, factor)?;
-        push_factor(alloc, text, view, line, factor)?;
-        push_choice_condition(alloc, text, view, index, factor)?;
+    push_head(text, view, row)?;
+    let shown = shown_of(extent, row.factors.len(), MOST_FACTORS);
+    for factor in row.factors.iter().take(shown) {
+        push_factor(alloc, text, view, &factor.own)?;
+        if let Some(condition) = &factor.choice {
+            push_factor(alloc, text, view, condition)?;
+        }
     }
-    let left = factors.len().saturating_sub(shown);
+    let left = row.factors.len().saturating_sub(shown);
     if left > 0 {
         write!(text, "    ... {left} more: --all\n")?;
     }
     Ok(())
-}
-
-/// Adds the condition of the prompt of a choice, with its line, after a factor that is the mode of the choice.
-fn push_choice_condition(
-    alloc: Global,
-    text: &mut String,
-    view: &View<'_>,
-    index: &LineIndex<'_, '_>,
-    factor: &Factor<'_>,
-) -> Result<(), AllocError> {
-    let FactorPart::Mode(choice) = factor.part else {
-        return Ok(());
-    };
-    let Some(condition) = choice_condition(view, choice) else {
-        return Ok(());
-    };
-    let line = index.line(prompt_of(choice));
-    push_factor(alloc, text, view, line, &condition)
-}
-
-/// The part that is the prompt of a choice.
-fn prompt_of(choice: ChoiceId) -> Part {
-    Part::Said(Family::Choice, choice.0 as usize, Attribute::Prompt, 0)
 }
 
 /// How many of a count are shown: at most some where not all are wanted.
@@ -143,8 +100,9 @@ pub(crate) fn push_definitions(
 ) -> Result<(), AllocError> {
     let count = symbol.definitions().len();
     let shown = shown_of(extent, count, MOST_SHOWN);
-    for number in symbol.definitions().iter().take(shown) {
-        push_definition(alloc, text, view, index, *number, extent)?;
+    let rows = definition_rows(alloc, view, index, symbol, shown)?;
+    for row in rows.as_slice() {
+        push_definition(alloc, text, view, row, extent)?;
     }
     let left = count.saturating_sub(shown);
     if left > 0 {

@@ -1,9 +1,9 @@
 //! The factors of conditions as lines of text.
 
 use kc_facts::{
-    View, is_if, is_unchosen, push_choice, push_expr, push_place, push_valued_factor, shown_line,
+    LinedFactor, View, is_if, is_unchosen, push_choice, push_expr, push_place, push_valued_factor,
+    shown_line,
 };
-use kc_text::Line;
 use kc_tree::{Tree, Tri};
 use kc_value::{Factor, FactorPart, Origin};
 use std::alloc::{AllocError, Global};
@@ -52,11 +52,11 @@ pub(crate) fn push_factor(
     alloc: Global,
     text: &mut String,
     view: &View<'_>,
-    place: Option<&Line<'_>>,
-    factor: &Factor<'_>,
+    row: &LinedFactor<'_, '_, '_>,
 ) -> Result<(), AllocError> {
+    let factor = &row.factor;
     let mut line = String::new(alloc);
-    if let Some(place) = place {
+    if let Some(place) = row.line {
         push_place(&mut line, place)?;
         line.push_str(": ")?;
     }

@@ -1,7 +1,8 @@
 //! The symbols without prompt that a definition depends on, and who would select them.
 
-use crate::definitions_in_words::definition_factors;
-use kc_facts::{ReverseKind, View, choice_condition, has_prompt, push_reverse_row};
+use kc_facts::{
+    ReverseKind, View, choice_condition, definition_factors, has_prompt, push_reverse_row,
+};
 use kc_statement::{ExprNode, Operands, Term};
 use kc_tree::{Expr, Node, SymId, Symbol};
 use kc_value::{Factor, FactorPart};
@@ -96,10 +97,7 @@ fn add_definition(
     view: &View<'_>,
     number: usize,
 ) -> Result<(), AllocError> {
-    let Some(definition) = view.tree().definitions().get(number) else {
-        return Ok(());
-    };
-    let factors = definition_factors(alloc, view, number, definition)?;
+    let factors = definition_factors(alloc, view, number)?;
     for factor in &factors {
         add_factor(found, view, factor)?;
     }

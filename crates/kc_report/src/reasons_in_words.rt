@@ -1,11 +1,12 @@
 //! Why a symbol has its value, in words (this project's own, docs/VALUES.md, "Reasons").
 
-use crate::reverses::{ReverseList, ReversePlace, push_reverse};
+use crate::reverses::push_reverse;
 use kc_facts::{
-    Attribute, Family, LineIndex, Part, ReverseKind, View, default_at, push_choice, push_line,
-    push_place, push_reason_words, push_term, push_valued_expr,
+    Family, LineIndex, Part, ReasonRow, ReasonSource, View, default_at, push_choice, push_line,
+    push_place, push_reason_words, push_term, push_valued_expr, reason_rows,
 };
 use kc_statement::Range;
+use kc_text::Line;
 use kc_tree::{Expr, SymId, Tree};
 use kc_value::{DefaultPlace, RangePlace, Reason};
 use std::alloc::{AllocError, Global};
@@ -31,12 +32,26 @@ fn push_condition(
     Ok(())
 }
 
+/// Adds a line that a reason comes from: its place, and what it says.
+pub(crate) fn push_said(
+    text: &mut String,
+    line: Option<&Line<'_>>,
+    words: &str,
+) -> Result<(), AllocError> {
+    text.push_str("    ")?;
+    if let Some(line) = line {
+        push_place(text, line)?;
+        text.push_str(": ")?;
+    }
+    push_line(text, "", words)
+}
+
 /// Adds the line of a default: its place, its value, and its condition with values.
 fn push_default(
     alloc: Global,
     text: &mut String,
     view: &View<'_>,
-    index: &LineIndex<'_, '_>,
+    line: Option<&Line<'_>>,
     place: DefaultPlace,
 ) -> Result<(), AllocError> {
     let Some(default) = default_at(view.tree(), place) else {
@@ -45,18 +60,7 @@ fn push_default(
     let mut words = String::from_str(alloc, "default ")?;
     push_valued_expr(&mut words, view.known(), &default.value)?;
     push_condition(&mut words, view, default.condition.as_ref())?;
-    text.push_str("    ")?;
-    let part = Part::Said(
-        Family::Definition,
-        place.definition,
-        Attribute::Default,
-        place.default,
-    );
-    if let Some(line) = index.line(part) {
-        push_place(text, line)?;
-        text.push_str(": ")?;
-    }
-    push_line(text, "", words.as_str())
+    push_said(text, line, words.as_str())
 }
 
 /// Adds the line of a range: its place, its bounds, and its condition with values.
@@ -64,7 +68,7 @@ fn push_range(
     alloc: Global,
     text: &mut String,
     view: &View<'_>,
-    index: &LineIndex<'_, '_>,
+    line: Option<&Line<'_>>,
     place: RangePlace,
 ) -> Result<(), AllocError> {
     let Some(range) = range_at(view.tree(), place) else {
@@ -75,18 +79,31 @@ fn push_range(
     words.push(' ')?;
     push_term(&mut words, view.tree(), &range.high)?;
     push_condition(&mut words, view, range.condition.as_ref())?;
-    text.push_str("    ")?;
-    let part = Part::Said(
-        Family::Definition,
-        place.definition,
-        Attribute::Range,
-        place.range,
-    );
-    if let Some(line) = index.line(part) {
-        push_place(text, line)?;
-        text.push_str(": ")?;
+    push_said(text, line, words.as_str())
+}
+
+/// Adds a line that the reason of a symbol's value comes from.
+fn push_source(
+    alloc: Global,
+    text: &mut String,
+    view: &View<'_>,
+    symbol: SymId,
+    row: &ReasonRow<'_, '_>,
+) -> Result<(), AllocError> {
+    let line = row.line;
+    match row.source {
+        ReasonSource::Range(place) => push_range(alloc, text, view, line, place),
+        ReasonSource::Default(place) => push_default(alloc, text, view, line, place),
+        ReasonSource::Reverse(kind, number) => {
+            let Some(symbol) = view.tree().symbols().get(symbol.0 as usize) else {
+                return Ok(());
+            };
+            match kind.of(symbol).get(number) {
+                Some(reverse) => push_reverse(alloc, text, view, line, reverse),
+                None => Ok(()),
+            }
+        }
     }
-    push_line(text, "", words.as_str())
 }
 
 /// Adds the lines that a reason comes from, with their places.
@@ -98,27 +115,11 @@ fn push_reason_lines(
     symbol: SymId,
     reason: Reason,
 ) -> Result<(), AllocError> {
-    match reason {
-        Reason::OutsideRange { range, default } | Reason::Bound { range, default } => {
-            push_range(alloc, text, view, index, range)?;
-            match default {
-                Some(default) => push_default(alloc, text, view, index, default),
-                None => Ok(()),
-            }
-        }
-        Reason::Default(default) => push_default(alloc, text, view, index, default),
-        Reason::Implied(number) => {
-            let kind = ReverseKind::Imply;
-            let list = ReverseList { kind, symbol };
-            push_reverse(alloc, text, view, index, ReversePlace { list, number })
-        }
-        Reason::Selected(number) => {
-            let kind = ReverseKind::Select;
-            let list = ReverseList { kind, symbol };
-            push_reverse(alloc, text, view, index, ReversePlace { list, number })
-        }
-        _ => Ok(()),
+    let rows = reason_rows(alloc, view.tree(), index, symbol, reason)?;
+    for row in rows.as_slice() {
+        push_source(alloc, text, view, symbol, row)?;
     }
+    Ok(())
 }
 
 /// Adds why a symbol has its value: the line `because ...`, and the lines that the reason comes from.

@@ -1,13 +1,13 @@
 //! Who selects and implies a symbol.
 
 use crate::extent::Extent;
+use crate::reasons_in_words::push_said;
 use kc_facts::{
-    Attribute, Family, LineIndex, Part, ReverseKind, View, push_line, push_place, push_valued,
-    push_valued_factors,
+    LineIndex, ReverseKind, ReverseLine, View, push_valued, push_valued_factors, reverse_lines,
 };
 use kc_text::Line;
 use kc_tree::{Reverse, SymId, Tri};
-use kc_value::{reverse_factors, reverse_value};
+use kc_value::reverse_factors;
 use std::alloc::{AllocError, Global};
 
 /// The most lines that select or imply a symbol which are shown, where not all are wanted.
@@ -20,47 +20,15 @@ pub(crate) struct ReverseList {
     pub symbol: SymId,
 }
 
-/// A `select` or an `imply` line, by its number among those of the symbol that it names.
-#[derive(Clone, Copy)]
-pub(crate) struct ReversePlace {
-    pub list: ReverseList,
-    pub number: usize,
-}
-
-/// The line that a `select` or an `imply` comes from.
-fn line_of<'l, 'a>(
-    index: &LineIndex<'l, 'a>,
-    kind: ReverseKind,
-    reverse: &Reverse,
-) -> Option<&'l Line<'a>> {
-    let attribute = match kind {
-        ReverseKind::Select => Attribute::Select,
-        ReverseKind::Imply => Attribute::Imply,
-    };
-    index.line(Part::Said(
-        Family::Definition,
-        reverse.definition,
-        attribute,
-        reverse.number,
-    ))
-}
-
-/// Adds the line of a place: where it is, the symbol that it belongs to, and its condition with values, as
+/// Adds a `select` or an `imply` line: where it is, the symbol that it belongs to, and its condition with values, as
 /// `kernel/power/Kconfig:38: HIBERNATION=y if SWAP=y`.
 pub(crate) fn push_reverse(
     alloc: Global,
     text: &mut String,
     view: &View<'_>,
-    index: &LineIndex<'_, '_>,
-    place: ReversePlace,
+    line: Option<&Line<'_>>,
+    reverse: &Reverse,
 ) -> Result<(), AllocError> {
-    let kind = place.list.kind;
-    let Some(symbol) = view.tree().symbols().get(place.list.symbol.0 as usize) else {
-        return Ok(());
-    };
-    let Some(reverse) = kind.of(symbol).get(place.number) else {
-        return Ok(());
-    };
     let mut words = String::new(alloc);
     push_valued(&mut words, view.known(), reverse.by)?;
     let factors = reverse_factors(alloc, view.known(), reverse)?;
@@ -68,12 +36,7 @@ pub(crate) fn push_reverse(
         words.push_str(" if ")?;
         push_valued_factors(&mut words, view, factors.as_slice())?;
     }
-    text.push_str("    ")?;
-    if let Some(line) = line_of(index, kind, reverse) {
-        push_place(text, line)?;
-        text.push_str(": ")?;
-    }
-    push_line(text, "", words.as_str())
+    push_said(text, line, words.as_str())
 }
 
 /// How many of the lines that name a symbol give it a value.
@@ -84,15 +47,14 @@ struct Tally {
 }
 
 /// What the lines that name a symbol give it.
-fn count_lines(view: &View<'_>, lines: &[Reverse]) -> Tally {
+fn count_lines(lines: &[ReverseLine<'_, '_, '_>]) -> Tally {
     let mut active: usize = 0;
     let mut greatest = Tri::No;
     for line in lines {
-        let value = reverse_value(view.known(), line);
-        if !value.is_no() {
+        if !line.value.is_no() {
             active = active.saturating_add(1);
         }
-        greatest = greatest.or(value);
+        greatest = greatest.or(line.value);
     }
     Tally { active, greatest }
 }
@@ -110,20 +72,18 @@ pub(crate) fn push_reverses(
     let Some(found) = view.tree().symbols().get(list.symbol.0 as usize) else {
         return Ok(());
     };
-    let lines = list.kind.of(found);
+    let lines = reverse_lines(alloc, view, index, list.kind, found)?;
     if lines.is_empty() {
         return Ok(());
     }
-    let counted = count_lines(view, lines);
+    let counted = count_lines(lines.as_slice());
     push_tally(text, list.kind, counted, lines.len())?;
     let mut shown: usize = 0;
-    for (number, line) in lines.iter().enumerate() {
-        let is_active = !reverse_value(view.known(), line).is_no();
-        if !is_shown(extent, is_active, shown) {
+    for row in lines.as_slice() {
+        if !is_shown(extent, !row.value.is_no(), shown) {
             continue;
         }
-        let place = ReversePlace { list, number };
-        push_reverse(alloc, text, view, index, place)?;
+        push_reverse(alloc, text, view, row.line, row.reverse)?;
         shown = shown.saturating_add(1);
     }
     push_rest(text, extent, counted.active.saturating_sub(shown))
