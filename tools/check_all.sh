@@ -30,6 +30,7 @@ checks=(
     test_expand_kconfig.py
     test_fuzz.py
     test_gate_times.py
+    test_judge_names.py
     test_tables.py
     test_try_edits.py
 )

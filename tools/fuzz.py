@@ -13,13 +13,17 @@ and 2; where a line of standard error or of standard output has no form of docs/
 them, or a fault has a place that is not there; where a session has not one reply for each command; or where memory is
 refused. Now and then one run is compared with others: the `.config` that is written, loaded again, gives no warning
 but 2, of a number whose value is none; the default file gives the same `.config`; and a session gives the same text
-as a target. The first run that is wrong is kept in a folder, which is named, and the status is 1; with --go-on the others
-are run, too.
+as a target. Each run of a target that reports is compared: the first error of `check` is that of `olddefconfig`,
+`merge` writes what a session gives after the same loads, `genmake` has the values of the `.config`, and `why` and
+`menu` have those of a session. The first run that is wrong is kept in a folder, which is named, and the status is 1;
+with --go-on the others are run, too.
+
+A program that tools/try_program.sh made reserves more addresses than the limit of memory: give it --memory -1, which
+is none, and a --limit of some 60 seconds, as it is slow.
 """
 
 import argparse
 import os
-import re
 import resource
 import shlex
 import shutil
@@ -28,94 +32,18 @@ import sys
 import tempfile
 import time
 from collections import Counter
-from dataclasses import dataclass, field, replace
+from dataclasses import dataclass, field
+from functools import partial
 from pathlib import Path
-from random import Random
 from typing import Dict, List, Optional, Set, Tuple
 
-from fuzz_changes import changed
-from fuzz_checks import Run, problem_of
-from fuzz_inputs import Input, all_inputs, config_of, stream_of
+from fuzz_checks import problem_of
+from fuzz_compared import problem_beside_others
+from fuzz_inputs import all_inputs
+from fuzz_plans import TARGETS, WITHOUT_CONFIG, Plan, plan_of
+from fuzz_reports import Run
 
-TARGETS = ("olddefconfig", "savedefconfig", "listnewconfig", "genheader", "allnoconfig", "allyesconfig", "session")
-WITHOUT_CONFIG = ("allnoconfig", "allyesconfig")
-PREFIXES = (b"", b"P_", b"BR2_", b"x" * 64, b"x" * 65, b"A-", b"\xff")
-WORDS = (b"A=b", b"ARCH=x86", b"A=", b"A=$(B)", b'B="a"', b"-A=b", b"A", b"A=\n", b"A=\xff", b"A=\x01", b"NET-1=a b")
 MEMORY_FOLDER = "/dev/shm"
-NUMBER_WARNING = re.compile(rb"kconf: config:(\d+): warning 2(?:: .*)?")
-UNQUOTED = re.compile(rb"\w+=(?!\").*", re.DOTALL)
-
-
-# ------------------------------------------------------------------------------------------------ plans
-
-
-@dataclass(frozen=True)
-class Plan:
-    """What is run: a target, its options, and what it is given."""
-
-    target: str
-    given: Input
-    prefix: Optional[bytes] = None
-    is_explained: bool = False
-    has_config: bool = False
-    compares: bool = False
-
-    def words(self) -> List[bytes]:
-        """The words behind the name of the program."""
-        words = [self.target.encode(), b"Kconfig"]
-        if self.target not in WITHOUT_CONFIG:
-            words.append(b"config" if self.has_config else b"-")
-        if self.prefix is not None:
-            words += [b"--prefix", self.prefix]
-        if self.is_explained:
-            words.append(b"--explain")
-        return words + ([b"--", *self.given.words] if self.given.words else [])
-
-    def prefix_bytes(self) -> bytes:
-        return b"CONFIG_" if self.prefix is None else self.prefix
-
-
-def plan_of(seed: int, number: int, pools: List[List[Input]], targets: List[str]) -> Plan:
-    """The plan of a run."""
-    random = Random(f"{seed} {number}")
-    pool = random.choice(pools)
-    given, other = random.choice(pool), random.choice(random.choice(pools))
-    target = random.choice(targets)
-    prefix = random.choice(PREFIXES) if random.randrange(12) == 0 else None
-    shown = b"CONFIG_" if prefix is None else prefix
-    stream = given.stream if random.randrange(3) else given.stream + stream_of(random, given.kconfig, shown)
-    given = replace(given, config=config_of(random, given.kconfig, shown), stream=stream)
-    if random.randrange(16) == 0:
-        given = replace(given, words=given.words + (random.choice(WORDS),))
-    return Plan(
-        target,
-        changed_input(random, given, other),
-        prefix,
-        is_explained=random.randrange(10) == 0,
-        has_config=random.randrange(3) > 0,
-        compares=random.randrange(20) == 0,
-    )
-
-
-def changed_input(random: Random, given: Input, other: Input) -> Input:
-    """An input with some changes: mostly in the Kconfig, and in all other texts now and then."""
-    others = [other.kconfig, given.kconfig, other.stream or b"config\n"]
-    rolls = [random.randrange(10) for _ in range(4)]
-    if rolls[0] < 8:
-        given = replace(given, kconfig=changed(random, given.kconfig, others, count_of(random)))
-    if rolls[1] < 4:
-        given = replace(given, config=changed(random, given.config, [given.config, *others], count_of(random)))
-    if rolls[2] < 5:
-        given = replace(given, stream=changed(random, given.stream, [given.stream, *others], count_of(random)))
-    if rolls[3] < 4 and given.files:
-        files = tuple((path, changed(random, text, others, count_of(random))) for path, text in given.files)
-        given = replace(given, files=files)
-    return given
-
-
-def count_of(random: Random) -> int:
-    """How many changes are made: mostly few."""
-    return min(random.randrange(1, 5), random.randrange(1, 5)) if random.randrange(8) else random.randrange(5, 30)
 
 
 # ------------------------------------------------------------------------------------------------ runs
@@ -160,9 +88,9 @@ class Runner:
         if self.child:
             os.kill(self.child, signal.SIGKILL)
 
-    def write_tree(self, given: Input) -> None:
-        """Writes the files of an input, and removes those of the one before."""
-        files: Dict[str, bytes] = {"Kconfig": given.kconfig, "config": given.config, **dict(given.files)}
+    def write_tree(self, plan: Plan) -> None:
+        """Writes the files of a plan, and removes those of the one before."""
+        files = files_of(plan)
         for path in self.written - set(files):
             if os.path.lexists(path):  # else it was removed by another spelling of its path
                 os.remove(path)
@@ -171,7 +99,7 @@ class Runner:
             if "/" in path:
                 os.makedirs(os.path.dirname(path), exist_ok=True)
             write_bytes(path, text)
-        write_bytes(self.streams[0], given.stream)
+        write_bytes(self.streams[0], plan.given.stream)
         self.written = set(files)
 
     def run(self, number: int, plan: Plan) -> Run:
@@ -199,13 +127,23 @@ class Runner:
             status=os.WEXITSTATUS(ended) if os.WIFEXITED(ended) else 0,
             output=read_bytes(self.streams[1]),
             errors=read_bytes(self.streams[2]),
+            options=plan.options,
+            operands=plan.operands(),
+            fragments=dict(plan.fragment_files()),
         )
 
     def again(self, number: int, plan: Plan) -> Tuple[Run, Optional[str]]:
         """The run of a plan, and what is wrong with it by itself."""
-        self.write_tree(plan.given)
+        self.write_tree(plan)
         run = self.run(number, plan)
         return run, problem_of(run)
+
+
+def files_of(plan: Plan) -> Dict[str, bytes]:
+    """The files that a plan needs, by their paths."""
+    given, fragments = plan.given, plan.fragment_files()
+    files = {"Kconfig": given.kconfig, "config": given.config, **dict(given.files)}
+    return {**files, **{path.decode(): text for path, text in fragments}}
 
 
 def remove_empty(folder: str) -> None:
@@ -225,61 +163,13 @@ def read_bytes(path: str) -> bytes:
         return file.read()
 
 
-# ------------------------------------------------------------------------------------------------ compared runs
-
-
-def problem_beside_others(runner: Runner, number: int, plan: Plan, run: Run) -> Optional[str]:
-    """What is wrong with a run beside other runs on the same tree."""
-    if not plan.compares or run.status:
-        return None
-    if plan.target == "olddefconfig":
-        return problem_of_reload(runner, number, plan, run) or problem_of_session(runner, number, plan, run)
-    if plan.target == "savedefconfig":
-        return problem_of_default_file(runner, number, plan, run)
-    return None
-
-
-def problem_of_reload(runner: Runner, number: int, plan: Plan, run: Run) -> Optional[str]:
-    """What is wrong with the `.config` that was written, loaded again."""
-    second, problem = runner.again(number, replace(plan, given=replace(plan.given, config=run.output), has_config=True))
-    lines = run.output.split(b"\n")
-    for warning in second.errors.split(b"\n")[:-1]:
-        found = NUMBER_WARNING.fullmatch(warning)
-        if problem is None and not (found and UNQUOTED.fullmatch(lines[int(found[1]) - 1])):
-            problem = f"{warning!r}"
-    return problem and f"the .config, loaded again: {problem}"
-
-
-def problem_of_session(runner: Runner, number: int, plan: Plan, run: Run) -> Optional[str]:
-    """What is wrong with the `config` of a session beside the text of the target."""
-    plan = replace(plan, target="session", given=replace(plan.given, stream=b"config\n"))
-    second, problem = runner.again(number, plan)
-    if problem is None and second.output != run.output + b"ok\n":
-        problem = "another text"
-    return problem and f"the config of a session: {problem}"
-
-
-def problem_of_default_file(runner: Runner, number: int, plan: Plan, run: Run) -> Optional[str]:
-    """What is wrong with the default file: it gives the same `.config` as what it was made from."""
-    first, problem = runner.again(number, replace(plan, target="olddefconfig"))
-    if problem is None:
-        given = replace(plan.given, config=run.output)
-        second, problem = runner.again(number, replace(plan, target="olddefconfig", given=given, has_config=True))
-        if problem is None and second.errors:
-            problem = "warnings"
-        elif problem is None and second.output != first.output:
-            problem = "other values"
-    return problem and f"the default file, loaded: {problem}"
-
-
 # ------------------------------------------------------------------------------------------------ what is kept
 
 
 def keep(folder: Path, plan: Plan, run: Run, problem: str) -> None:
     """Keeps the files, the command line and what came of a run in a folder."""
     tree = folder / "tree"
-    files = (("Kconfig", plan.given.kconfig), ("config", plan.given.config), *plan.given.files)
-    for path, text in files:
+    for path, text in files_of(plan).items():
         (tree / path).parent.mkdir(parents=True, exist_ok=True)
         (tree / path).write_bytes(text)
     words = " ".join(shlex.quote(os.fsdecode(word)) for word in plan.words())
@@ -316,7 +206,7 @@ def fuzz(arguments: argparse.Namespace, work: Path) -> int:
     for number in range(arguments.first, arguments.first + arguments.runs):
         plan = plan_of(arguments.seed, number, pools, targets)
         run, problem = runner.again(number, plan)
-        problem = problem or problem_beside_others(runner, number, plan, run)
+        problem = problem or problem_beside_others(partial(runner.again, number), plan, run)
         statuses[run.status] += 1
         if problem is None:
             continue

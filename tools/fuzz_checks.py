@@ -1,15 +1,16 @@
 """What the fuzzer checks of a run: its status, the forms of standard error and of standard output, and the replies.
 
-The forms are those of docs/COMMANDS.md.
+The forms are those of docs/COMMANDS.md; those of the targets that report are in fuzz_reports.py.
 """
 
 import re
-from dataclasses import dataclass
-from typing import Dict, Iterator, List, Optional, Tuple
+from typing import Iterator, List, Optional, Tuple
+
+from fuzz_reports import Run, is_merge_report, merge_problems, report_problems
 
 LONGEST_LINE = 65_536
 LONGEST_TEXT = 16_777_216
-TEXT_TARGETS = ("olddefconfig", "savedefconfig", "listnewconfig", "allnoconfig", "allyesconfig")
+REPORTS = ("genmake", "files", "why", "check", "menu")
 
 WORD = re.compile(rb"[A-Za-z0-9_][A-Za-z0-9_-]*=.*", re.DOTALL)
 PREFIX = re.compile(rb"[A-Za-z0-9_]{0,64}")
@@ -19,6 +20,7 @@ LINE_FAULT = re.compile(rb"kconf: (.+):(\d+): K(?:0[1-9]|1[0-9]|20)")
 SYMBOL_FAULT = re.compile(rb"kconf: K1[2-8] \w+")
 LOOP_FAULT = re.compile(rb"kconf: K19")
 LOOP_NODE = re.compile(rb"kconf: on .+", re.DOTALL)
+NO_SYMBOL = re.compile(rb"kconf: (\w+): no symbol has this name")
 FILE_FAULT = re.compile(rb"kconf: (.*): (?:cannot read|not UTF-8|limit)")
 # No run of the fuzzer gives a reason for these: streams are files, and there is memory enough.
 UNEXPECTED = (b"kconf: memory", b"kconf: cannot read", b"kconf: cannot write")
@@ -29,6 +31,9 @@ EXPLAINED = re.compile(
 # A line that is named after the words, with its place; or the words of a refusal.
 REMARK = re.compile(rb"  \S.*|kconf: command \d+: refused [1-7]: \S.*", re.DOTALL)
 
+# How many errors `check` explains.
+MOST_EXPLAINED = 16
+
 REFUSED = re.compile(rb"refused [1-7]")
 SYMBOL_LINE = re.compile(
     rb"\w+ type=(?:bool|tristate|string|int|hex) value=(.*) vis=[nmy] can=(?:-|[nmy](?:,[nmy])*) user=(.*)", re.DOTALL
@@ -37,24 +42,6 @@ CHOICE_LINE = re.compile(rb'choice \d+ "(.*)" mode=[nmy] sel=[\w-]+ user=[\w-]+'
 WARNING_LINE = re.compile(rb"warning \d+ [1-5]")
 COUNT = re.compile(rb"[0-9]{1,7}")
 NO_ARGUMENTS = (b"reset", b"allno", b"allyes", b"list", b"choices", b"config", b"header", b"defconfig", b"new")
-
-
-@dataclass
-class Run:
-    """What the program was given, and what it did."""
-
-    target: str
-    prefix: bytes = b"CONFIG_"
-    is_explained: bool = False
-    words: Tuple[bytes, ...] = ()
-    texts: Optional[Dict[bytes, bytes]] = None  # of the Kconfig and its files, by their paths
-    config: Optional[bytes] = None
-    stream: bytes = b""
-    signal: int = 0
-    is_hung: bool = False
-    status: int = 0
-    output: bytes = b""
-    errors: bytes = b""
 
 
 def problem_of(run: Run) -> Optional[str]:
@@ -76,15 +63,23 @@ def problems_of(run: Run) -> Iterator[str]:
         if not run.errors.startswith(b"error: ") or run.output:
             yield "a mistake of usage that is not reported as one"
         return
+    if run.target == "merge" and run.status == 0 and not is_merge_report(run):
+        yield "no numbers at the end of the report"
+    if is_merge_report(run):
+        yield from merge_problems(run)
+        yield from output_problems(run)
+        return
     yield from error_problems(run)
-    if run.status == 1 and run.output and not run.target == "session":
+    if run.errors and run.status == 1 and run.output and not run.target == "session":
         yield "output beside a fault"
-    if run.status == 0:
+    if run.status == 0 or not has_fault(run):
         yield from output_problems(run)
 
 
 def is_misused(run: Run) -> bool:
     """Whether the words are no command line."""
+    if run.target in ("why", "merge") and not run.operands:
+        return True
     words = (*run.words, run.prefix)
     are_words = all(WORD.fullmatch(word) for word in run.words) and PREFIX.fullmatch(run.prefix)
     return not are_words or any(not is_utf8(word) for word in words)
@@ -105,24 +100,48 @@ def error_problems(run: Run) -> Iterator[str]:
     """What is wrong with the lines of standard error: warnings, and behind a fault nothing."""
     if run.errors and not run.errors.endswith(b"\n"):
         yield "a line of standard error without its end"
-    lines = run.errors.split(b"\n")[:-1]
-    plain = lines
-    if run.is_explained:
-        plain = [line_without_words(line) for line in lines if not REMARK.fullmatch(line)]
-    count = 0
-    while count < len(plain) and WARNING.fullmatch(plain[count]):
-        count += 1
-    yield from warning_problems(run, plain[:count])
-    fault = plain[count:]
-    if fault and not is_fault(fault):
+    warnings, fault = parts_of_errors(run)
+    yield from warning_problems(run, warnings)
+    if run.target == "why" and fault and all(map(NO_SYMBOL.fullmatch, fault)):
+        yield from unknown_name_problems(run, fault)
+        return
+    if fault and not (are_faults(fault) if run.target == "check" else is_fault(fault)):
         yield f"a line of standard error that has no known form: {fault[0]!r}"
-    if bool(fault) != (run.status == 1):
+    is_strict = b"--strict" in run.options and not fault  # then a finding, too, makes it 1
+    if bool(fault) != (run.status == 1) and not is_strict:
         yield f"status {run.status} {'with' if fault else 'without'} a fault"
     if fault and fault[0] in UNEXPECTED:
         yield f"{fault[0].decode()}, without a reason"
-    elif fault and count:
+    elif fault and warnings:
         yield "warnings beside a fault of the tree"
     yield from place_problems(run, fault)
+
+
+def parts_of_errors(run: Run) -> Tuple[List[bytes], List[bytes]]:
+    """The warnings and the lines behind them, all without the words that explain them."""
+    plain = run.errors.split(b"\n")[:-1]
+    if run.is_explained:
+        named = [line for line in plain if not REMARK.fullmatch(line)]
+        most = MOST_EXPLAINED if run.target == "check" else len(named)
+        plain = [*map(line_without_words, named[:most]), *named[most:]]
+    count = 0
+    while count < len(plain) and WARNING.fullmatch(plain[count]):
+        count += 1
+    return plain[:count], plain[count:]
+
+
+def has_fault(run: Run) -> bool:
+    """Whether an error was reported."""
+    return bool(parts_of_errors(run)[1])
+
+
+def unknown_name_problems(run: Run, lines: List[bytes]) -> Iterator[str]:
+    """What is wrong with the names of `why` that no symbol has: they are some of those that it was given, in order."""
+    given = iter(run.operands)
+    if run.status != 1:
+        yield f"status {run.status} with a name that no symbol has"
+    if not all(any(line == b"kconf: " + name + b": no symbol has this name" for name in given) for line in lines):
+        yield "a name that was not given, or not in this order"
 
 
 def line_without_words(line: bytes) -> bytes:
@@ -142,8 +161,15 @@ def is_fault(lines: List[bytes]) -> bool:
     return len(lines) == 1 and (lines[0] in UNEXPECTED or any(form.fullmatch(lines[0]) for form in forms))
 
 
+def are_faults(lines: List[bytes]) -> bool:
+    """Whether lines are the faults that `check` reports: a loop alone, or one or more others."""
+    return is_fault(lines) or all(is_fault([line]) for line in lines)
+
+
 def warning_problems(run: Run, lines: List[bytes]) -> Iterator[str]:
     """What is wrong with the numbers of warnings: they are those of lines of CONFIG, each once and in their order."""
+    if lines and run.target in ("check", "merge", "files", "allnoconfig", "allyesconfig"):
+        yield "warnings of a target that has none"
     numbers = [int(found[2]) for found in map(WARNING.fullmatch, lines) if found]
     most = (run.config or b"").count(b"\n") + 1
     if numbers != sorted(set(numbers)) or any(not 1 <= number <= most for number in numbers):
@@ -152,12 +178,12 @@ def warning_problems(run: Run, lines: List[bytes]) -> Iterator[str]:
 
 def place_problems(run: Run, fault: List[bytes]) -> Iterator[str]:
     """What is wrong with the place of a fault: it is a line of a file that was given."""
-    found = LINE_FAULT.fullmatch(fault[0]) if fault else None
-    if not found or run.texts is None or found[1] not in run.texts:
-        return
-    text = run.texts[found[1]]
-    if int(found[2]) > text.count(b"\n") + (not text.endswith(b"\n")) + 1:  # the end of a file is a line behind it
-        yield f"a fault at a line that is not there: {fault[0]!r}"
+    for found in filter(None, map(LINE_FAULT.fullmatch, fault)):
+        if run.texts is None or found[1] not in run.texts:
+            continue
+        text = run.texts[found[1]]
+        if int(found[2]) > text.count(b"\n") + (not text.endswith(b"\n")) + 1:  # the end of a file is a line behind it
+            yield f"a fault at a line that is not there: {found[0]!r}"
 
 
 # ------------------------------------------------------------------------------------------------ standard output
@@ -166,6 +192,9 @@ def place_problems(run: Run, fault: List[bytes]) -> Iterator[str]:
 def output_problems(run: Run) -> Iterator[str]:
     if run.target == "session":
         yield from reply_problems(run)
+        return
+    if run.target in REPORTS:
+        yield from report_problems(run)
         return
     if run.output and not run.output.endswith(b"\n"):
         yield "a line of standard output without its end"

@@ -62,6 +62,8 @@ def section_bytes(options: List[str], lines: List[bytes]) -> bytes:
     count = int(options[options.index("times") - 1])
     if count * len(once) > MOST_OF_A_CASE:
         count = max(1, MOST_OF_A_CASE // max(1, len(once)))
+    if b"{n" not in once:
+        return once * count
     numbered = (once.replace(b"{n}", b"%d" % at).replace(b"{n+1}", b"%d" % (at + 1)) for at in range(count))
     return b"".join(numbered)
 

@@ -17,7 +17,7 @@
 # Files before the first of these headings are there in each part of the document, and a part that runs nothing has no
 # other blocks. The directory `linux` of a part is a small tree with the makefiles and the functions of a kernel. The
 # blocks of README.md below "Get it" are not run: they build the program. What docs/TASKS.md quotes in its table of what
-# `why` says has to be in the source of that target.
+# `why` says has to be in a case of crates/kc_cases/data that runs it.
 #
 # KERNEL is a directory with the tree of Debian's package linux-source-6.1, expanded into `expanded` by the recipe of
 # docs/TREES.md with the variables in `words`, and `config-5.10` and `config-6.1`, the amd64 configurations of Debian's
@@ -47,9 +47,9 @@ DOCUMENTS = ("docs/TASKS.md", "docs/COMMANDS.md", "docs/PROTOCOL.md", "README.md
 NOT_RUN = ("Get it",)
 BLOCK = re.compile(r"^```(\S+)(?: ([^\n]*))?\n(.*?)^```$", re.MULTILINE | re.DOTALL)
 
-# The table that quotes `why`, and where its words are.
+# The table that quotes `why`, and the cases that have its words.
 QUOTES = ("docs/TASKS.md", "| What `why` says |")
-SOURCES = ("crates/kc_facts/src", "crates/kc_report/src", "crates/kc_program/src")
+CASES = "crates/kc_cases/data"
 
 # A tree whose makefiles give `conf` its variables as those of a kernel do, and whose Kconfig runs functions.
 LINUX = {
@@ -122,12 +122,12 @@ def pieces_of(text):
 
 
 def words_not_said(text, title):
-    """What the first column of a table quotes that no source of `why` has."""
+    """What the first column of a table quotes that no case of `why` has."""
     table = text[text.index(title):].split("\n\n", 1)[0].split("\n")[2:]
     quotes = [quote for row in table for quote in re.findall(r"`([^`]+)`", row.split("|")[1])]
-    code = "".join(path.read_text(encoding="utf-8") for name in SOURCES for path in (root / name).glob("*.rt"))
-    said = re.findall(r'"((?:[^"\\]|\\.)*)"', code)
-    missing = [quote for quote in quotes if not any(quote.removeprefix("because ") in words for words in said)]
+    cases = "".join(path.read_text(encoding="utf-8") for path in (root / CASES).glob("*.cases"))
+    runs = re.findall(r"^--- run why .*\n(?:(?!---|===).*\n)*(?:--- errors\n(?:(?!---|===).*\n)*)?", cases, re.MULTILINE)
+    missing = [quote for quote in quotes if not any(quote in run for run in runs)]
     return missing if quotes else [f"anything of {title}"]
 
 

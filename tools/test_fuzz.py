@@ -1,18 +1,28 @@
 #!/usr/bin/env python3
 """Tests of tools/fuzz.py: that it sees each kind of failure, in programs that only fail."""
 
+import io
 import subprocess
 import sys
 import tempfile
 import unittest
+from contextlib import redirect_stdout
+from dataclasses import replace
 from pathlib import Path
 from typing import List, Optional, Tuple
+from unittest import mock
 
-from fuzz import TARGETS, plan_of
-from fuzz_checks import Run, commands_of, problem_of
-from fuzz_inputs import all_inputs, input_of_case
+from fuzz import main
+from fuzz_checks import commands_of, problem_of
+from fuzz_compared import make_text, problem_beside_others
+from fuzz_inputs import Input, all_inputs, input_of_case
+from fuzz_plans import TARGETS, Plan, plan_of
+from fuzz_reports import Run
 
 TOOL = Path(__file__).resolve().parent / "fuzz.py"
+POOLS = all_inputs([])
+
+NOTHING_ASKED = "0 asked: 0 got, 0 got another value, 0 unusable, 0 replaced; 0 lines of config lost"
 
 # A script, its target, and what the fuzzer says of it; none where it finds nothing wrong.
 PROGRAMS: List[Tuple[str, str, Optional[str]]] = [
@@ -35,6 +45,14 @@ PROGRAMS: List[Tuple[str, str, Optional[str]]] = [
     ("echo what", "allnoconfig", "a line of standard output that has no known form"),
     ("echo ok; echo ok; head -c 100000 /dev/zero | tr '\\0' '\\n' | sed s/^/ok/", "session", "replies to"),
     ("printf ok", "session", "a reply that does not end"),
+    ("kill -SEGV $$", "why", "signal 11"),
+    ("exit 1", "merge", "status 1 without a fault"),
+    ("echo '{\"id\":1'", "menu", "a line that is no JSON object"),
+    ("echo what", "check", "a last line of the findings that has no known form"),
+    ("[ $1 != check ] || { echo 'kconf: Kconfig:1: K04' >&2; exit 1; }", "check", "the first error is"),
+    ("[ $1 != files ] || { echo 'kconf: Kconfig:1: K04' >&2; exit 1; }", "files", "and that of olddefconfig"),
+    ("[ $1 != olddefconfig ] || echo CONFIG_A=y", "genmake", "other values than in the .config"),
+    (f"[ $1 = session ] || echo '{NOTHING_ASKED}' >&2", "merge", "a session with the same loads"),
 ]
 
 # A stream, and the refusal of each of its commands where it is 1, 5 or 6, else 0.
@@ -74,16 +92,157 @@ RUNS: List[Tuple[Run, bool]] = [
     (Run("olddefconfig", status=1, errors=b"kconf: K12 A: a symbol without a type\n"), True),
     (Run("olddefconfig", words=(b"A",), status=2, errors=b"error: no\n"), False),
     (Run("olddefconfig", words=(b"A",)), True),
+    (Run("genmake", output=b"CONFIG_A=y\nCONFIG_S=a b\n"), False),
+    (Run("genmake", output=b"# CONFIG_A is not set\n"), True),
+    (Run("genmake", output=b"CONFIG_A=y\nCONFIG_A=m\n"), True),
+    (Run("files", output=b"Kconfig\na/b\n", texts={b"Kconfig": b"", b"a/b": b""}), False),
+    (Run("files", output=b"Kconfig\na/c\n", texts={b"Kconfig": b"", b"a/b": b""}), True),
+    (Run("files", output=b"a/b\nKconfig\n"), True),
+    (Run("files", output=b"Kconfig\nKconfig\n"), True),
+    (Run("files", errors=b"kconf: config:1: warning 4\n", output=b"Kconfig\n", config=b"x\n"), True),
+]
+
+KCONFIG = {b"Kconfig": b"config A\n\tbool\n"}
+WHY = b"A = y (bool, visible n, user -)\n  by default\n  Kconfig:1: config A\n"
+
+# A run of `why` of the names A and CONFIG_B, and whether something is wrong with it.
+WHYS: List[Tuple[int, bytes, bytes, bool]] = [
+    (0, WHY + b"\n" + WHY.replace(b"A", b"B"), b"", False),
+    (0, WHY + b"\n" + WHY, b"", True),
+    (0, WHY, b"", True),
+    (0, WHY + b"\n" + WHY.replace(b"A", b"B").replace(b"by default", b"by chance"), b"", True),
+    (0, WHY + b"\n" + WHY.replace(b"A", b"B").replace(b"visible n", b"visible x"), b"", True),
+    (0, WHY + b"\n" + WHY.replace(b"A", b"B").replace(b"  Kconfig", b"Kconfig"), b"", True),
+    (1, b"", b"kconf: A: no symbol has this name\nkconf: CONFIG_B: no symbol has this name\n", False),
+    (1, b"", b"kconf: config:1: warning 4\nkconf: CONFIG_B: no symbol has this name\n", False),
+    (1, b"", b"kconf: CONFIG_B: no symbol has this name\nkconf: A: no symbol has this name\n", True),
+    (1, b"", b"kconf: C: no symbol has this name\n", True),
+    (0, b"", b"kconf: A: no symbol has this name\n", True),
+    (1, WHY, b"kconf: CONFIG_B: no symbol has this name\n", True),
+    (1, b"", b"kconf: Kconfig:1: K04\n", False),
+]
+
+UNDEFINED = b"Kconfig:2: A: undefined: NETWROK (always n); did you mean NETWORK?\n"
+
+# A run of `check` with a CONFIG of two lines, its options, and whether something is wrong with it.
+CHECKS: List[Tuple[int, bytes, bytes, Tuple[bytes, ...], bool]] = [
+    (0, b"no findings\n", b"", (), False),
+    (0, b"no findings, 2 undefined names (--undefined lists them)\n", b"", (), False),
+    (0, UNDEFINED + b"1 finding\n", b"", (), False),
+    (1, UNDEFINED + b"1 finding\n", b"", (b"--strict",), False),
+    (0, UNDEFINED + b"1 finding\n", b"", (b"--strict",), True),
+    (1, b"no findings\n", b"", (b"--strict",), True),
+    (1, UNDEFINED + b"1 finding\n", b"", (), True),
+    (0, UNDEFINED + b"2 findings\n", b"", (), True),
+    (0, UNDEFINED + UNDEFINED + b"2 findings\n", b"", (), True),
+    (0, UNDEFINED.replace(b"always n", b"a word") + b"1 finding\n", b"", (), True),
+    (0, UNDEFINED.replace(b":2:", b":9:") + b"1 finding\n", b"", (), True),
+    (0, UNDEFINED.replace(b"Kconfig", b"Kconf") + b"1 finding\n", b"", (), True),
+    (0, b"config:2: A: y has no effect: needs B=n\nX: given, and used nowhere\n2 findings\n", b"", (), False),
+    (0, b"X: given, and used nowhere\nconfig:2: A: y has no effect: needs B=n\n2 findings\n", b"", (), True),
+    (0, b"config:2: A: y has no effect: needs B=n\n" + UNDEFINED + b"2 findings\n", b"", (), True),
+    (0, UNDEFINED, b"", (), True),
+    (1, b"", b"kconf: Kconfig:1: K04\nkconf: Kconfig:2: K06\n", (), False),
+    (1, b"", b"kconf: K14 A\nkconf: Kconfig:2: K17\n", (), False),
+    (1, b"", b"kconf: K19\nkconf: on A\n", (b"--strict",), False),
+    (1, b"", b"kconf: K14 A\nkconf: K19\nkconf: on A\n", (), True),
+    (1, b"", b"kconf: Kconfig:1: K04\nkconf: Kconfig:9: K06\n", (), True),
+    (0, b"no findings\n", b"kconf: config:1: warning 4\n", (), True),
+    (0, b"no findings\n", b"kconf: Kconfig:1: K04\n", (b"--strict",), True),
+]
+
+ASKED = b"%d asked: %d got, %d got another value, %d unusable, %d replaced; %d lines of config lost\n"
+OTHER = b"fragment1:1: A: asked y, got n: needs B=n\n"
+
+# The report of `merge` on a CONFIG and a fragment of two lines, its status and options, and whether something is wrong.
+MERGES: List[Tuple[int, bytes, Tuple[bytes, ...], bool]] = [
+    (0, ASKED % (2, 2, 0, 0, 0, 0), (), False),
+    (0, ASKED % (2, 1, 0, 0, 0, 0), (), True),
+    (0, ASKED % (2, 1, 1, 0, 0, 0), (), True),
+    (0, OTHER + ASKED % (2, 1, 1, 0, 0, 0), (), False),
+    (0, OTHER + ASKED % (2, 1, 1, 0, 0, 0), (b"--strict",), True),
+    (1, OTHER + ASKED % (2, 1, 1, 0, 0, 0), (b"--strict",), False),
+    (1, OTHER + ASKED % (2, 1, 1, 0, 0, 0), (), True),
+    (0, OTHER.replace(b":1:", b":4:") + ASKED % (2, 1, 1, 0, 0, 0), (), True),
+    (0, OTHER.replace(b"fragment1", b"fragment2") + ASKED % (2, 1, 1, 0, 0, 0), (), True),
+    (0, OTHER.replace(b"asked", b"wanted") + ASKED % (2, 1, 1, 0, 0, 0), (), True),
+    (0, b"fragment1:1: no line of a .config\n" + ASKED % (2, 1, 0, 1, 0, 0), (), False),
+    (0, b"fragment1:2: A: y takes the place of n (fragment1:1)\n" + ASKED % (2, 1, 0, 0, 1, 0), (), False),
+    (0, b"fragment1:2: A: y takes the place of n (fragment1:1)\n" + ASKED % (2, 2, 0, 0, 0, 0), (), True),
+    (0, b"config:2: A: was y, is n: needs B=n\n" + ASKED % (2, 2, 0, 0, 0, 1), (), False),
+    (0, b"config:2: A: was y, is n: needs B=n\n" + OTHER + ASKED % (2, 1, 1, 0, 0, 1), (), True),
+    (1, b"kconf: Kconfig:1: K04\n", (), False),
+    (0, b"kconf: config:1: warning 4\n", (), True),
+    (0, b"", (), True),
+]
+
+MENU = b'{"id":2,"parent":0,"kind":"menu","prompt":"m","at":"Kconfig:1","shown":"y"}\n'
+SYMBOL = (
+    b'{"id":3,"parent":2,"kind":"config","name":"A","type":"bool","at":"Kconfig:2","shown":"n","vis":"n","value":"n",'
+    b'"can":[],"user":null}\n'
+)
+
+# What `menu` writes, and whether something is wrong with it.
+MENUS: List[Tuple[bytes, bool]] = [
+    (b"", False),
+    (MENU + SYMBOL, False),
+    (SYMBOL, True),
+    (SYMBOL.replace(b'"parent":2', b'"parent":0') + MENU, True),
+    (MENU + SYMBOL.replace(b'"id":3', b'"id":2'), True),
+    (MENU.replace(b'"prompt":"m",', b""), True),
+    (MENU.replace(b'"prompt":"m"', b'"prompt":"m","title":"m"'), True),
+    (MENU.replace(b'"prompt":"m"', b'"prompt":"m","prompt":"m"'), True),
+    (MENU.replace(b'"prompt":"m"', b'"prompt":"\xff"'), True),
+    (MENU.replace(b'"prompt":"m"', b'"prompt":"\t"'), True),
+    (MENU.replace(b"menu", b"folder"), True),
+    (MENU.replace(b'"shown":"y"', b'"shown":"x"'), True),
+    (MENU + SYMBOL.replace(b'"can":[],', b""), True),
+    (MENU + SYMBOL.replace(b'"bool"', b'"int"'), True),
+    (MENU[:-1], True),
+]
+
+# A value, and how it is written for make.
+MAKE_TEXTS: List[Tuple[bytes, bytes]] = [
+    (b"", b""),
+    (b"a b", b"a b"),
+    (b" a$#", b"$() a$$\\#"),
+    (b"##", b"\\#\\#"),
+    (b"\\#\r#", b"\\$()\\#\r$()\\#"),
+    (b"a\\", b"a\\$()"),
+    (b"\r", b"$()\r$()"),
+]
+
+LIST = b'A type=bool value=n vis=n can=- user=-\nS type=string value="a\\"" vis=y can=- user=-\nok\n'
+TEXT = SYMBOL.replace(b'"A"', b'"S"').replace(b"bool", b"string").replace(b'"can":[],', b"")
+
+# A target, what it wrote, what it wrote to standard error, what the other target or session wrote, and whether the two
+# are at odds.
+COMPARED: List[Tuple[str, bytes, bytes, bytes, bytes, bool]] = [
+    ("check", b"no findings\n", b"", b"# CONFIG_A is not set\n", b"", False),
+    ("check", b"no findings\n", b"", b"", b"kconf: K14 A\n", True),
+    ("check", b"", b"kconf: K14 A\nkconf: K14 B\n", b"", b"kconf: K14 A\n", False),
+    ("check", b"", b"kconf: K14 B\nkconf: K14 A\n", b"", b"kconf: K14 A\n", True),
+    ("files", b"", b"kconf: K14 A\n", b"", b"", True),
+    ("genmake", b"CONFIG_A=y\nCONFIG_S=a\"\n", b"", b'# a\nCONFIG_A=y\nCONFIG_S="a\\""\n', b"", False),
+    ("genmake", b"CONFIG_A=y\n", b"", b"CONFIG_A=m\n", b"", True),
+    ("merge", b"CONFIG_A=y\n", ASKED % (0, 0, 0, 0, 0, 0), b"warning 1 4\nok\nok\nCONFIG_A=y\nok\n", b"", False),
+    ("merge", b"CONFIG_A=y\n", ASKED % (0, 0, 0, 0, 0, 0), b"ok\nok\n# CONFIG_A is not set\nok\n", b"", True),
+    ("merge", b"CONFIG_A=y\n", ASKED % (0, 0, 0, 0, 0, 0), b"ok\nrefused 6\nCONFIG_A=y\nok\n", b"", True),
+    ("why", b"A = n (bool, visible n, user -)\n  by default\n", b"", LIST, b"", False),
+    ("why", b"A = y (bool, visible n, user -)\n  by default\n", b"", LIST, b"", True),
+    ("menu", SYMBOL + TEXT.replace(b'"vis":"n","value":"n"', b'"vis":"y","value":"a\\""'), b"", LIST, b"", False),
+    ("menu", SYMBOL + TEXT, b"", LIST, b"", True),
+    ("menu", SYMBOL, b"", LIST, b"", True),
 ]
 
 
 def plain_run(target: str) -> int:
     """The number of a run of seed 1 whose words are a command line, without words that explain."""
-    pools = all_inputs([])
     for number in range(1_000):
-        plan = plan_of(1, number, pools, [target])
-        is_plain = plan.prefix is None and not plan.given.words and not plan.is_explained
-        if is_plain and plan.given.stream.count(b"\n") > 3:
+        plan = plan_of(1, number, POOLS, [target])
+        is_plain = plan.prefix is None and not plan.given.words and not plan.is_explained and not plan.options
+        has_operands = target not in ("why", "merge") or plan.operands()
+        if is_plain and has_operands and plan.given.stream.count(b"\n") > 3:
             return number
     raise AssertionError("no such run")
 
@@ -99,13 +258,13 @@ class Fuzzer(unittest.TestCase):
         program = self.folder / "program"
         program.write_text(f"#!/bin/sh\n{script}\n")
         program.chmod(0o755)
-        command = [sys.executable, TOOL, "--program", program, "--keep", self.folder / "kept", *words]
-        done = subprocess.run(command, capture_output=True, text=True)
-        self.assertEqual(done.stderr, "")
-        return done.returncode, done.stdout
+        said = io.StringIO()
+        with redirect_stdout(said), mock.patch("fuzz.all_inputs", lambda _trees: POOLS):
+            status = main(["--program", str(program), "--keep", str(self.folder / "kept"), *words])
+        return status, said.getvalue()
 
     def test_programs_that_fail(self) -> None:
-        numbers = {target: str(plain_run(target)) for target in TARGETS if target in ("allnoconfig", "session")}
+        numbers = {target: str(plain_run(target)) for target in {row[1] for row in PROGRAMS}}
         for script, target, problem in PROGRAMS:
             with self.subTest(script):
                 limit = "1" if problem == "it did not end" else "60"
@@ -126,10 +285,15 @@ class Fuzzer(unittest.TestCase):
         self.assertIn(" 9 runs", said)
 
     def test_a_run_is_the_same_each_time(self) -> None:
-        pools, again = all_inputs([]), all_inputs([])
+        again = all_inputs([])
         for number in range(50):
-            plan = plan_of(3, number, pools, list(TARGETS))
+            plan = plan_of(3, number, POOLS, list(TARGETS))
             self.assertEqual(plan, plan_of(3, number, again, list(TARGETS)))
+
+    def test_the_command_line(self) -> None:
+        command = [sys.executable, TOOL, "--program", "true", "--runs", "0"]
+        done = subprocess.run(command, capture_output=True, text=True)
+        self.assertEqual((done.returncode, done.stderr, done.stdout[:14]), (0, "", "seed 1: 0 runs"))
 
     def test_commands_of_streams(self) -> None:
         for stream, refusals in STREAMS:
@@ -140,6 +304,56 @@ class Fuzzer(unittest.TestCase):
         for run, is_wrong in RUNS:
             with self.subTest(run):
                 self.assertEqual(problem_of(run) is not None, is_wrong, problem_of(run))
+
+    def is_wrong(self, run: Run) -> bool:
+        return problem_of(replace(run, texts=KCONFIG, config=b"x\ny\n")) is not None
+
+    def test_runs_of_why(self) -> None:
+        for status, output, errors, is_wrong in WHYS:
+            with self.subTest((output, errors)):
+                run = Run("why", status=status, output=output, errors=errors, operands=(b"A", b"CONFIG_B"))
+                self.assertEqual(self.is_wrong(run), is_wrong)
+        self.assertFalse(self.is_wrong(Run("why", status=2, errors=b"error: no\n")))
+        self.assertTrue(self.is_wrong(Run("why", output=WHY)))
+
+    def test_runs_of_check(self) -> None:
+        for status, output, errors, options, is_wrong in CHECKS:
+            with self.subTest((output, errors)):
+                run = Run("check", status=status, output=output, errors=errors, options=options)
+                self.assertEqual(self.is_wrong(run), is_wrong)
+
+    def test_explained_errors_of_check(self) -> None:
+        explained, plain = b"kconf: K14 A: two prompts\n  Kconfig:1: bool\n", b"kconf: K14 A\n"
+        for count, rest, is_wrong in ((3, 0, False), (16, 2, False), (3, 1, True), (17, 0, True)):
+            with self.subTest((count, rest)):
+                errors = explained * count + plain * rest
+                self.assertEqual(self.is_wrong(Run("check", status=1, is_explained=True, errors=errors)), is_wrong)
+
+    def test_runs_of_merge(self) -> None:
+        given = Run("merge", operands=(b"fragment1",), fragments={b"fragment1": b"a\nb\n"})
+        for status, errors, options, is_wrong in MERGES:
+            with self.subTest(errors):
+                run = replace(given, status=status, errors=errors, options=options)
+                self.assertEqual(self.is_wrong(run), is_wrong)
+
+    def test_runs_of_menu(self) -> None:
+        for output, is_wrong in MENUS:
+            with self.subTest(output):
+                self.assertEqual(self.is_wrong(Run("menu", output=output)), is_wrong)
+
+    def test_values_for_make(self) -> None:
+        for value, written in MAKE_TEXTS:
+            self.assertEqual(make_text(value), written)
+
+    def test_compared_runs(self) -> None:
+        given = Plan("", Input(b"", config=b"x\ny\n"), has_config=True, compares=True, fragments=(b"x",))
+        for target, output, errors, other, other_errors, is_wrong in COMPARED:
+            with self.subTest((target, output, other)):
+                status = 1 if errors.startswith(b"kconf: K") else 0
+                run = Run(target, status=status, output=output, errors=errors, operands=(b"A",))
+                beside = Run("", output=other, errors=other_errors)
+                found = problem_beside_others(lambda _plan: (beside, None), replace(given, target=target), run)
+                self.assertEqual(found is not None, is_wrong, found)
 
     def test_cases_are_read(self) -> None:
         case = b"\n--- Kconfig escaped\na\\tb\\r\n--- file d/f 2 times\n{n} {n+1}\n"

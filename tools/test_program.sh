@@ -348,7 +348,7 @@ END
 touch -d '1 minute ago' board/.config.d board/.config board/auto.conf board/autoconf.h board/main
 echo 'CONFIG_WIFY=y' >> board/.config
 wants make_in board <<'END'
-kconf: .config:3: warning 1: no symbol is named WIFY
+kconf: .config:3: warning 1: no symbol is named WIFY; did you mean WIFI?
 net=y
 #define CONFIG_NET 1
 status 0
@@ -414,7 +414,7 @@ END
 echo 'CONFIG_WIFI=y' >> board/.config
 wants make_in board checkconfig KCONFIG_STRICT=y <<'END'
 .config:2: WIFI
-1 finding
+1 finding in .config, none in the tree
 Error 1
 status 2
 END
