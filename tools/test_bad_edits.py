@@ -32,7 +32,8 @@ class Gate(unittest.TestCase):
         """Makes a script that writes a text, half of it as an error, and ends with a status."""
         lines = text.splitlines()
         writes = [f"printf '%s\\n' '{line}' >&{1 + place % 2}" for place, line in enumerate(lines, len(lines) % 2 + 1)]
-        said = ["#!/bin/sh", 'printf "%s\\n" "$*" >>"$0.words"', 'pwd >>"$0.folder"', *writes, f"exit {status}", ""]
+        notes = [f'printf "%s\\n" "{it}" >>"$0.{end}"' for it, end in (("$*", "words"), ("$RT_JOBS", "jobs"))]
+        said = ["#!/bin/sh", *notes, 'pwd >>"$0.folder"', *writes, f"exit {status}", ""]
         path.write_text("\n".join(said), encoding="utf-8")
         path.chmod(0o755)
 
@@ -51,6 +52,11 @@ class Gate(unittest.TestCase):
         self.run_gate(PASSED)
         self.assertEqual((self.bin / "rt.words").read_text(), "ci\n")
         self.assertEqual((self.bin / "rt.folder").read_text(), f"{self.top.resolve()}\n")
+
+    def test_rt_runs_one_check_on_each_processor_at_most(self) -> None:
+        self.run_gate(PASSED)
+        jobs = int((self.bin / "rt.jobs").read_text())
+        self.assertTrue(1 <= jobs <= len(os.sched_getaffinity(0)), jobs)
 
     def test_an_edit_that_cannot_be_read_or_was_not_tried_fails(self) -> None:
         for line in (BAD, NOT_TRIED):
@@ -74,7 +80,7 @@ class Gate(unittest.TestCase):
     def test_no_file_is_left_in_the_checkout(self) -> None:
         self.run_gate(BAD + PASSED)
         left = {str(path.relative_to(self.top)) for path in self.top.rglob("*") if path.is_file()}
-        stubs = {f"tools/check_all.sh{end}" for end in ("", ".words", ".folder")}
+        stubs = {f"tools/check_all.sh{end}" for end in ("", ".words", ".jobs", ".folder")}
         self.assertEqual(left - stubs, {".ci/run", "tools/bad_edits.py"})
 
 
