@@ -7,6 +7,7 @@ mod causes;
 mod characters;
 mod choice_words;
 mod forms;
+mod hints;
 mod indentation;
 mod items;
 mod limits;

@@ -79,10 +79,20 @@ pub(crate) enum TextMessage {
     InColumn,
     InColumnOfLine,
     Character,
+    BlankAfterBackslash,
     UnclosedQuote,
+    /// Words after those for a character: the sign that may be meant by a `&`.
+    WriteAnd,
+    /// The same for a `|`.
+    WriteOr,
+    /// The same for a `,` between the symbols of a `select` or an `imply`.
+    LineForEach,
+    /// Words after those for a character or a quote in a line that begins with `//`.
+    CommentBegins,
     Function,
     ReservedName,
     Dollar,
+    DollarOfValue,
     DollarOfVariable,
     NeedsItself,
 }
@@ -237,8 +247,15 @@ impl TextMessage {
             Self::ValueCharacter => row!["its value has a line feed, a carriage return or a NUL"],
             Self::InColumn => row![" in column " Number],
             Self::InColumnOfLine => row![" in column " Number " of line " Line],
-            Self::Character => row![Text Place],
+            Self::Character => row![Text Place " is not allowed outside quotes"],
+            Self::BlankAfterBackslash => row![
+                "a blank after the backslash" Place ": the lines are not joined"
+            ],
             Self::UnclosedQuote => row!["no " Text " closes the one" Place],
+            Self::WriteAnd => row!["; write `&&`"],
+            Self::WriteOr => row!["; write `||`"],
+            Self::LineForEach => row!["; write a line for each"],
+            Self::CommentBegins => row!["; a comment begins with `#`"],
             Self::Function => row![
                 "the function `" Name "` is not run: expand the tree first, see docs/TREES.md"
             ],
@@ -247,6 +264,9 @@ impl TextMessage {
             ],
             Self::Dollar => row![
                 "the dollar" Place " begins no reference: write $(NAME), or \\$ in quotes for a plain dollar, and expand a tree with functions first, see docs/TREES.md"
+            ],
+            Self::DollarOfValue => row![
+                "the dollar" Place " begins no reference: write $(NAME), as a value has no escape for a plain dollar, and expand a tree with functions first, see docs/TREES.md"
             ],
             Self::DollarOfVariable => row![
                 "the text of `" Name "`, or of a variable in it, has a dollar that begins no reference"

@@ -1,6 +1,7 @@
 //! What is said of a fault of a text.
 
 use crate::characters::push_character;
+use crate::hints::hint_at;
 use crate::items::{Found, Spot, find_item, spot_after};
 use crate::meanings::fault_meaning;
 use crate::messages::TextMessage;
@@ -129,11 +130,28 @@ impl TextLine<'_> {
         let Some((spot, stop)) = self.stop(found, kind) else {
             return self.plain(fault);
         };
+        let message = if self.is_blank_after_backslash(spot, stop) {
+            TextMessage::BlankAfterBackslash
+        } else {
+            message
+        };
         let mut text = String::new(self.alloc);
         push_character(&mut text, stop)?;
         let place = self.place_words(spot)?;
         let texts = texts!(text: text.as_str(), place: place.as_str());
-        self.say(message, texts, spot.line)
+        let mut words = words_of(self.alloc, message.row(), &texts)?;
+        let before = found.text().strip_suffix(stop).unwrap_or("");
+        if let Some(hint) = hint_at(before, stop) {
+            words.push_str(words_of(self.alloc, hint.row(), &texts!())?.as_str())?;
+        }
+        self.show(words, spot.line)
+    }
+
+    /// Whether the reading of a line stops at a backslash that would join it with the next one without the blanks after it.
+    fn is_blank_after_backslash(&self, spot: Spot, stop: &str) -> bool {
+        let rest = stop.strip_prefix('\\').unwrap_or("");
+        let is_last = self.text.lines().skip(spot.line).next().is_none();
+        !rest.is_empty() && rest.bytes().all(|byte| byte == b' ' || byte == b'\t') && !is_last
     }
 
     /// What is said of a dollar that begins no reference (K10).
@@ -144,6 +162,9 @@ impl TextLine<'_> {
         let (message, name) = match dollar_of(stop.get(1..).unwrap_or("")) {
             Dollar::Function(name) => (TextMessage::Function, name),
             Dollar::Reserved(name) => (TextMessage::ReservedName, name),
+            Dollar::Reference(_) | Dollar::Other if found.value().is_some() => {
+                (TextMessage::DollarOfValue, "")
+            }
             Dollar::Reference(_) | Dollar::Other => (TextMessage::Dollar, ""),
         };
         let place = self.place_words(spot)?;
