@@ -6,6 +6,8 @@ mod blocks;
 mod causes;
 mod characters;
 mod choice_words;
+mod corrections;
+mod expressions;
 mod forms;
 mod hints;
 mod indentation;

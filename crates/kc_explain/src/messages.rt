@@ -31,7 +31,9 @@ pub(crate) enum LineMessage {
     NoWord,
     NoKeyword,
     Misspelt,
+    CommentSign,
     AfterHelp,
+    UnindentedHelp,
     QuotedKeyword,
     ExpandedKeyword,
     StrayAlone,
@@ -55,14 +57,24 @@ pub(crate) enum FormMessage {
     /// The same where no token comes.
     WantedMore,
     WithForm,
+    /// Words after those for a mistake: what is to be written in place of what is there.
+    Instead,
+    /// Words after those for a mistake at a word such as `//`.
+    CommentBegins,
     WithoutOn,
     DefaultOfChoice,
     UnsupportedWord,
     NamedChoice,
     ConditionOfDepends,
+    /// The same where no line can be written in its place.
+    AnyCondition,
     IfForPrompt,
     Unquoted,
     UnquotedIf,
+    /// A text without quotes, where no line can be written in its place.
+    AnyUnquoted,
+    /// Text without quotes that begins with `//`.
+    NoComment,
     TristateOfChoice,
     InChoice,
 }
@@ -162,9 +174,14 @@ impl LineMessage {
             Self::NoWord => row!["the line has no word"],
             Self::NoKeyword => row!["`" Word "` begins no statement"],
             Self::Misspelt => row!["`" Word "` begins no statement; did you mean `" Wanted "`?"],
+            Self::CommentSign => row!["`" Word "` begins no statement; a comment begins with `#`"],
             Self::AfterHelp => row![
                 "`" Word "` begins no statement; the line is indented by " Number
                 ", the help text of line " Line " by " Second ", so that ended"
+            ],
+            Self::UnindentedHelp => row![
+                "`" Word "` begins no statement; the text of the `help` in line " Line
+                " has to be indented from its first line on"
             ],
             Self::QuotedKeyword => row![
                 Word " begins no statement, as a text in quotes is no keyword"
@@ -206,6 +223,8 @@ impl FormMessage {
             Self::WantedNot => row!["after `" Word "` " Wanted " is wanted, not `" Text "`"],
             Self::WantedMore => row!["after `" Word "` " Wanted " is wanted, and the line ends"],
             Self::WithForm => row![Text ": " Form],
+            Self::Instead => row!["; write `" Form "`"],
+            Self::CommentBegins => row!["; a comment begins with `#`"],
             Self::WithoutOn => row!["`depends` wants `on`: depends on " Text],
             Self::DefaultOfChoice => row![
                 "the default of a choice is the name of a member alone: default NAME [if E]"
@@ -215,11 +234,12 @@ impl FormMessage {
             Self::ConditionOfDepends => row![
                 "a condition of `depends on`: depends " Text " || !(" Other ")"
             ],
+            Self::AnyCondition => row!["a condition of `depends on` is unsupported"],
             Self::IfForPrompt => row!["`if` in place of a prompt: " Word " \"prompt\" if .."],
-            Self::Unquoted => row!["a " Kind " without quotes: " Word " \"" Text "\""],
-            Self::UnquotedIf => row![
-                "a " Kind " without quotes: " Word " \"" Text "\" if " Other
-            ],
+            Self::Unquoted => row!["a " Kind " without quotes: " Word " " Text],
+            Self::UnquotedIf => row!["a " Kind " without quotes: " Word " " Text " if " Other],
+            Self::AnyUnquoted => row!["a " Kind " without quotes: " Word " \"..\""],
+            Self::NoComment => row!["a comment begins with `#`, not with `//`"],
             Self::TristateOfChoice => row![
                 "`tristate` of a choice is unsupported: write `bool`, or `prompt` alone"
             ],

@@ -3,11 +3,12 @@
 use crate::indentation::{help_indentation, indentation, line_of};
 use crate::lines::Suspect;
 use crate::messages::LineMessage;
-use crate::nearest::nearest_keyword;
+use crate::nearest::{meant_type, nearest_keyword};
 use crate::piece::texts;
 use crate::said::Said;
 use crate::spelling::tokens_text;
-use kc_text::Token;
+use kc_text::{Line, Token};
+use std::alloc::AllocError;
 
 /// How a line after a help text is indented.
 #[derive(Clone, Copy)]
@@ -51,25 +52,68 @@ fn after_help(suspect: &Suspect<'_, '_, '_>, text: &str) -> Option<AfterHelp> {
     (after.of_line < after.of_text).then_some(after)
 }
 
-/// What is said of an unknown word. After a help text it is one of that text, unless it is near a keyword and indented as
-/// `help` is.
-fn explain_word(suspect: &Suspect<'_, '_, '_>, word: &str, text: &str) -> Said {
-    let after = after_help(suspect, text);
-    let wanted = match nearest_keyword(word) {
-        _ if word == "allnoconfig_y" => Some("option allnoconfig_y"),
-        Some(_) if after.is_some_and(|after| after.of_line != after.of_help) => None,
-        nearest => nearest,
+/// The number of the `help` line before a line in the same file, where its text is empty and nothing but blank lines and
+/// comments is between them. If the first line of a help text is not indented, the text is empty.
+fn empty_help(suspect: &Suspect<'_, '_, '_>, text: &str) -> Result<Option<usize>, AllocError> {
+    let line = suspect.line;
+    let before = suspect.statements.lines.get(..suspect.at).unwrap_or(&[]);
+    let Some(help) = before.last().filter(|help| help.run() == line.run()) else {
+        return Ok(None);
     };
-    match (wanted, after) {
-        (Some(wanted), _) => {
+    let Some(words) = help.help() else {
+        return Ok(None);
+    };
+    let words = words.to_text(suspect.statements.alloc)?;
+    let count = line
+        .number()
+        .saturating_sub(help.number())
+        .saturating_sub(1);
+    let mut between = text.lines().skip(help.number()).take(count);
+    let is_next = between.all(|line| line.trim().is_empty() || line.trim().starts_with('#'));
+    let is_empty = words.as_str().is_empty() && !text.is_empty();
+    Ok((is_empty && is_next).then_some(help.number()))
+}
+
+/// What is said of an unknown word. After a help text it is one of that text, unless it is near a keyword and indented as
+/// `help` is. After a `help` without a text it is one of the text, unless it is near a keyword and in small letters.
+fn explain_word(suspect: &Suspect<'_, '_, '_>, word: &str, text: &str) -> Said {
+    if word.starts_with("//") {
+        return suspect.say(LineMessage::CommentSign.row(), &texts!(word: word));
+    }
+    let after = after_help(suspect, text);
+    let help = empty_help(suspect, text)?;
+    let is_small = !word.bytes().any(|byte| byte.is_ascii_uppercase());
+    let wanted = match wanted_for(suspect.line, word) {
+        wanted if word == "allnoconfig_y" => wanted,
+        Some(_) if after.is_some_and(|after| after.of_line != after.of_help) => None,
+        Some(_) if help.is_some() && !is_small => None,
+        wanted => wanted,
+    };
+    match (wanted, after, help) {
+        (Some(wanted), _, _) => {
             let texts = texts!(word: word, wanted: wanted);
             suspect.say(LineMessage::Misspelt.row(), &texts)
         }
-        (None, Some(after)) => {
+        (None, Some(after), _) => {
             let (number, second) = (after.of_line, after.of_text);
             let texts = texts!(word: word, line: after.line, number: number, second: second);
             suspect.say(LineMessage::AfterHelp.row(), &texts)
         }
-        (None, None) => suspect.say(LineMessage::NoKeyword.row(), &texts!(word: word)),
+        (None, None, Some(line)) => {
+            let texts = texts!(word: word, line: line);
+            suspect.say(LineMessage::UnindentedHelp.row(), &texts)
+        }
+        (None, None, None) => suspect.say(LineMessage::NoKeyword.row(), &texts!(word: word)),
+    }
+}
+
+/// What the first word of a line may have been meant as: a type of another language only where a prompt or nothing
+/// follows.
+fn wanted_for(line: &Line<'_>, word: &str) -> Option<&'static str> {
+    let is_type = matches!(line.tokens(), [_] | [_, Token::Quoted(_), ..]);
+    match meant_type(word) {
+        _ if word == "allnoconfig_y" => Some("option allnoconfig_y"),
+        Some(meant) if is_type => Some(meant),
+        _ => nearest_keyword(word),
     }
 }

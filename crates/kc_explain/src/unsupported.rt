@@ -1,10 +1,11 @@
 //! What is said of a word or a form that is unsupported (K20).
 
+use crate::expressions::is_expression;
 use crate::lines::Suspect;
 use crate::messages::FormMessage;
 use crate::piece::texts;
 use crate::said::{Said, Unsaid};
-use crate::spelling::{first_word, tokens_text};
+use crate::spelling::{begins_comment, first_word, push_in_quotes, tokens_text, written_text};
 use kc_statement::{Keyword, is_word, read_keyword};
 use kc_text::Token;
 
@@ -37,7 +38,11 @@ pub(crate) fn explain_unsupported(suspect: &Suspect<'_, '_, '_>) -> Said {
     let tokens = suspect.line.tokens();
     let keyword = read_keyword(suspect.line).ok_or(Unsaid::Nothing)?;
     let (_, rest) = tokens.split_first().ok_or(Unsaid::Nothing)?;
+    let wants_text = keyword == Keyword::Choice || keyword.wants_quotes();
     match keyword {
+        _ if wants_text && rest.first().is_some_and(begins_comment) => {
+            suspect.say(FormMessage::NoComment.row(), &texts!())
+        }
         Keyword::Unsupported => fixed_words(suspect, tokens.get(..1).unwrap_or(&[])),
         Keyword::Option => fixed_words(suspect, tokens.get(..2).unwrap_or(&[])),
         Keyword::Depends => condition_words(suspect, rest),
@@ -86,37 +91,66 @@ fn form_for(text: &str) -> Option<&'static str> {
 
 /// What is said of a condition of `depends on`, where there is one.
 fn condition_words(suspect: &Suspect<'_, '_, '_>, rest: &[Token<'_>]) -> Said {
+    let alloc = suspect.statements.alloc;
     let mut parts = rest.splitn(2, |token| is_word(token, "if"));
     let (Some(needed), Some(condition)) = (parts.next(), parts.next()) else {
         return Err(Unsaid::Nothing);
     };
-    let needed = tokens_text(suspect.statements.alloc, needed)?;
-    let condition = tokens_text(suspect.statements.alloc, condition)?;
-    let texts = texts!(text: needed.as_str(), other: condition.as_str());
+    let is_needed = match needed {
+        [first, needed @ ..] => is_word(first, "on") && is_expression(needed),
+        [] => false,
+    };
+    let is_readable = is_needed && is_expression(condition);
+    let written = (
+        written_text(alloc, needed)?,
+        written_text(alloc, condition)?,
+    );
+    let (Some(needed), Some(other), true) = (written.0, written.1, is_readable) else {
+        return suspect.say(FormMessage::AnyCondition.row(), &texts!());
+    };
+    let texts = texts!(text: needed.as_str(), other: other.as_str());
     suspect.say(FormMessage::ConditionOfDepends.row(), &texts)
 }
 
 /// What is said of a prompt, a title or a path without quotes.
 fn unquoted_words(suspect: &Suspect<'_, '_, '_>, keyword: Keyword, rest: &[Token<'_>]) -> Said {
     let alloc = suspect.statements.alloc;
-    let word = first_word(suspect.line);
-    if rest.first().is_some_and(|token| is_word(token, "if")) {
-        return suspect.say(FormMessage::IfForPrompt.row(), &texts!(word: word));
+    let kind = kind_of_text(keyword);
+    let texts = texts!(kind: kind, word: first_word(suspect.line));
+    let has_condition = kind == "prompt";
+    if has_condition && rest.first().is_some_and(|token| is_word(token, "if")) {
+        return suspect.say(FormMessage::IfForPrompt.row(), &texts);
     }
-    let kind = match keyword {
+    let mut parts = rest.splitn(2, |token| is_word(token, "if"));
+    let (text, condition) = match (parts.next(), parts.next()) {
+        (Some(text), Some(condition)) if has_condition && is_expression(condition) => {
+            (text, condition)
+        }
+        _ => (rest, rest.get(..0).unwrap_or(rest)),
+    };
+    let is_one_path = keyword != Keyword::Source || rest.len() == 1;
+    let written = (written_text(alloc, text)?, written_text(alloc, condition)?);
+    let (Some(text), Some(other), true) = (written.0, written.1, is_one_path) else {
+        return suspect.say(FormMessage::AnyUnquoted.row(), &texts);
+    };
+    let mut quoted = String::new(alloc);
+    push_in_quotes(&mut quoted, text.as_str())?;
+    let texts = texts!(text: quoted.as_str(), other: other.as_str(), ..texts);
+    let message = if condition.is_empty() {
+        FormMessage::Unquoted
+    } else {
+        FormMessage::UnquotedIf
+    };
+    suspect.say(message.row(), &texts)
+}
+
+/// What the text is that a statement or an attribute has in quotes.
+fn kind_of_text(keyword: Keyword) -> &'static str {
+    match keyword {
         Keyword::Menu | Keyword::Comment | Keyword::MainMenu => "title",
         Keyword::Source => "path",
         _ => "prompt",
-    };
-    let mut parts = rest.splitn(2, |token| is_word(token, "if"));
-    let text = tokens_text(alloc, parts.next().unwrap_or(rest))?;
-    let texts = texts!(kind: kind, word: word, text: text.as_str());
-    let Some(condition) = parts.next() else {
-        return suspect.say(FormMessage::Unquoted.row(), &texts);
-    };
-    let condition = tokens_text(alloc, condition)?;
-    let texts = texts!(other: condition.as_str(), ..texts);
-    suspect.say(FormMessage::UnquotedIf.row(), &texts)
+    }
 }
 
 /// What is said of a menu or a choice in a choice, and nothing outside one.
