@@ -52,8 +52,10 @@ COUNT_OF_FINDINGS = re.compile(
     rb"|\d+ undefined names \(--undefined lists them\)))?"
 )
 UNUSABLE = (
-    rb"the line is not UTF-8|a mark of a conflict between two versions|not a line of a \.config|`.*` is no name: .+"
-    rb"|no name is after .*|blanks (?:around `=`|before the name); write .*|the name does not begin with .+; write .*"
+    rb"the line is not UTF-8|a mark of a conflict between two versions|not a line of a \.config"
+    rb"|.+ in column \d+ is not allowed(?:; leave it out| in a name, which has ASCII letters, digits and _ alone)"
+    rb"|no name is (?:before `=`|after .*)|blanks (?:around `=`|before the name|after `=`)(?:; write .+)?"
+    rb"|the name does not begin with \w+(?:; write .+)?|a comment has a line of its own; write .+"
     rb"|no symbol is named .+|\w+ is an? " + KINDS + rb" \(" + AT + rb"\), which takes .+"
     rb"|no `\"` ends the text of the string \w+ .+|\w+ is a string \(" + AT + rb"\); write .*"
 )

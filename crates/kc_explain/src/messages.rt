@@ -147,18 +147,25 @@ pub(crate) enum ChoiceMessage {
 pub(crate) enum ConfigMessage {
     NotText,
     ConflictMark,
+    ByteOrderMark,
+    NothingNamed,
     NoName,
     PrefixAlone,
     BlanksAround,
     BlanksBefore,
     WithoutPrefix,
+    /// Words after those for a line: the line that is meant.
+    Meant,
     UndefinedName,
     Repeated,
     NotSet,
     EmptyValue,
     UnfitValue,
+    BlanksAfter,
+    CommentAfter,
     UnclosedString,
     BareString,
+    LongString,
 }
 
 impl LineMessage {
@@ -349,13 +356,16 @@ impl ConfigMessage {
         match self {
             Self::NotText => row!["the line is not UTF-8"],
             Self::ConflictMark => row!["a mark of a conflict between two versions"],
-            Self::NoName => row!["`" Name "` is no name: " Prefix " and letters, digits and _"],
-            Self::PrefixAlone => row!["no name is after " Prefix],
-            Self::BlanksAround => row!["blanks around `=`; write " Name "=" Value],
-            Self::BlanksBefore => row!["blanks before the name; write " Name "=" Value],
-            Self::WithoutPrefix => row![
-                "the name does not begin with " Prefix "; write " Prefix Name "=" Value
+            Self::ByteOrderMark => row![Text " in column 1 is not allowed; leave it out"],
+            Self::NothingNamed => row!["no name is before `=`"],
+            Self::NoName => row![
+                Text " in column " Number " is not allowed in a name, which has ASCII letters, digits and _ alone"
             ],
+            Self::PrefixAlone => row!["no name is after " Prefix],
+            Self::BlanksAround => row!["blanks around `=`"],
+            Self::BlanksBefore => row!["blanks before the name"],
+            Self::WithoutPrefix => row!["the name does not begin with " Prefix],
+            Self::Meant => row!["; write " Form],
             Self::UndefinedName => row!["no symbol is named " Name],
             Self::Repeated =>
                 row![Name " has a usable line before, line " Line "; this one counts"],
@@ -368,12 +378,14 @@ impl ConfigMessage {
             Self::UnfitValue => row![
                 Name " is " Kind " (" Path ":" Line "), which takes " List ", not " Value
             ],
+            Self::BlanksAfter => row!["blanks after `=`"],
+            Self::CommentAfter => row!["a comment has a line of its own"],
             Self::UnclosedString => row![
-                "no `\"` ends the text of the string " Name " (" Path ":" Line "); write "
-                Prefix Name "=\"" Value "\""
+                "no `\"` ends the text of the string " Name " (" Path ":" Line ")"
             ],
-            Self::BareString => row![
-                Name " is a string (" Path ":" Line "); write " Prefix Name "=" Value
+            Self::BareString => row![Name " is a string (" Path ":" Line ")"],
+            Self::LongString => row![
+                Name " is a string (" Path ":" Line "), which takes a text in quotes"
             ],
         }
     }

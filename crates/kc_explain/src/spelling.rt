@@ -19,6 +19,13 @@ pub(crate) fn repeated(text: &str) -> &str
     &text[..text.floor_char_boundary(MOST_REPEATED)]
 }
 
+/// The first 160 bytes of a text, or fewer where these end within a character.
+pub(crate) fn beginning(text: &str) -> &str
+    ensures { length result.now ≤ 160 }
+{
+    &text[..text.floor_char_boundary(MOST_WRITTEN)]
+}
+
 /// Tokens as they are quoted: with a blank between them, but after `(` and `!` and before `)`, and of at most 160
 /// bytes.
 pub(crate) fn tokens_text(alloc: Global, tokens: &[Token<'_>]) -> Result<String, AllocError> {

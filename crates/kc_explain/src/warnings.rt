@@ -1,23 +1,18 @@
 //! What is said of the warnings of a `.config`.
 
-use crate::malformed::malformed_words;
+use crate::malformed::{malformed_words, named_symbols};
+use crate::meant_lines::{before_comment, is_taken, meant_line, push_meant_line};
 use crate::messages::ConfigMessage;
 use crate::piece::{Texts, texts, words_of};
-use crate::statements::{Definition, Statements};
-use kc_facts::{MeantNames, NamedLine, name_in, push_meant, push_quoted, shown_line, type_words};
+use crate::spelling::beginning;
+use crate::statements::Statements;
+use crate::symbol_types::SymbolTypes;
+use kc_facts::{MeantNames, NamedLine, name_in, push_meant, type_words};
 use kc_files::{Warning, WarningKind};
 use kc_statement::SymbolType;
 use kc_text::Line;
 use std::alloc::{AllocError, Global};
 use std::collections::BTreeMap;
-
-/// The first line, by its number among all lines, that gives a symbol a type; where none does, as in a member of a choice,
-/// its first line.
-#[derive(Clone, Copy)]
-struct Typed {
-    kind: Option<SymbolType>,
-    line: usize,
-}
 
 /// A line of a `.config` with its warning.
 #[derive(Clone, Copy)]
@@ -43,18 +38,11 @@ pub fn explain_warnings(
 ) -> Result<Vec<String>, AllocError> {
     let warned = warned_lines(alloc, prefix, config, warnings)?;
     let statements = Statements::read(alloc, lines)?;
-    let types = types_of(&statements, warned.as_slice())?;
+    let types = types_of(&statements, prefix, warned.as_slice())?;
     let meant = meant_names(&statements, warned.as_slice())?;
     let mut all = Vec::new(alloc);
     for warned in warned.as_slice() {
-        let (kind, line) = match types.get(warned.line.name).copied().flatten() {
-            Some(typed) => (
-                typed.kind.unwrap_or(SymbolType::Bool),
-                lines.get(typed.line),
-            ),
-            None => (SymbolType::Bool, None),
-        };
-        let mut words = warning_words(alloc, prefix, warned, kind, line)?;
+        let mut words = warning_words(alloc, lines, prefix, warned, &types)?;
         if warned.kind == WarningKind::UndefinedSymbol {
             push_meant(&mut words, meant.meant(prefix, warned.line.name))?;
         }
@@ -105,85 +93,78 @@ fn meant_names<'l>(
     MeantNames::of(statements.alloc, names)
 }
 
-/// The types of the symbols that lines of a `.config` name. The lines of the Kconfig are read once.
+/// The types of the symbols that lines of a `.config` name, or may be meant to name.
 fn types_of(
     statements: &Statements<'_, '_>,
+    prefix: &str,
     warned: &[Warned<'_>],
-) -> Result<BTreeMap<String, Option<Typed>>, AllocError> {
-    let alloc = statements.alloc;
-    let mut types: BTreeMap<String, Option<Typed>> = BTreeMap::new(alloc);
+) -> Result<SymbolTypes, AllocError> {
+    let mut names = Vec::new(statements.alloc);
     for warned in warned {
-        types.insert(String::from_str(alloc, warned.line.name)?, None)?;
+        names.push(warned.line.name)?;
+        let (name, _) = match warned.line.text {
+            Some(text) if warned.kind == WarningKind::Malformed => {
+                text.split_once('=').unwrap_or(("", ""))
+            }
+            _ => ("", ""),
+        };
+        names.extend_from_slice(&named_symbols(prefix, name))?;
     }
-    for definition in statements.definitions.as_slice() {
-        if let Some(typed) = types.get_mut(definition.name) {
-            *typed = Some(typed_after(statements, definition, *typed));
-        }
-    }
-    Ok(types)
-}
-
-/// What gives a symbol its type, after one more definition.
-fn typed_after(
-    statements: &Statements<'_, '_>,
-    definition: &Definition<'_>,
-    before: Option<Typed>,
-) -> Typed {
-    let (line, kind) = match statements.first_type(definition) {
-        Some((line, kind)) => (line, Some(kind)),
-        None => (definition.line, None),
-    };
-    match before {
-        Some(typed) if typed.kind.is_some() || kind.is_none() => typed,
-        _ => Typed { kind, line },
-    }
+    SymbolTypes::of(statements, names.as_slice())
 }
 
 /// What is written after the number of the warning of a line: which symbol it is about, and which line before it.
 fn warning_words(
     alloc: Global,
+    lines: &[Line<'_>],
     prefix: &str,
     warned: &Warned<'_>,
-    kind: SymbolType,
-    line: Option<&Line<'_>>,
+    types: &SymbolTypes,
 ) -> Result<String, AllocError> {
-    let texts = texts!(name: warned.line.name, prefix: prefix, line: warned.before);
-    match (warned.kind, line) {
-        (WarningKind::UndefinedSymbol, _) => {
-            words_of(alloc, ConfigMessage::UndefinedName.row(), &texts)
-        }
-        (WarningKind::BadValue | WarningKind::BadString, Some(line)) => {
+    let texts = texts!(name: warned.line.name, line: warned.before);
+    match warned.kind {
+        WarningKind::UndefinedSymbol => words_of(alloc, ConfigMessage::UndefinedName.row(), &texts),
+        WarningKind::Repeated => words_of(alloc, ConfigMessage::Repeated.row(), &texts),
+        WarningKind::Malformed => malformed_words(alloc, prefix, warned.line.text, types),
+        WarningKind::BadValue | WarningKind::BadString => {
+            let typed = types.get(warned.line.name);
+            let (Some(typed), Some(line)) = (typed, typed.and_then(|typed| lines.get(typed.line)))
+            else {
+                return malformed_words(alloc, prefix, warned.line.text, types);
+            };
             let texts = texts!(path: line.path(), line: line.number(), ..texts);
-            value_words(alloc, warned, kind, texts)
-        }
-        (WarningKind::Repeated, _) => words_of(alloc, ConfigMessage::Repeated.row(), &texts),
-        (WarningKind::Malformed | WarningKind::BadValue | WarningKind::BadString, _) => {
-            malformed_words(alloc, prefix, warned.line.text)
+            value_words(alloc, prefix, warned, typed.kind(), texts)
         }
     }
 }
 
-/// What is said of a value that its symbol does not take, or of that of a string that is no text in quotes.
+/// What is said of a value that its symbol does not take, and the line that is meant.
 fn value_words(
     alloc: Global,
+    prefix: &str,
     warned: &Warned<'_>,
     kind: SymbolType,
     texts: Texts<'_>,
 ) -> Result<String, AllocError> {
-    let mut quoted = String::new(alloc);
-    let spelt = warned.line.value.unwrap_or("");
-    push_quoted(&mut quoted, shown_line(spelt))?;
-    let (message, value) = match (warned.kind, warned.line.value, spelt.strip_prefix('"')) {
-        (WarningKind::BadString, _, Some(open)) => {
-            (ConfigMessage::UnclosedString, shown_line(open))
-        }
-        (WarningKind::BadString, _, None) => (ConfigMessage::BareString, quoted.as_str()),
-        (_, None, _) => (ConfigMessage::NotSet, ""),
-        (_, Some(""), _) => (ConfigMessage::EmptyValue, ""),
-        (_, Some(value), _) => (ConfigMessage::UnfitValue, shown_line(value)),
+    let texts = texts!(kind: type_words(kind), list: values_of(kind), ..texts);
+    let Some(spelt) = warned.line.value else {
+        return words_of(alloc, ConfigMessage::NotSet.row(), &texts);
     };
-    let texts = texts!(kind: type_words(kind), list: values_of(kind), value: value, ..texts);
-    words_of(alloc, message.row(), &texts)
+    let value = spelt.trim_start_matches([' ', '\t']);
+    let line = meant_line(alloc, prefix, warned.line.name, kind, spelt)?;
+    let message = match kind {
+        _ if value.len() < spelt.len() && is_taken(kind, value) => ConfigMessage::BlanksAfter,
+        SymbolType::String if value.starts_with('"') => ConfigMessage::UnclosedString,
+        SymbolType::String if line.is_none() => ConfigMessage::LongString,
+        SymbolType::String => ConfigMessage::BareString,
+        _ if value.is_empty() => ConfigMessage::EmptyValue,
+        _ if line.is_some() && before_comment(value).is_some() => ConfigMessage::CommentAfter,
+        _ => ConfigMessage::UnfitValue,
+    };
+    let texts = texts!(value: beginning(value), ..texts);
+    let mut words = words_of(alloc, message.row(), &texts)?;
+    push_meant_line(alloc, &mut words, line)?;
+    Ok(words)
 }
 
 /// The values that a type takes.
