@@ -88,17 +88,43 @@ impl<'a> Arguments<'a> {
     /// was refused. The text for the user is the error's `Display`, and after it the hint's.
     pub fn parse<S: AsStr>(alloc: Global, words: &'a [S]) -> Result<Arguments<'a>, BadWords<'a>> {
         let mut command = kconf_command(alloc)?;
+        if let Some(fault) = other_target(alloc, &mut command, words)? {
+            return Err(fault);
+        }
         let matches = command.try_get_matches_from_mut(words)?;
-        let (error, hint) = match read_matches(alloc, &matches) {
-            Ok(arguments) => return Ok(arguments),
-            Err(WordFault::BadValue(message)) => (bad_value(&mut command, message), None),
-            Err(WordFault::BadVariable(hint)) => {
-                (bad_value(&mut command, BAD_VARIABLE), Some(hint))
-            }
-            Err(WordFault::NoMemory) => (Error::from(AllocError), None),
+        let Some((row, found)) = target_of(&matches) else {
+            let error = command.error(ErrorKind::MissingSubcommand, MISSING_ARGUMENT)?;
+            return Err(BadWords::from(error));
         };
+        let (message, hint) = match read_matches(alloc, row, found) {
+            Ok(arguments) => return Ok(arguments),
+            Err(WordFault::BadValue(message)) => (message, None),
+            Err(WordFault::BadVariable(hint)) => (BAD_VARIABLE, Some(hint)),
+            Err(WordFault::NoMemory) => return Err(BadWords::from(AllocError)),
+        };
+        let error = usage_error(alloc, row, message)?;
         Err(BadWords { error, hint })
     }
+}
+
+/// What is said where the first word after the program's name is a target of other tools, and none of kconf.
+fn other_target<'a, S: AsStr>(
+    alloc: Global,
+    command: &mut Command<'_>,
+    words: &[S],
+) -> Result<Option<BadWords<'a>>, AllocError> {
+    let Some(name) = words.get(1).map(|word| word.as_str()) else {
+        return Ok(None);
+    };
+    let Some(hint) = Hint::of_target(name) else {
+        return Ok(None);
+    };
+    let message = format!(in alloc; "no target is named '{name}'")?;
+    let error = command.error(ErrorKind::InvalidSubcommand, message.as_str())?;
+    Ok(Some(BadWords {
+        error,
+        hint: Some(hint),
+    }))
 }
 
 impl From<AllocError> for WordFault<'_> {
@@ -124,15 +150,21 @@ const MALFORMED_PREFIX: &str =
 const BAD_VARIABLE: &str =
     "a word after the files is not NAME=VALUE, with ASCII letters, digits, '_' and '-' in NAME, and '-' not first";
 
-/// The arguments of the subcommand that was found in the words.
+/// The subcommand that was found in the words, and what was found of its arguments.
+fn target_of<'m, 'a>(
+    matches: &'m ArgMatches<'a>,
+) -> Option<(&'static Subcommand, &'m ArgMatches<'a>)> {
+    let (name, found) = matches.subcommand()?;
+    Some((subcommand_named(name)?, found))
+}
+
+/// The arguments of a subcommand.
 fn read_matches<'a>(
     alloc: Global,
-    matches: &ArgMatches<'a>,
+    row: &Subcommand,
+    found: &ArgMatches<'a>,
 ) -> Result<Arguments<'a>, WordFault<'a>> {
-    let Some((name, found)) = matches.subcommand() else {
-        return Err(WordFault::BadValue(MISSING_ARGUMENT));
-    };
-    let (Some(row), Some(kconfig)) = (subcommand_named(name), found.get_str("KCONFIG")) else {
+    let Some(kconfig) = found.get_str("KCONFIG") else {
         return Err(WordFault::BadValue(MISSING_ARGUMENT));
     };
     let prefix = read_prefix(alloc, found.get_str("prefix").unwrap_or("CONFIG_"))?;
@@ -196,12 +228,11 @@ fn missing_operand(operands: Operands) -> &'static str {
     }
 }
 
-/// A mistake of usage: the value of a word is not one of those that are taken.
-fn bad_value(command: &mut Command<'_>, message: &str) -> Error {
-    match command.error(ErrorKind::ValueValidation, message) {
-        Ok(error) => error,
-        Err(refused) => Error::from(refused),
-    }
+/// A mistake of usage of a subcommand, with its usage: the value of a word is not one of those that are taken.
+fn usage_error(alloc: Global, row: &Subcommand, message: &str) -> Result<Error, AllocError> {
+    let name = format!(in alloc; "kconf {}", row.name)?;
+    let mut command = target_command(alloc, row)?.bin_name(name.as_str())?;
+    command.error(ErrorKind::ValueValidation, message)
 }
 
 /// What is below the help of the program.
