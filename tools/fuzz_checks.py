@@ -6,7 +6,7 @@ The forms are those of docs/COMMANDS.md; those of the targets that report are in
 import re
 from typing import Iterator, List, Optional, Tuple
 
-from fuzz_reports import Run, is_merge_report, merge_problems, report_problems
+from fuzz_reports import EXCHANGED, Run, is_merge_report, merge_problems, report_problems
 
 LONGEST_LINE = 65_536
 LONGEST_TEXT = 16_777_216
@@ -30,9 +30,6 @@ EXPLAINED = re.compile(
 )
 # A line that is named after the words, with its place; or the words of a refusal.
 REMARK = re.compile(rb"  \S.*|kconf: command \d+: refused [1-7]: \S.*", re.DOTALL)
-
-# How many errors `check` explains.
-MOST_EXPLAINED = 16
 
 REFUSED = re.compile(rb"refused [1-7]")
 SYMBOL_LINE = re.compile(
@@ -120,10 +117,9 @@ def error_problems(run: Run) -> Iterator[str]:
 def parts_of_errors(run: Run) -> Tuple[List[bytes], List[bytes]]:
     """The warnings and the lines behind them, all without the words that explain them."""
     plain = run.errors.split(b"\n")[:-1]
-    if run.is_explained:
-        named = [line for line in plain if not REMARK.fullmatch(line)]
-        most = MOST_EXPLAINED if run.target == "check" else len(named)
-        plain = [*map(line_without_words, named[:most]), *named[most:]]
+    if run.is_in_words():
+        named = [line for line in plain if not REMARK.fullmatch(line) and not EXCHANGED.fullmatch(line)]
+        plain = [line_without_words(line) for line in named]
     count = 0
     while count < len(plain) and WARNING.fullmatch(plain[count]):
         count += 1

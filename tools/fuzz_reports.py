@@ -31,7 +31,16 @@ class Run:
     operands: Tuple[bytes, ...] = ()  # the names of `why`, the paths of the fragments of `merge`
     fragments: Optional[Dict[bytes, bytes]] = None
 
+    def is_in_words(self) -> bool:
+        """Whether warnings and errors have words."""
+        return self.is_explained or self.target in IN_WORDS
 
+
+# The targets whose warnings and errors have words without --explain.
+IN_WORDS = ("genmake", "files", "why", "check", "merge", "menu")
+
+# What is asked of a Kconfig without a symbol.
+EXCHANGED = re.compile(rb"kconf: .*: defines no symbol: is it a \.config\?", re.DOTALL)
 KINDS = rb"(?:bool|tristate|string|int|hex)"
 AT = rb".+:\d+"
 
@@ -237,7 +246,7 @@ def is_merge_report(run: Run) -> bool:
 
 def merge_problems(run: Run) -> Iterator[str]:
     """What is wrong with the report of `merge`: the forms and the order of its lines, its numbers, and the status."""
-    *lines, last = lines_of(run.errors)
+    *lines, last = (line for line in lines_of(run.errors) if not EXCHANGED.fullmatch(line))
     counts = COUNTS.fullmatch(last)
     assert counts, "a report has counts"
     asked, got, other, unusable, replaced, lost = (int(counts[at]) for at in range(1, 7))

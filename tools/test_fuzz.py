@@ -49,8 +49,8 @@ PROGRAMS: List[Tuple[str, str, Optional[str]]] = [
     ("exit 1", "merge", "status 1 without a fault"),
     ("echo '{\"id\":1'", "menu", "a line that is no JSON object"),
     ("echo what", "check", "a last line of the findings that has no known form"),
-    ("[ $1 != check ] || { echo 'kconf: Kconfig:1: K04' >&2; exit 1; }", "check", "the first error is"),
-    ("[ $1 != files ] || { echo 'kconf: Kconfig:1: K04' >&2; exit 1; }", "files", "and that of olddefconfig"),
+    ("[ $1 != check ] || { echo 'kconf: Kconfig:1: K04: no word' >&2; exit 1; }", "check", "the first error is"),
+    ("[ $1 != files ] || { echo 'kconf: Kconfig:1: K04: no word' >&2; exit 1; }", "files", "and that of olddefconfig"),
     ("[ $1 != olddefconfig ] || echo CONFIG_A=y", "genmake", "other values than in the .config"),
     (f"[ $1 = session ] || echo '{NOTHING_ASKED}' >&2", "merge", "a session with the same loads"),
 ]
@@ -99,7 +99,7 @@ RUNS: List[Tuple[Run, bool]] = [
     (Run("files", output=b"Kconfig\na/c\n", texts={b"Kconfig": b"", b"a/b": b""}), True),
     (Run("files", output=b"a/b\nKconfig\n"), True),
     (Run("files", output=b"Kconfig\nKconfig\n"), True),
-    (Run("files", errors=b"kconf: config:1: warning 4\n", output=b"Kconfig\n", config=b"x\n"), True),
+    (Run("files", errors=b"kconf: config:1: warning 4: no line\n", output=b"Kconfig\n", config=b"x\n"), True),
 ]
 
 KCONFIG = {b"Kconfig": b"config A\n\tbool\n"}
@@ -114,12 +114,13 @@ WHYS: List[Tuple[int, bytes, bytes, bool]] = [
     (0, WHY + b"\n" + WHY.replace(b"A", b"B").replace(b"visible n", b"visible x"), b"", True),
     (0, WHY + b"\n" + WHY.replace(b"A", b"B").replace(b"  Kconfig", b"Kconfig"), b"", True),
     (1, b"", b"kconf: A: no symbol has this name\nkconf: CONFIG_B: no symbol has this name\n", False),
-    (1, b"", b"kconf: config:1: warning 4\nkconf: CONFIG_B: no symbol has this name\n", False),
+    (1, b"", b"kconf: config:1: warning 4: no line\nkconf: CONFIG_B: no symbol has this name\n", False),
     (1, b"", b"kconf: CONFIG_B: no symbol has this name\nkconf: A: no symbol has this name\n", True),
     (1, b"", b"kconf: C: no symbol has this name\n", True),
     (0, b"", b"kconf: A: no symbol has this name\n", True),
     (1, WHY, b"kconf: CONFIG_B: no symbol has this name\n", True),
-    (1, b"", b"kconf: Kconfig:1: K04\n", False),
+    (1, b"", b"kconf: Kconfig:1: K04: no word\n", False),
+    (1, b"", b"kconf: Kconfig:1: K04\n", True),
 ]
 
 UNDEFINED = b"Kconfig:2: A: undefined: NETWROK (always n); did you mean NETWORK?\n"
@@ -142,13 +143,13 @@ CHECKS: List[Tuple[int, bytes, bytes, Tuple[bytes, ...], bool]] = [
     (0, b"X: given, and used nowhere\nconfig:2: A: y has no effect: needs B=n\n2 findings\n", b"", (), True),
     (0, b"config:2: A: y has no effect: needs B=n\n" + UNDEFINED + b"2 findings\n", b"", (), True),
     (0, UNDEFINED, b"", (), True),
-    (1, b"", b"kconf: Kconfig:1: K04\nkconf: Kconfig:2: K06\n", (), False),
-    (1, b"", b"kconf: K14 A\nkconf: Kconfig:2: K17\n", (), False),
-    (1, b"", b"kconf: K19\nkconf: on A\n", (b"--strict",), False),
-    (1, b"", b"kconf: K14 A\nkconf: K19\nkconf: on A\n", (), True),
-    (1, b"", b"kconf: Kconfig:1: K04\nkconf: Kconfig:9: K06\n", (), True),
-    (0, b"no findings\n", b"kconf: config:1: warning 4\n", (), True),
-    (0, b"no findings\n", b"kconf: Kconfig:1: K04\n", (b"--strict",), True),
+    (1, b"", b"kconf: Kconfig:1: K04: no word\nkconf: Kconfig:2: K06: no owner\n", (), False),
+    (1, b"", b"kconf: K14 A: two\nkconf: Kconfig:2: K17: no member\n", (), False),
+    (1, b"", b"kconf: K19: a loop\nkconf: on A\n", (b"--strict",), False),
+    (1, b"", b"kconf: K14 A: two\nkconf: K19: a loop\nkconf: on A\n", (), True),
+    (1, b"", b"kconf: Kconfig:1: K04: no word\nkconf: Kconfig:9: K06: no owner\n", (), True),
+    (0, b"no findings\n", b"kconf: config:1: warning 4: no line\n", (), True),
+    (0, b"no findings\n", b"kconf: Kconfig:1: K04: no word\n", (b"--strict",), True),
 ]
 
 ASKED = b"%d asked: %d got, %d got another value, %d unusable, %d replaced; %d lines of config lost\n"
@@ -171,8 +172,10 @@ MERGES: List[Tuple[int, bytes, Tuple[bytes, ...], bool]] = [
     (0, b"fragment1:2: A: y takes the place of n (fragment1:1)\n" + ASKED % (2, 2, 0, 0, 0, 0), (), True),
     (0, b"config:2: A: was y, is n: needs B=n\n" + ASKED % (2, 2, 0, 0, 0, 1), (), False),
     (0, b"config:2: A: was y, is n: needs B=n\n" + OTHER + ASKED % (2, 1, 1, 0, 0, 1), (), True),
-    (1, b"kconf: Kconfig:1: K04\n", (), False),
-    (0, b"kconf: config:1: warning 4\n", (), True),
+    (1, b"kconf: Kconfig:1: K04: no word\n", (), False),
+    (1, b"kconf: Kconfig:1: K04\n", (), True),
+    (0, b"kconf: Kconfig: defines no symbol: is it a .config?\n" + ASKED % (2, 2, 0, 0, 0, 0), (), False),
+    (0, b"kconf: config:1: warning 4: no line\n", (), True),
     (0, b"", (), True),
 ]
 
@@ -220,9 +223,9 @@ TEXT = SYMBOL.replace(b'"A"', b'"S"').replace(b"bool", b"string").replace(b'"can
 COMPARED: List[Tuple[str, bytes, bytes, bytes, bytes, bool]] = [
     ("check", b"no findings\n", b"", b"# CONFIG_A is not set\n", b"", False),
     ("check", b"no findings\n", b"", b"", b"kconf: K14 A\n", True),
-    ("check", b"", b"kconf: K14 A\nkconf: K14 B\n", b"", b"kconf: K14 A\n", False),
-    ("check", b"", b"kconf: K14 B\nkconf: K14 A\n", b"", b"kconf: K14 A\n", True),
-    ("files", b"", b"kconf: K14 A\n", b"", b"", True),
+    ("check", b"", b"kconf: K14 A: two\nkconf: K14 B: two\n", b"", b"kconf: K14 A\n", False),
+    ("check", b"", b"kconf: K14 B: two\nkconf: K14 A: two\n", b"", b"kconf: K14 A\n", True),
+    ("files", b"", b"kconf: K14 A: two\n", b"", b"", True),
     ("genmake", b"CONFIG_A=y\nCONFIG_S=a\"\n", b"", b'# a\nCONFIG_A=y\nCONFIG_S="a\\""\n', b"", False),
     ("genmake", b"CONFIG_A=y\n", b"", b"CONFIG_A=m\n", b"", True),
     ("merge", b"CONFIG_A=y\n", ASKED % (0, 0, 0, 0, 0, 0), b"warning 1 4\nok\nok\nCONFIG_A=y\nok\n", b"", False),
@@ -324,7 +327,7 @@ class Fuzzer(unittest.TestCase):
 
     def test_explained_errors_of_check(self) -> None:
         explained, plain = b"kconf: K14 A: two prompts\n  Kconfig:1: bool\n", b"kconf: K14 A\n"
-        for count, rest, is_wrong in ((3, 0, False), (16, 2, False), (3, 1, True), (17, 0, True)):
+        for count, rest, is_wrong in ((3, 0, False), (17, 0, False), (3, 1, True), (16, 2, True)):
             with self.subTest((count, rest)):
                 errors = explained * count + plain * rest
                 self.assertEqual(self.is_wrong(Run("check", status=1, is_explained=True, errors=errors)), is_wrong)

@@ -169,7 +169,8 @@ wants shell "kconf files Kconfig SRCARCH=x86 | sed 's/^/.config: /' > .config.d;
 status 0
 END
 wants kconf files Kconfig SRCARCH=arm <<'END'
-kconf: arch/arm/Kconfig: cannot read
+kconf: arch/arm/Kconfig: cannot read: no such file
+  Kconfig:1: source "arch/$(SRCARCH)/Kconfig"
 status 1
 END
 

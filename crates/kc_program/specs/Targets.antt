@@ -30,6 +30,22 @@ query_of Merge = None
 query_of Menu = None
 query_of Session = None
 
+-- whether warnings and errors are in words without being asked for: the others write numbers, as other programs read them
+abbrev pub is_explained : Target → Bool
+is_explained Olddefconfig = false
+is_explained Savedefconfig = false
+is_explained Listnewconfig = false
+is_explained Genheader = false
+is_explained Genmake = true
+is_explained Allnoconfig = false
+is_explained Allyesconfig = false
+is_explained Files = true
+is_explained Why = true
+is_explained Check = true
+is_explained Merge = true
+is_explained Menu = true
+is_explained Session = false
+
 -- ---- words
 abbrev pub begins_with_config : Operands → Bool
 begins_with_config operands.Nothing = false

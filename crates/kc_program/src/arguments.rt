@@ -169,7 +169,7 @@ fn read_matches<'a>(
     };
     let prefix = read_prefix(alloc, found.get_str("prefix").unwrap_or("CONFIG_"))?;
     let words = read_words(alloc, row, found.get_strs("words").unwrap_or(&[]))?;
-    let wording = if found.get_flag("explain") {
+    let wording = if row.target.is_explained() || found.get_flag("explain") {
         Wording::Explained
     } else {
         Wording::Number
@@ -277,7 +277,7 @@ fn target_command<'a>(alloc: Global, row: &Subcommand) -> Result<Command<'a>, Al
         .arg(variables_option(alloc))?
         .arg(folder_option(alloc))?
         .arg(prefix_option(alloc))?
-        .arg(explain_option(alloc))
+        .arg(explain_option(alloc, row.target))
 }
 
 /// The options that are those of a target alone.
@@ -407,9 +407,14 @@ fn prefix_option<'a>(alloc: Global) -> Arg<'a> {
         .help("What precedes the names of symbols in files: at most 64 ASCII letters, digits and _")
 }
 
-fn explain_option<'a>(alloc: Global) -> Arg<'a> {
+fn explain_option<'a>(alloc: Global, target: Target) -> Arg<'a> {
+    let help = if target.is_explained() {
+        "Changes nothing: this target always explains its warnings and errors"
+    } else {
+        "Explains each warning and error, and shows the lines of the files that are at fault"
+    };
     Arg::new(alloc, "explain")
         .long("explain")
         .action(ArgAction::SetTrue)
-        .help("Explains each warning and error, and shows the lines of the files that are at fault")
+        .help(help)
 }

@@ -28,7 +28,7 @@ use std::convert::AsStr;
 use std::io::{self, Read, Write};
 use std::mem;
 
-/// The most faults of a Kconfig that are explained, as the lines are read again for each.
+/// The most faults of a Kconfig that are shown with lines, as these are read again for each.
 const MOST_EXPLAINED: usize = 16;
 
 /// What is said of a malformed line of a file of variables.
@@ -237,12 +237,12 @@ fn report_all<F: Folder, E: Write>(
         return Err(report_of(alloc, Fault::Tree(first), wording, files, kconfig));
     };
     for (index, fault) in faults.into_iter().enumerate() {
-        let wording = if index < MOST_EXPLAINED {
-            wording
+        let fault = Fault::Tree(fault);
+        let fault = if index < MOST_EXPLAINED {
+            report_of(alloc, fault, wording, files, kconfig)
         } else {
-            Wording::Number
+            Report::of(fault, wording)
         };
-        let fault = report_of(alloc, Fault::Tree(fault), wording, files, kconfig);
         report(alloc, &fault, errors);
     }
     Ok(Status::Fault)

@@ -1,6 +1,6 @@
 //! The targets of the program: what each subcommand is named, reads and writes.
 ghost use Rattle.std.specs.Prelude.{◌≡◌};
-ghost use Rattle.kc_program.specs.Targets.{begins_with_config, edit_of, query_of, word_counts};
+ghost use Rattle.kc_program.specs.Targets.{begins_with_config, edit_of, is_explained, query_of, word_counts};
 
 use kc_session::Command;
 
@@ -316,6 +316,19 @@ impl Target {
             Target::Genheader => Some(Command::Header),
             Target::Why | Target::Check | Target::Merge | Target::Menu => None,
             Target::Files | Target::Session => None,
+        }
+    }
+
+    /// Whether warnings and errors are in words also without `--explain`. Of the others only the numbers are written.
+    pub fn is_explained(self) -> bool
+        ensures { result ≡ is_explained self }
+    {
+        match self {
+            Target::Genmake | Target::Files | Target::Why | Target::Check => true,
+            Target::Merge | Target::Menu => true,
+            Target::Olddefconfig | Target::Savedefconfig | Target::Listnewconfig => false,
+            Target::Genheader | Target::Allnoconfig | Target::Allyesconfig => false,
+            Target::Session => false,
         }
     }
 }
