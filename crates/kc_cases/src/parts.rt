@@ -115,6 +115,24 @@ pub(crate) fn file_bytes(
     Ok(if is_there { Some(bytes) } else { None })
 }
 
+/// Whether a file of a case is in the directory of a path.
+pub(crate) fn has_directory(parts: &[Part<'_>], path: &str) -> bool {
+    let directory = path.trim_end_matches('/');
+    directory == "."
+        || parts.iter().any(|part| match part.kind {
+            Kind::File(found) => is_in(found, directory),
+            _ => false,
+        })
+}
+
+/// Whether the file of a path is in a directory, or in one below it.
+fn is_in(path: &str, directory: &str) -> bool {
+    match path.strip_prefix(directory) {
+        Some(rest) => rest.starts_with('/'),
+        None => false,
+    }
+}
+
 /// The pairs of a name and a text that the variables of a case are.
 pub(crate) fn variables_of<'a>(
     alloc: Global,

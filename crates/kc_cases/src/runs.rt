@@ -5,7 +5,7 @@ use crate::escapes::push_unescaped;
 use crate::header::Kind;
 use crate::malformed::{CaseFault, Problem};
 use crate::outcome::Difference;
-use crate::parts::{Part, file_bytes};
+use crate::parts::{Part, file_bytes, has_directory};
 use crate::run_results::{Results, difference_of};
 use kc_program::{Folder, FolderFault, program};
 use std::alloc::{AllocError, Global};
@@ -48,8 +48,12 @@ impl Folder for CaseFolder<'_> {
         self.read_bytes(alloc, path)
     }
 
-    fn why_unread(&self, _alloc: Global, _path: &str) -> &'static str {
-        "no such file"
+    fn why_unread(&self, alloc: Global, _path: &str) -> Result<String, AllocError> {
+        String::from_str(alloc, "no such file")
+    }
+
+    fn lacks_directory(&self, path: &str) -> bool {
+        !has_directory(self.parts, path)
     }
 }
 

@@ -1,17 +1,19 @@
-//! What is said of a fault with `--explain`: its words, and the lines that show it. The files are read again for that.
+//! What is said of a fault in words: these, and the lines that show it. The files are read again for that.
 
 use crate::folder::Folder;
 use crate::messages::{Fault, Report};
 use crate::notes::Note;
 use crate::opening::{ConfigFile, Files, Kconfig};
-use crate::sourcing::{explain_recursion, explain_unread, explain_untrue};
+use crate::sourcing::{
+    explain_recursion, explain_unread, explain_untrue, why_unread, words_of_bytes,
+};
 use bumpalo::Bump;
 use kc_explain::{
     Explanation, explain_choice, explain_line, explain_loop, explain_symbol, explain_text,
     explain_warnings, fault_meaning, warning_meaning,
 };
 use kc_files::Warning;
-use kc_text::{Line, TextFault, TextProblem};
+use kc_text::{Line, Text, TextFault, TextProblem};
 use kc_tree::TreeFault;
 use std::alloc::{AllocError, Global};
 
@@ -61,16 +63,43 @@ pub fn report_of<F: Folder>(
     }
 }
 
-/// The report of a fault of the variables of the command line, or of the reading of CONFIG.
+/// What the command line names that is read before the Kconfig.
+#[derive(Clone, Copy, PartialEq, Eq)]
+pub enum Input {
+    /// The file of `--variables`.
+    Variables,
+    /// The variables, and CONFIG.
+    Config,
+    /// A fragment.
+    Fragment,
+}
+
+impl Input {
+    /// What is said of a file that can't be read, after why.
+    fn advice(self, path: &str) -> &'static str {
+        match self {
+            Input::Variables => OF_VARIABLES,
+            Input::Config => "; write - in its place for none",
+            Input::Fragment if path == "-" => "; only CONFIG can be - for none: leave this one out",
+            Input::Fragment => "",
+        }
+    }
+}
+
+/// What is said of each fault of the file of variables.
+const OF_VARIABLES: &str = " (--variables)";
+
+/// The report of a fault of what is read before the Kconfig.
 pub fn report_of_inputs<F: Folder>(
     alloc: Global,
     fault: Fault,
     wording: Wording,
+    input: Input,
     folder: &F,
 ) -> Report {
     let words = match wording {
         Wording::Number => None,
-        Wording::Explained => words_of_input(alloc, &fault, folder),
+        Wording::Explained => words_of_input(alloc, &fault, input, folder),
     };
     Report {
         fault,
@@ -79,13 +108,24 @@ pub fn report_of_inputs<F: Folder>(
     }
 }
 
-/// What is said of a fault of the variables of the command line, or of the reading of CONFIG: nothing where memory is
-/// refused.
-fn words_of_input<F: Folder>(alloc: Global, fault: &Fault, folder: &F) -> Option<String> {
+/// What is said of a fault of what is read before the Kconfig: nothing where memory is refused.
+fn words_of_input<F: Folder>(
+    alloc: Global,
+    fault: &Fault,
+    input: Input,
+    folder: &F,
+) -> Option<String> {
     match fault {
         Fault::CannotRead(path) => {
-            let why = folder.why_unread(alloc, path.as_str());
-            format!(in alloc; "{why}; write - in its place for none").ok()
+            let path = path.as_str();
+            why_unread(alloc, folder, path, input.advice(path)).ok()
+        }
+        Fault::NotUtf8(path) => {
+            let words = words_of_bytes(alloc, folder, path.as_str()).ok()?;
+            format!(in alloc; "{words}{OF_VARIABLES}").ok()
+        }
+        Fault::Limit(_) => {
+            format!(in alloc; "it has more than 16,777,216 bytes{OF_VARIABLES}").ok()
         }
         Fault::Text(TextFault::At(TextProblem::BadCharacter, ..)) => {
             let words = "its value has a line feed, a carriage return or a NUL";
@@ -95,6 +135,22 @@ fn words_of_input<F: Folder>(alloc: Global, fault: &Fault, folder: &F) -> Option
             String::from_str(alloc, "its value has more than 65,536 bytes").ok()
         }
         _ => None,
+    }
+}
+
+/// The report of a `.config` that is too long.
+pub fn report_of_long_config(alloc: Global, config: &ConfigFile, wording: Wording) -> Report {
+    let Ok(path) = Text::copy_of(alloc, config.path()) else {
+        return Report::of(Fault::NoMemory, wording);
+    };
+    let words = match wording {
+        Wording::Number => None,
+        Wording::Explained => words_of_long_config(alloc, config).ok(),
+    };
+    Report {
+        fault: Fault::Limit(path),
+        wording,
+        note: words.map(|words| Note::of_words(alloc, words)),
     }
 }
 
@@ -119,7 +175,10 @@ fn explain_fault<F: Folder>(
     match fault {
         Fault::CannotRead(path) => Ok(Some(explain_unread(alloc, files, kconfig, path.as_str())?)),
         Fault::NotUtf8(path) => Ok(Some(explain_untrue(alloc, files, kconfig, path.as_str())?)),
-        Fault::Limit(_) => Ok(Some(explain_long_config(alloc, kconfig.config)?)),
+        Fault::Limit(_) => {
+            let words = words_of_long_config(alloc, kconfig.config)?;
+            Ok(Some(Explanation::new(alloc, words)))
+        }
         Fault::Text(fault) | Fault::Full(fault) => explain_texts(alloc, fault, files, kconfig),
         Fault::Tree(fault) => explain_tree(alloc, fault, files, kconfig),
         Fault::Stream(_) | Fault::NoMemory => Ok(None),
@@ -204,12 +263,11 @@ fn explain_lines<F: Folder>(
 }
 
 /// What is said of a `.config` that is too long.
-fn explain_long_config(alloc: Global, config: &ConfigFile) -> Result<Explanation, AllocError> {
-    let words = match config.long_line() {
-        Some(number) => format!(in alloc; "line {number} has more than 65,536 bytes")?,
-        None => String::from_str(alloc, "it has more than 16,777,216 bytes")?,
-    };
-    Ok(Explanation::new(alloc, words))
+fn words_of_long_config(alloc: Global, config: &ConfigFile) -> Result<String, AllocError> {
+    match config.long_line() {
+        Some(number) => format!(in alloc; "line {number} has more than 65,536 bytes"),
+        None => String::from_str(alloc, "it has more than 16,777,216 bytes"),
+    }
 }
 
 /// What is written after the number of each warning of a `.config`, where that is wanted and can be had.

@@ -1,10 +1,10 @@
 //! Where the bytes of files come from.
 ghost use Rattle.std.specs.Prelude.{◌≡◌};
 ghost use Rattle.kc_program.specs.Cuts.{IsCut};
-ghost use Rattle.kc_program.specs.FolderFaults.{reason_of};
+ghost use Rattle.kc_program.specs.FolderFaults.{is_missing, reason_of};
 
 use kc_tree::Seed;
-use std::alloc::Global;
+use std::alloc::{AllocError, Global};
 use std::fs;
 use std::io::{self, ErrorKind, Read};
 use std::random::RandomSource;
@@ -69,8 +69,22 @@ pub trait Folder {
     }
 
     /// Why the file of a path can't be read, in a few words.
-    fn why_unread(&self, _alloc: Global, _path: &str) -> &'static str {
-        "no file can be read at this path"
+    ///
+    /// # Errors
+    ///
+    /// `AllocError` where memory is refused.
+    fn why_unread(&self, alloc: Global, _path: &str) -> Result<String, AllocError> {
+        String::from_str(alloc, "no file can be read at this path")
+    }
+
+    /// Whether it is certain that there is no directory at a path.
+    fn lacks_directory(&self, _path: &str) -> bool {
+        false
+    }
+
+    /// The directory from which a path is taken, where it is certain that there is none.
+    fn missing_base(&self, _path: &str) -> Option<&str> {
+        None
     }
 
     /// The seed of the hash under which the paths of the files, and the names in them, are kept.
@@ -93,6 +107,14 @@ impl<'a, R> SystemFolder<'a, R> {
 }
 
 impl<R: Files> SystemFolder<'_, R> {
+    /// Whether there is a directory at a path.
+    fn has_directory(&self, path: &str) -> bool {
+        match fs::metadata(self.rt, path) {
+            Ok(metadata) => metadata.is_dir(),
+            Err(_) => false,
+        }
+    }
+
     /// The bytes of the file of a path, which are expected to be of a number, and no more than a limit.
     fn read_expected(
         &self,
@@ -152,6 +174,13 @@ fn whole_characters(bytes: &[u8]) -> usize
     }
 }
 
+/// Whether the system answers that there is nothing at a path.
+fn is_missing(kind: ErrorKind) -> bool
+    ensures { result ≡ is_missing kind }
+{
+    matches!(kind, ErrorKind::NotFound | ErrorKind::NotADirectory)
+}
+
 /// What is said of a file that can't be opened, by what the system answers.
 fn reason_of(kind: ErrorKind) -> &'static str
     ensures { result.now ≡ reason_of kind }
@@ -185,10 +214,19 @@ impl<R: Files + RandomSource> Folder for SystemFolder<'_, R> {
         self.read_short(alloc, path, room, room.saturating_add(1))
     }
 
-    fn why_unread(&self, _alloc: Global, path: &str) -> &'static str {
-        match fs::open(self.rt, path) {
-            Ok(_) => "it is no file that can be read to its end",
+    fn why_unread(&self, alloc: Global, path: &str) -> Result<String, AllocError> {
+        let why = match fs::open(self.rt, path) {
+            Ok(_) if self.has_directory(path) => "it is a directory",
+            Ok(_) => "it can't be read to its end",
             Err(error) => reason_of(error.kind()),
+        };
+        String::from_str(alloc, why)
+    }
+
+    fn lacks_directory(&self, path: &str) -> bool {
+        match fs::metadata(self.rt, path) {
+            Ok(metadata) => !metadata.is_dir(),
+            Err(error) => is_missing(error.kind()),
         }
     }
 

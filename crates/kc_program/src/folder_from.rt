@@ -63,14 +63,20 @@ impl<F: Folder> Folder for FolderFrom<'_, F> {
         }
     }
 
-    fn why_unread(&self, alloc: Global, path: &str) -> &'static str {
+    /// Why the file can't be read, and where it was looked for, if the base moved it.
+    fn why_unread(&self, alloc: Global, path: &str) -> Result<String, AllocError> {
         if is_taken_as_it_is(self.base, path) {
             return self.folder.why_unread(alloc, path);
         }
-        match joined(alloc, self.base, path) {
-            Ok(joined) => self.folder.why_unread(alloc, joined.as_str()),
-            Err(AllocError) => "",
-        }
+        let joined = joined(alloc, self.base, path)?;
+        let why = self.folder.why_unread(alloc, joined.as_str())?;
+        format!(in alloc; "{why}: {joined}")
+    }
+
+    fn missing_base(&self, path: &str) -> Option<&str> {
+        let is_missing = !is_taken_as_it_is(self.base, path)
+            && self.folder.lacks_directory(self.base);
+        is_missing.then_some(self.base)
     }
 
     fn seed(&self) -> Seed {

@@ -7,6 +7,7 @@ mod defined_names;
 mod explanations;
 mod folder;
 mod folder_from;
+mod fragments;
 mod hints;
 mod known;
 mod listing;

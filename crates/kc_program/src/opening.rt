@@ -5,12 +5,10 @@ ghost use Rattle.kc_text.specs.declared.reading.TheConstants.{MOST_LINES};
 ghost use Rattle.std.specs.Str.{IsUtf8};
 ghost use Rattle.std.specs.String.{string_bytes};
 
-use crate::arguments::Arguments;
 use crate::defined_names::add_defined_names;
 use crate::folder::{Folder, FolderFault};
 use crate::messages::Fault;
 use crate::read_ahead::{Named, Reach, Waiting, path_of_source};
-use crate::targets::Target;
 use bumpalo::Bump;
 use kc_check::without_strays;
 use kc_files::{Prefix, Warning};
@@ -19,7 +17,6 @@ use kc_text::{Line, Sources, Text, TextFault, TextProblem, Vars, logical_lines};
 use kc_tree::{Seed, TreeFault, all_faults};
 use std::alloc::{AllocError, Global};
 use std::collections::{BTreeSet, HashMap, HashSet};
-use std::str::from_utf8;
 
 /// The most bytes of a line of a `.config`, without its line end (docs/SECURITY.md).
 const MOST_LINE: usize = 65_536;
@@ -63,6 +60,11 @@ impl ConfigFile {
         self.bytes.as_slice()
     }
 
+    /// Whether it has more bytes than a `.config` may have, or a line of it.
+    pub fn is_too_long(&self) -> bool {
+        self.bytes.len() > MOST_BYTES || self.long_line().is_some()
+    }
+
     /// The number of the first line that has more bytes than one may have, without its line end.
     pub fn long_line(&self) -> Option<usize> {
         let mut lines = self.bytes.split_inclusive(|byte| *byte == b'\n');
@@ -94,26 +96,6 @@ pub fn read_config_file<F: Folder>(
         Err(FolderFault::CannotRead) => Err(Fault::CannotRead(Text::copy_of(alloc, path)?)),
         Err(FolderFault::NoMemory) => Err(Fault::NoMemory),
     }
-}
-
-/// The fragments of a command line, each of which has to be short enough for a `.config`.
-pub fn read_fragments<F: Folder>(
-    alloc: Global,
-    arguments: &Arguments<'_>,
-    folder: &F,
-) -> Result<Vec<ConfigFile>, Fault> {
-    let mut fragments = Vec::new(alloc);
-    if arguments.target != Target::Merge {
-        return Ok(fragments);
-    }
-    for path in arguments.operands.as_slice() {
-        let fragment = read_config_file(alloc, folder, path)?;
-        if fragment.bytes.len() > MOST_BYTES || fragment.long_line().is_some() {
-            return Err(Fault::Limit(Text::copy_of(alloc, path)?));
-        }
-        fragments.push(fragment)?;
-    }
-    Ok(fragments)
 }
 
 /// A Kconfig that is to be opened with the values of a `.config`.
@@ -354,21 +336,6 @@ impl<'a, F: Folder> Files<'a, F> {
             Some(path) => self.waiting.known().expand(path),
             None => Ok(None),
         }
-    }
-
-    /// The number of the first line of a file that is not UTF-8, if the file can be read again and has one.
-    pub fn line_that_is_not_utf8(&self, path: &str) -> Result<Option<usize>, AllocError> {
-        let bytes = match self.folder.read_plain(self.alloc, path) {
-            Ok(bytes) => bytes,
-            Err(FolderFault::CannotRead) => return Ok(None),
-            Err(FolderFault::NoMemory) => return Err(AllocError),
-        };
-        let Err(fault) = from_utf8(bytes.as_slice()) else {
-            return Ok(None);
-        };
-        let before = bytes.iter().take(fault.valid_up_to());
-        let ends = before.filter(|byte| **byte == b'\n').count();
-        Ok(Some(ends.saturating_add(1)))
     }
 
     /// Starts with no files, and reads as far ahead as a reach says.

@@ -4,15 +4,14 @@ ghost use Rattle.clap.specs.Words.{kind_of};
 ghost use Rattle.kc_program.specs.Endings.{ending_of};
 
 use crate::arguments::{Arguments, BadWords};
-use crate::explanations::{Wording, report_of, report_of_inputs, words_of_warnings};
+use crate::explanations::{Input, Wording, report_of, report_of_inputs, words_of_warnings};
 use crate::folder::Folder;
 use crate::folder_from::FolderFrom;
+use crate::fragments::read_fragments;
 use crate::listing::list_files;
 use crate::make_text::make_text;
 use crate::messages::{Fault, Report, Status, write_report_in_pieces, write_warnings};
-use crate::opening::{
-    ConfigFile, Files, Kconfig, open_files, open_kconfig, read_config_file, read_fragments,
-};
+use crate::opening::{ConfigFile, Files, Kconfig, open_files, open_kconfig, read_config_file};
 use crate::refusals::ExplainedReplies;
 use crate::reports::{Outcome, ReportOpening};
 use crate::targets::Target;
@@ -74,7 +73,7 @@ fn answer<F: Folder, R: Read, W: Write, E: Write>(
 ) -> Status {
     let text = match read_variables(alloc, folder, arguments.variables_file) {
         Ok(text) => text,
-        Err(fault) => return answer_variables(alloc, fault, arguments, errors),
+        Err(fault) => return answer_variables(alloc, fault, arguments, folder, errors),
     };
     let served = match with_words(alloc, text.as_str(), arguments.variables.as_slice()) {
         Ok(variables) => serve(
@@ -95,15 +94,18 @@ fn answer<F: Folder, R: Read, W: Write, E: Write>(
 }
 
 /// Reports why the file of variables gives none. A malformed line is a mistake of usage.
-fn answer_variables<E: Write>(
+fn answer_variables<F: Folder, E: Write>(
     alloc: Global,
     fault: VariablesFileFault,
     arguments: &Arguments<'_>,
+    folder: &F,
     errors: &mut E,
 ) -> Status {
     match fault {
         VariablesFileFault::Unread(fault) => {
-            report(alloc, &Report::of(fault, arguments.wording), errors)
+            let wording = arguments.wording;
+            let fault = report_of_inputs(alloc, fault, wording, Input::Variables, folder);
+            report(alloc, &fault, errors)
         }
         VariablesFileFault::Malformed(line) => {
             let path = arguments.variables_file.unwrap_or("");
@@ -126,7 +128,9 @@ fn serve<F: Folder, R: Read, W: Write, E: Write>(
     let wording = arguments.wording;
     let (vars, config) = match read_inputs(alloc, arguments.config, variables, folder) {
         Ok(inputs) => inputs,
-        Err(fault) => return Err(report_of_inputs(alloc, fault, wording, folder)),
+        Err(fault) => {
+            return Err(report_of_inputs(alloc, fault, wording, Input::Config, folder));
+        }
     };
     let kconfig = Kconfig {
         folder,
@@ -180,10 +184,7 @@ fn serve_report<F: Folder, W: Write, E: Write>(
     errors: &mut E,
 ) -> Result<Status, Report> {
     let wording = arguments.wording;
-    let fragments = match read_fragments(alloc, arguments, kconfig.folder) {
-        Ok(fragments) => fragments,
-        Err(fault) => return Err(report_of_inputs(alloc, fault, wording, kconfig.folder)),
-    };
+    let fragments = read_fragments(alloc, arguments, kconfig.folder)?;
     let mut files = match Files::new(alloc, kconfig) {
         Ok(files) => files,
         Err(fault) => return Err(Report::of(fault, wording)),

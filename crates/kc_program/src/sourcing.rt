@@ -1,11 +1,12 @@
 //! What is said of files that are wanted and can't be read, and of a file that sources itself.
 
-use crate::folder::Folder;
+use crate::folder::{Folder, FolderFault};
 use crate::opening::{Files, Kconfig};
 use crate::wants::{source_line_of, source_lines_to};
 use kc_explain::{Explanation, line_of};
 use kc_facts::references_in;
 use std::alloc::{AllocError, Global};
+use std::str::from_utf8;
 
 /// What is said of a wanted file that can't be read: why, each variable in the `source` line that has no text, and that
 /// line.
@@ -19,8 +20,44 @@ pub fn explain_unread<F: Folder>(
     kconfig: &Kconfig<'_, F>,
     path: &str,
 ) -> Result<Explanation, AllocError> {
-    let words = String::from_str(alloc, kconfig.folder.why_unread(alloc, path))?;
+    let mut words = why_unread(alloc, kconfig.folder, path, "")?;
+    if path != kconfig.top {
+        push_pattern(&mut words, path)?;
+    }
     with_source(alloc, files, kconfig, path, words)
+}
+
+/// Why the file of a path can't be read, with advice, unless there is no directory to read it from.
+///
+/// # Errors
+///
+/// `AllocError` where memory is refused.
+pub fn why_unread<F: Folder>(
+    alloc: Global,
+    folder: &F,
+    path: &str,
+    advice: &str,
+) -> Result<String, AllocError> {
+    if let Some(base) = folder.missing_base(path) {
+        return format!(in alloc; "no such directory: {base} (-C)");
+    }
+    let mut words = folder.why_unread(alloc, path)?;
+    words.push_str(advice)?;
+    Ok(words)
+}
+
+/// Adds, of a path in a `source` line that looks like a pattern, that it is none.
+fn push_pattern(words: &mut String, path: &str) -> Result<(), AllocError> {
+    match path
+        .chars()
+        .find(|character| matches!(*character, '*' | '?'))
+    {
+        Some(sign) => write!(
+            words,
+            ", and `{sign}` is a character of the path: `source` reads one file, and no pattern"
+        ),
+        None => Ok(()),
+    }
 }
 
 /// What is said of a wanted file that is not UTF-8.
@@ -34,11 +71,43 @@ pub fn explain_untrue<F: Folder>(
     kconfig: &Kconfig<'_, F>,
     path: &str,
 ) -> Result<Explanation, AllocError> {
-    let words = match files.line_that_is_not_utf8(path)? {
-        Some(number) => format!(in alloc; "in line {number}")?,
-        None => String::from_str(alloc, "a byte of it begins no character")?,
-    };
+    let words = words_of_bytes(alloc, kconfig.folder, path)?;
     with_source(alloc, files, kconfig, path, words)
+}
+
+/// What is said of the bytes of a file that is not UTF-8.
+///
+/// # Errors
+///
+/// `AllocError` where memory is refused.
+pub fn words_of_bytes<F: Folder>(
+    alloc: Global,
+    folder: &F,
+    path: &str,
+) -> Result<String, AllocError> {
+    match line_that_is_not_utf8(alloc, folder, path)? {
+        Some(number) => format!(in alloc; "in line {number}"),
+        None => String::from_str(alloc, "a byte of it begins no character"),
+    }
+}
+
+/// The number of the first line of a file that is not UTF-8, if the file can be read again and has one.
+fn line_that_is_not_utf8<F: Folder>(
+    alloc: Global,
+    folder: &F,
+    path: &str,
+) -> Result<Option<usize>, AllocError> {
+    let bytes = match folder.read_plain(alloc, path) {
+        Ok(bytes) => bytes,
+        Err(FolderFault::CannotRead) => return Ok(None),
+        Err(FolderFault::NoMemory) => return Err(AllocError),
+    };
+    let Err(fault) = from_utf8(bytes.as_slice()) else {
+        return Ok(None);
+    };
+    let before = bytes.iter().take(fault.valid_up_to());
+    let ends = before.filter(|byte| **byte == b'\n').count();
+    Ok(Some(ends.saturating_add(1)))
 }
 
 /// Words, and the `source` line that wants the file of a path, with the variables in it that have no text.

@@ -1,7 +1,7 @@
 //! Runs of the program over files and streams in memory.
 
 use kc_program::{Folder, FolderFault, program};
-use std::alloc::Global;
+use std::alloc::{AllocError, Global};
 use std::io::{self, Error, ErrorKind, Read, Write};
 use std::process::Abort;
 
@@ -25,8 +25,8 @@ impl Folder for MemoryFolder<'_> {
         self.read_bytes(alloc, path)
     }
 
-    fn why_unread(&self, _alloc: Global, _path: &str) -> &'static str {
-        "no such file"
+    fn why_unread(&self, alloc: Global, _path: &str) -> Result<String, AllocError> {
+        String::from_str(alloc, "no such file")
     }
 }
 

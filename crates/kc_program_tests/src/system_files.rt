@@ -34,6 +34,28 @@ fn a_file_that_cannot_be_read_is_not_empty(rt: HostRuntime) -> Result<(), Fail> 
 }
 
 #[test]
+fn what_cannot_be_read_has_a_reason(rt: HostRuntime) -> Result<(), Fail> {
+    let folder = SystemFolder::new(&rt);
+    let rows = [
+        ("/", "it is a directory", false),
+        ("/proc/self", "it is a directory", false),
+        ("/dev/null/nothing", "the system can't open it", true),
+        ("/dev/no/file", "no such file", true),
+        ("", "no such file", true),
+    ];
+    for (path, want, lacks_directory) in rows {
+        let why = folder.why_unread(rt.alloc(), path)?;
+        assert_eq!(rt; why.as_str(), want, "at {path:?}");
+        assert_eq!(rt;
+            folder.lacks_directory(path),
+            lacks_directory,
+            "at {path:?}"
+        );
+    }
+    Ok(())
+}
+
+#[test]
 fn a_file_of_unknown_length_is_read_whole(rt: HostRuntime) -> Result<(), Fail> {
     // Its length is said to be 0, and it has lines.
     let path = "/proc/self/status";
