@@ -468,8 +468,10 @@ SYMBOL is empty: make whyconfig SYMBOL="NAME ..".  Stop.
 status 2
 END
 wants make_in board olddefconfig KCONFIG=wifi.config <<'END'
+kconf: wifi.config: defines no symbol: is it a .config?
 kconf: .config:1: warning 1: no symbol is named NET
 kconf: .config:2: warning 1: no symbol is named WIFI
+kconf: wifi.config: defines no symbol: is it a .config?
 kconf.mk: wifi.config defines no symbol (is it a Kconfig?), so .config is not written
 Error 1
 status 2
@@ -479,9 +481,11 @@ part 'the make fragment: a .config in place of the Kconfig' exchanged
 write_project
 echo 'CONFIG_NET=y' > board/.config
 wants make_in board olddefconfig KCONFIG=.config KCONFIG_CONFIG=net/Kconfig <<'END'
+kconf: .config: defines no symbol: is it a .config?
 kconf: net/Kconfig:1: warning 4: not a line of a .config
 kconf: net/Kconfig:2: warning 4: not a line of a .config
 kconf: net/Kconfig:3: warning 4: not a line of a .config
+kconf: .config: defines no symbol: is it a .config?
 kconf.mk: .config defines no symbol (is it a Kconfig?), so net/Kconfig is not written
 Error 1
 status 2

@@ -4,6 +4,7 @@
 
 mod arguments;
 mod defined_names;
+mod exchanged;
 mod explanations;
 mod folder;
 mod folder_from;

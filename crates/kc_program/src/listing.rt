@@ -1,5 +1,6 @@
 //! The target `files`: the paths of the files that a Kconfig is read from.
 
+use crate::exchanged::ask_of_exchange;
 use crate::explanations::{Wording, report_of};
 use crate::folder::Folder;
 use crate::messages::{Fault, Report, Status};
@@ -7,6 +8,7 @@ use crate::opening::{Files, Kconfig, open_kconfig};
 use crate::paths_read::paths_read;
 use bumpalo::Bump;
 use kc_session::IoFault;
+use kc_value::Resolver;
 use std::alloc::Global;
 use std::io::Write;
 use std::mem;
@@ -16,19 +18,24 @@ use std::mem;
 /// # Errors
 ///
 /// The fault of the Kconfig, with no path written, and one of the output or of memory.
-pub(crate) fn list_files<F: Folder, W: Write>(
+pub(crate) fn list_files<F: Folder, W: Write, E: Write>(
     alloc: Global,
     kconfig: &Kconfig<'_, F>,
     wording: Wording,
     output: &mut W,
+    errors: &mut E,
 ) -> Result<Status, Report> {
     let mut files = match Files::new(alloc, kconfig) {
         Ok(files) => files,
         Err(fault) => return Err(Report::of(fault, wording)),
     };
     match open_kconfig(&mut files, kconfig) {
-        // The program ends soon, so the memory need not be given back piece by piece.
-        Ok((session, _)) => mem::forget(session),
+        Ok((session, _)) => {
+            let symbols = session.tree().symbols().len();
+            ask_of_exchange(symbols, &files, kconfig, wording, errors);
+            // The program ends soon, so the memory need not be given back piece by piece.
+            mem::forget(session);
+        }
         Err(fault) => return Err(report_of(alloc, fault, wording, &files, kconfig)),
     }
     match write_paths(alloc, &files, kconfig, output) {

@@ -11,6 +11,7 @@ use kc_files::Warning;
 use kc_session::{OpenFault, Session, open_lines};
 use kc_text::{Line, Sources, TextFault, logical_lines};
 use kc_tree::Seed;
+use kc_value::Resolver;
 use std::alloc::{AllocError, Global};
 use std::mem;
 
@@ -59,7 +60,8 @@ pub(crate) struct ReportInputs<'a> {
 }
 
 impl Opening for ReportOpening<'_> {
-    type Opened = Outcome;
+    /// The report, and how many symbols the Kconfig defines.
+    type Opened = (Outcome, usize);
 
     fn open<F>(
         &self,
@@ -67,7 +69,7 @@ impl Opening for ReportOpening<'_> {
         seed: Seed,
         sources: &Sources,
         kconfig: &Kconfig<'_, F>,
-    ) -> Result<Outcome, OpenFault> {
+    ) -> Result<(Outcome, usize), OpenFault> {
         let arena = Bump::new(alloc);
         let lines = match logical_lines(alloc, &arena, sources, kconfig.vars, kconfig.top) {
             Ok(lines) => lines,
@@ -85,10 +87,11 @@ impl Opening for ReportOpening<'_> {
             sources,
             lines: lines.as_slice(),
         };
+        let symbols = session.tree().symbols().len();
         let report = report_on(alloc, &inputs, &mut session, warnings);
         // The program ends soon, so the memory need not be given back piece by piece.
         mem::forget(session);
-        report
+        Ok((report?, symbols))
     }
 }
 

@@ -4,6 +4,7 @@ ghost use Rattle.clap.specs.Words.{kind_of};
 ghost use Rattle.kc_program.specs.Endings.{ending_of};
 
 use crate::arguments::{Arguments, BadWords};
+use crate::exchanged::ask_of_exchange;
 use crate::explanations::{Input, Wording, report_of, report_of_inputs, words_of_warnings};
 use crate::folder::Folder;
 use crate::folder_from::FolderFrom;
@@ -22,6 +23,7 @@ use kc_files::Warning;
 use kc_session::{IoFault, Reply, Session, run};
 use kc_text::{Text, Vars};
 use kc_tree::TreeFault;
+use kc_value::Resolver;
 use std::alloc::Global;
 use std::convert::AsStr;
 use std::io::{self, Read, Write};
@@ -141,7 +143,7 @@ fn serve<F: Folder, R: Read, W: Write, E: Write>(
         config: &config,
     };
     match arguments.target {
-        Target::Files => list_files(alloc, &kconfig, wording, output),
+        Target::Files => list_files(alloc, &kconfig, wording, output, errors),
         Target::Why | Target::Check | Target::Merge | Target::Menu => {
             serve_report(alloc, arguments, &kconfig, output, errors)
         }
@@ -194,7 +196,11 @@ fn serve_report<F: Folder, W: Write, E: Write>(
         fragments: fragments.as_slice(),
     };
     match open_files(&mut files, kconfig, &opening) {
-        Ok(outcome) => {
+        Ok((outcome, symbols)) => {
+            // `check` has it among its findings.
+            if arguments.target != Target::Check {
+                ask_of_exchange(symbols, &files, kconfig, wording, errors);
+            }
             let warnings = outcome.warnings.as_slice();
             warn(alloc, &files, kconfig, wording, warnings, errors);
             write_outcome(&outcome, wording, output, errors)
@@ -278,6 +284,8 @@ fn open_session<F: Folder, E: Write>(
     };
     match open_kconfig(&mut files, kconfig) {
         Ok((session, warnings)) => {
+            let symbols = session.tree().symbols().len();
+            ask_of_exchange(symbols, &files, kconfig, wording, errors);
             warn(alloc, &files, kconfig, wording, warnings.as_slice(), errors);
             Ok(session)
         }
