@@ -3,6 +3,7 @@
 #![tactic(auto)]
 
 mod arguments;
+mod commands_read;
 mod defined_names;
 mod exchanged;
 mod explanations;

@@ -2,20 +2,24 @@
 
 ghost use Rattle.std.specs.Prelude.{◌≡◌, OnSome};
 
+use crate::commands_read::CommandLine;
 use kc_explain::refusal_meaning;
+use std::cell::Cell;
 use std::io::{self, Write};
 
 /// How many bytes the line of a refusal has: `refused N` and a line feed.
 const REFUSAL_LEN: usize = 10;
 
-/// An output of replies. After each reply that refuses a command, the number of the command and the words of the refusal
-/// are written to `errors`. The bytes of the output are those of the replies.
+/// An output of replies. After each reply that refuses a command, the number of the command, the words of the refusal and
+/// the command are written to `errors`. The bytes of the output are those of the replies.
 ///
 /// A reply ends where it is flushed, as the serving of a session flushes after each.
 #[derive(Drop)]
 pub struct ExplainedReplies<'w, W, E> {
     output: &'w mut W,
     errors: &'w mut E,
+    /// The line of the command, as far as it was read.
+    line: &'w Cell<CommandLine>,
     /// How many replies were flushed.
     commands: u64,
     /// How many bytes the reply has so far, and the first of them.
@@ -25,10 +29,15 @@ pub struct ExplainedReplies<'w, W, E> {
 
 impl<'w, W: Write, E: Write> ExplainedReplies<'w, W, E> {
     /// An output to which nothing is written yet.
-    pub fn new(output: &'w mut W, errors: &'w mut E) -> ExplainedReplies<'w, W, E> {
+    pub fn new(
+        output: &'w mut W,
+        errors: &'w mut E,
+        line: &'w Cell<CommandLine>,
+    ) -> ExplainedReplies<'w, W, E> {
         ExplainedReplies {
             output,
             errors,
+            line,
             commands: 0,
             len: 0,
             first: [0; REFUSAL_LEN],
@@ -52,14 +61,24 @@ impl<'w, W: Write, E: Write> ExplainedReplies<'w, W, E> {
         self.commands = self.commands.saturating_add(1);
         let refusal = refusal_of(self.first, self.len);
         self.len = 0;
+        let line = self.line.replace(CommandLine::unread());
         if let Some(number) = refusal {
-            let command = self.commands;
-            let words = refusal_meaning(number).unwrap_or("");
             // What is not written changes no reply.
-            let _ = writeln!(
-                self.errors,
-                "kconf: command {command}: refused {number}: {words}"
-            );
+            let _ = self.explain(number, line.text());
+        }
+    }
+
+    /// Writes the words of a refusal, and the command, if it can be shown.
+    fn explain(&mut self, number: u8, text: Option<&str>) -> io::Result<()> {
+        let command = self.commands;
+        let words = refusal_meaning(number).unwrap_or("");
+        write!(
+            self.errors,
+            "kconf: command {command}: refused {number}: {words}"
+        )?;
+        match text {
+            Some(text) => writeln!(self.errors, ": `{text}`"),
+            None => writeln!(self.errors),
         }
     }
 }

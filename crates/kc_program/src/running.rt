@@ -4,6 +4,7 @@ ghost use Rattle.clap.specs.Words.{kind_of};
 ghost use Rattle.kc_program.specs.Endings.{ending_of};
 
 use crate::arguments::{Arguments, BadWords};
+use crate::commands_read::{CommandLine, CommandsRead};
 use crate::exchanged::ask_of_exchange;
 use crate::explanations::{Input, Wording, report_of, report_of_inputs, words_of_warnings};
 use crate::folder::Folder;
@@ -25,8 +26,9 @@ use kc_text::{Text, Vars};
 use kc_tree::TreeFault;
 use kc_value::Resolver;
 use std::alloc::Global;
+use std::cell::Cell;
 use std::convert::AsStr;
-use std::io::{self, Read, Write};
+use std::io::{self, BufReader, Read, Write};
 use std::mem;
 
 /// The most faults of a Kconfig that are shown with lines, as these are read again for each.
@@ -164,8 +166,7 @@ fn serve_session<F: Folder, R: Read, W: Write, E: Write>(
     let mut session = open_session(alloc, kconfig, wording, errors)?;
     let served = match (target, wording) {
         (Target::Session, Wording::Explained) => {
-            let mut output = ExplainedReplies::new(output, errors);
-            write_target(alloc, Target::Session, &mut session, input, &mut output)
+            serve_explained(alloc, &mut session, input, output, errors)
         }
         (target, _) => write_target(alloc, target, &mut session, input, output),
     };
@@ -175,6 +176,23 @@ fn serve_session<F: Folder, R: Read, W: Write, E: Write>(
         Ok(()) => Ok(Status::Done),
         Err(fault) => Err(Report::of(fault, wording)),
     }
+}
+
+/// Serves a session whose refusals are explained.
+fn serve_explained<R: Read, W: Write, E: Write>(
+    alloc: Global,
+    session: &mut Session,
+    input: &mut R,
+    output: &mut W,
+    errors: &mut E,
+) -> Result<(), Fault> {
+    let line = Cell::new(CommandLine::unread());
+    let Ok(input) = BufReader::new(alloc, &mut *input) else {
+        return Err(Fault::NoMemory);
+    };
+    let mut commands = CommandsRead { input, line: &line };
+    let mut replies = ExplainedReplies::new(output, errors, &line);
+    write_target(alloc, Target::Session, session, &mut commands, &mut replies)
 }
 
 /// Writes a report on a Kconfig and its values.
