@@ -31,7 +31,9 @@ import kconfiglib
 LETTERS = {0: "n", 1: "m", 2: "y"}
 LEVELS = {letter: level for level, letter in LETTERS.items()}
 HEAD = re.compile(r"^(\S+) = (.*) \((\w+), visible ([nmy]), user (.*)\)$")
-COUNT = re.compile(r"^  (selected|implied) (?:([my]) by (\d+|none) of (\d+)|by none of (\d+))$")
+COUNT = re.compile(
+    r"^  (selected|implied) (?:([my]) by (\d+|none) of (\d+)|by none of (\d+))(?:, without effect on .*)?$"
+)
 REVERSE = re.compile(r"^    \S+:\d+: ([A-Za-z0-9_]+)=")
 FACTOR = re.compile(r"^    ([nmy]) (\S+):(\d+): (\S+)")
 DEFINITION = re.compile(r"^  (\S+):(\d+): (?:config|menuconfig) ")

@@ -134,7 +134,7 @@ fn push_written_term(
 }
 
 /// Whether a word is a number, decimal or with `0x` before it, which is a constant like a text in quotes.
-fn is_number(word: &str) -> bool {
+pub(crate) fn is_number(word: &str) -> bool {
     let is_hex = word.starts_with("0x") || word.starts_with("0X");
     let kind = if is_hex {
         SymbolType::Hex

@@ -6,6 +6,9 @@ use kc_tree::{Node, SymId, SymbolType, Tri};
 use kc_value::Known;
 use std::alloc::AllocError;
 
+/// What is said of an m that makes its symbol y.
+pub(crate) const YES_WITHOUT_MODULES: &str = "m is y without MODULES";
+
 /// The value of MODULES, n where it is not defined.
 pub(crate) fn modules_value(known: &Known<'_>) -> Tri {
     match known.tree().modules() {
@@ -24,6 +27,14 @@ pub(crate) fn lacks_modules(view: &View<'_>, symbol: SymId, asked: Tri) -> bool 
     asked == Tri::Module
         && view.tree().symbol_type(symbol) == SymbolType::Tristate
         && modules_value(view.known()).is_no()
+}
+
+/// Adds the name of the symbol that switches modules, `MODULES` where no symbol does.
+pub(crate) fn push_modules_name(text: &mut String, known: &Known<'_>) -> Result<(), AllocError> {
+    match known.tree().modules() {
+        Some(modules) => text.push_str(known.tree().name(modules)),
+        None => text.push_str("MODULES"),
+    }
 }
 
 /// Adds MODULES with its value.

@@ -2,7 +2,8 @@
 
 use crate::expressions::push_valued_expr;
 use crate::low_parts::{is_below, parts_below};
-use crate::modules::push_modules;
+use crate::low_values::LowPart;
+use crate::showing::shown_line;
 use crate::view::View;
 use crate::word_list::WordList;
 use kc_statement::ExprNode;
@@ -79,21 +80,42 @@ fn factors_of<'s>(
     Ok(Some(factors))
 }
 
-/// The parts with their values, each once, without an m that stands alone and counts as m.
-fn part_words(alloc: Global, view: &View<'_>, parts: &[&Expr]) -> Result<WordList, AllocError> {
-    let mut list = WordList::new(alloc);
+/// The parts in words, without an m that stands alone and counts as m, and then the symbol that switches modules, if
+/// modules are wanted.
+fn low_parts(
+    alloc: Global,
+    view: &View<'_>,
+    parts: &[&Expr],
+    wanted: Wanted,
+) -> Result<Vec<LowPart>, AllocError> {
+    let mut low = Vec::new(alloc);
     for part in parts {
         if !is_bare_module(part) || tri(view.known(), part).is_no() {
-            let mut words = String::new(alloc);
-            push_valued_expr(&mut words, view.known(), part)?;
-            list.add(words)?;
+            low.push(LowPart::of(alloc, view.known(), part)?)?;
         }
     }
-    Ok(list)
+    if wanted.modules {
+        low.push(LowPart::of_modules(alloc, view.known())?)?;
+    }
+    Ok(low)
 }
 
-/// Adds what parts of conditions need that are below what is wanted: `needs A=n, B=m`, and `m at most` where nothing makes
-/// one y.
+/// Adds parts in words, each once: `A, which is n`, `A (n), !B (B is y)`.
+fn push_low_parts(alloc: Global, text: &mut String, low: &[LowPart]) -> Result<(), AllocError> {
+    let mut list = WordList::new(alloc);
+    for part in low {
+        let mut words = String::new(alloc);
+        part.push_listed(&mut words)?;
+        list.add(words)?;
+    }
+    match low.first() {
+        Some(part) if list.has_one() => part.push_alone(text),
+        _ => list.push_to(text),
+    }
+}
+
+/// Adds what parts of conditions need that are below what is wanted: `needs A, which is n`, `needs A (n), B (m)`, and
+/// `m at most` where nothing makes one y.
 fn push_parts(
     alloc: Global,
     text: &mut String,
@@ -101,16 +123,11 @@ fn push_parts(
     parts: &[&Expr],
     wanted: Wanted,
 ) -> Result<(), AllocError> {
-    let mut list = part_words(alloc, view, parts)?;
-    if wanted.modules {
-        let mut words = String::new(alloc);
-        push_modules(&mut words, view.known())?;
-        list.add(words)?;
-    }
-    let has_needs = !list.is_empty();
+    let low = low_parts(alloc, view, parts, wanted)?;
+    let has_needs = !low.is_empty();
     if has_needs {
         text.push_str("needs ")?;
-        list.push_to(text)?;
+        push_low_parts(alloc, text, low.as_slice())?;
     }
     if wanted.is_yes && parts.iter().any(|part| is_bare_module(part)) {
         text.push_str(if has_needs { "; " } else { "" })?;
@@ -119,8 +136,8 @@ fn push_parts(
     Ok(())
 }
 
-/// Adds what a value needs that was asked for: `needs A=n, B=m`, of the prompt that comes nearest to it. Gives whether
-/// there is anything.
+/// Adds what a value needs that was asked for: `needs A (n), B (m)`, of the prompt that comes nearest to it. Gives
+/// whether there is anything.
 pub(crate) fn push_needs(
     alloc: Global,
     text: &mut String,
@@ -138,6 +155,28 @@ pub(crate) fn push_needs(
     }
     push_parts(alloc, text, view, parts.as_slice(), wanted)?;
     Ok(true)
+}
+
+/// Adds the parts of a factor that are less than y, each with the values of its symbols: `A=n, B=m || C=n`, of a long
+/// one the first 160 bytes.
+///
+/// # Errors
+///
+/// `AllocError` where memory is refused.
+pub fn push_low_values(
+    alloc: Global,
+    text: &mut String,
+    view: &View<'_>,
+    factor: &Factor<'_>,
+) -> Result<(), AllocError> {
+    let parts = parts_below(alloc, view, &[*factor], Tri::Yes)?;
+    let mut list = WordList::new(alloc);
+    for part in parts {
+        let mut words = String::new(alloc);
+        push_valued_expr(&mut words, view.known(), part)?;
+        list.add(String::from_str(alloc, shown_line(words.as_str()))?)?;
+    }
+    list.push_to(text)
 }
 
 /// Whether a definition of a symbol has a prompt.

@@ -4,11 +4,11 @@ ghost use Rattle.kc_value.specs.BoundsRange.{IsSmall};
 
 use crate::expressions::push_valued_expr;
 use crate::low_parts::{is_below, is_unchosen};
-use crate::modules::push_modules;
+use crate::modules::{YES_WITHOUT_MODULES, lacks_modules};
 use crate::view::View;
 use crate::words::push_user;
-use kc_tree::{DefaultValue, Node, SymId, SymbolType, Tree, UserVal};
-use kc_value::{ActiveRange, DefaultPlace, Reason, active_range, spelled};
+use kc_tree::{DefaultValue, Node, SymId, SymbolType, Tree, Tri, UserVal};
+use kc_value::{ActiveRange, DefaultPlace, Reason, active_range, spelled, tri};
 use std::alloc::{AllocError, Global};
 
 /// The default of a place.
@@ -116,15 +116,56 @@ fn is_more_than_given(view: &View<'_>, symbol: SymId) -> bool {
     }
 }
 
-/// Adds the words for a user value that counts in part: a visible m is y where modules are not built, and no value is more
-/// than the visibility.
+/// Adds the words for a user value that counts in part: no value is more than the visibility, and a visible m is y
+/// where modules are not built.
 fn push_within(text: &mut String, view: &View<'_>, symbol: SymId) -> Result<(), AllocError> {
-    text.push_str("of the user value, as ")?;
+    text.push_str("of the user value")?;
     if is_more_than_given(view, symbol) {
-        push_modules(text, view.known())
-    } else {
-        text.push_str("far as its prompt is visible")
+        return Ok(());
     }
+    text.push_str(", as far as its prompt is visible")
+}
+
+/// What the default of a place gives, within its condition.
+fn default_tri(view: &View<'_>, place: DefaultPlace) -> Option<Tri> {
+    let default = default_at(view.tree(), place)?;
+    let value = tri(view.known(), &default.value);
+    match &default.condition {
+        Some(condition) => Some(value.and(tri(view.known(), condition))),
+        None => Some(value),
+    }
+}
+
+/// Whether a symbol is y since its user value or its default is m, which is y where modules are not built. No condition
+/// is m there, so what an `imply` or a `select` gives is n or y.
+fn is_yes_for_module(view: &View<'_>, symbol: SymId, reason: Reason) -> bool {
+    if !lacks_modules(view, symbol, Tri::Module) {
+        return false;
+    }
+    let given = match reason {
+        Reason::UserWithin if is_more_than_given(view, symbol) => Some(Tri::Module),
+        Reason::Default(place) => default_tri(view, place),
+        _ => None,
+    };
+    given == Some(Tri::Module) && view.known().tri(Node::Val(symbol)) == Tri::Yes
+}
+
+/// Adds that m is y, where a symbol is y for that: `: m is y without MODULES`.
+///
+/// # Errors
+///
+/// `AllocError` where memory is refused.
+pub fn push_module_words(
+    text: &mut String,
+    view: &View<'_>,
+    symbol: SymId,
+    reason: Reason,
+) -> Result<(), AllocError> {
+    if !is_yes_for_module(view, symbol, reason) {
+        return Ok(());
+    }
+    text.push_str(": ")?;
+    text.push_str(YES_WITHOUT_MODULES)
 }
 
 /// Adds the words for a member of a choice that selects none.
@@ -137,8 +178,8 @@ fn push_none_chosen(text: &mut String, view: &View<'_>, symbol: SymId) -> Result
     }
 }
 
-/// Adds the words of a reason, which come after `because`.
-pub fn push_reason_words(
+/// Adds the words of a reason, without those on an m that is y.
+fn push_branch_words(
     alloc: Global,
     text: &mut String,
     view: &View<'_>,
@@ -162,4 +203,16 @@ pub fn push_reason_words(
         Reason::NoDependencies => text.push_str("its dependencies are n"),
         Reason::Nothing => text.push_str("nothing gives it a value"),
     }
+}
+
+/// Adds the words of a reason, which come after `because`.
+pub fn push_reason_words(
+    alloc: Global,
+    text: &mut String,
+    view: &View<'_>,
+    symbol: SymId,
+    reason: Reason,
+) -> Result<(), AllocError> {
+    push_branch_words(alloc, text, view, symbol, reason)?;
+    push_module_words(text, view, symbol, reason)
 }

@@ -73,12 +73,8 @@ impl ReverseRow {
     }
 
     /// Adds what comes before the symbol that was added last.
-    fn push_before(&self, text: &mut String, kind: ReverseKind) -> Result<(), AllocError> {
-        if self.shown.len() > 1 {
-            return text.push_str(", ");
-        }
-        text.push_str(kind.done())?;
-        text.push_str(" by ")
+    fn push_before(&self, text: &mut String) -> Result<(), AllocError> {
+        text.push_str(if self.shown.len() > 1 { ", " } else { "" })
     }
 
     /// Adds how many more symbols there are than are shown.
@@ -108,6 +104,30 @@ pub fn push_reverse_row(
     symbol: SymId,
     above: Option<Tri>,
 ) -> Result<bool, AllocError> {
+    let mut names = String::new(alloc);
+    if !push_reverse_names(alloc, &mut names, view, kind, symbol, above)? {
+        return Ok(false);
+    }
+    text.push_str(kind.done())?;
+    text.push_str(" by ")?;
+    text.push_str(names.as_str())?;
+    Ok(true)
+}
+
+/// Adds who selects or implies a symbol, as [`push_reverse_row`] does, without the words before: `A=n, B if C=n`. Gives
+/// whether there is anything.
+///
+/// # Errors
+///
+/// `AllocError` where memory is refused.
+pub fn push_reverse_names(
+    alloc: Global,
+    text: &mut String,
+    view: &View<'_>,
+    kind: ReverseKind,
+    symbol: SymId,
+    above: Option<Tri>,
+) -> Result<bool, AllocError> {
     let Some(found) = view.tree().symbols().get(symbol.0 as usize) else {
         return Ok(false);
     };
@@ -115,7 +135,7 @@ pub fn push_reverse_row(
     for line in kind.of(found) {
         let value = reverse_value(view.known(), line);
         if is_above(value, above) && row.add(line.by)? {
-            row.push_before(text, kind)?;
+            row.push_before(text)?;
             match above {
                 Some(_) => push_valued(text, view.known(), line.by)?,
                 None => push_line_words(alloc, text, view, line, value)?,

@@ -1,7 +1,8 @@
 //! Why a symbol has not the value that was asked for, in short.
 
 use crate::low_parts::{is_below, is_unchosen};
-use crate::modules::{lacks_modules, push_modules, takes_module};
+use crate::low_values::LowPart;
+use crate::modules::{YES_WITHOUT_MODULES, lacks_modules, takes_module};
 use crate::needs::{Wanted, has_prompt, push_needs};
 use crate::reason_words::{push_bounds, push_reason_words};
 use crate::reverse_row::{ReverseKind, push_reverse_row};
@@ -21,14 +22,14 @@ const VISIBLE: Wanted = Wanted {
 /// Adds why a symbol has not the value that was asked for, in short, as it comes after `asked y, got n: ` (this project's
 /// own words), with `; ` between what applies of these:
 ///
-/// - `needs BRIDGE=n, NETFILTER_ADVANCED=n`: the factors of its prompt's condition that are below what was asked, of
-///   several prompts those of the one that comes nearest, and `MODULES=n`, for m of a tristate; `m at most`, where `m`
-///   alone is a factor;
+/// - `needs BRIDGE, which is n`, `needs BRIDGE (n), !SLOB (SLOB is y)`: the factors of its prompt's condition that are
+///   below what was asked, of several prompts those of the one that comes nearest, and `MODULES`, for m of a tristate;
+///   `m at most`, where `m` alone is a factor;
 /// - `has no prompt; selected by PROVE_LOCKING=n, LOCK_STAT=n, and 5 more`, at most three;
 /// - `selected by X=y`, where less was asked;
 /// - `outside the range 12 25`;
 /// - `its choice selects X`; of a member that is not visible `X is chosen`;
-/// - `MODULES=n`, for m of a tristate that is y;
+/// - `m is y without MODULES`, for m of a tristate that is y;
 /// - else the reason of its value.
 ///
 /// # Errors
@@ -41,13 +42,28 @@ pub fn push_shortfall(
     symbol: SymId,
     asked: &UserVal,
 ) -> Result<(), AllocError> {
-    let Some(found) = view.tree().symbols().get(symbol.0 as usize) else {
-        return Ok(());
-    };
     let Some(reason) = view.reason(symbol) else {
         return Ok(());
     };
+    let words = shortfall_words(alloc, view, symbol, asked, reason)?;
+    if words.is_empty() {
+        return push_reason_words(alloc, text, view, symbol, reason);
+    }
+    text.push_str(words.as_str())
+}
+
+/// Why a symbol has not the value that was asked for, in short; empty where the reason of its value says it.
+pub(crate) fn shortfall_words(
+    alloc: Global,
+    view: &View<'_>,
+    symbol: SymId,
+    asked: &UserVal,
+    reason: Reason,
+) -> Result<String, AllocError> {
     let mut words = String::new(alloc);
+    let Some(found) = view.tree().symbols().get(symbol.0 as usize) else {
+        return Ok(words);
+    };
     match (found.choice(), asked) {
         (Some(choice), _) => push_member(alloc, &mut words, view, symbol, choice)?,
         (None, UserVal::Tri(asked)) => {
@@ -57,10 +73,7 @@ pub fn push_shortfall(
             push_text(alloc, &mut words, view, symbol, asked.as_str())?;
         }
     }
-    if words.is_empty() {
-        return push_reason_words(alloc, text, view, symbol, reason);
-    }
-    text.push_str(words.as_str())
+    Ok(words)
 }
 
 /// Adds `; ` where there are words before.
@@ -129,7 +142,8 @@ fn push_tristate(
     push_without_prompt(alloc, words, view, symbol)?;
     if wanted.modules && !has_any_prompt(view, symbol) {
         push_between(words)?;
-        push_modules(words, view.known())?;
+        words.push_str("needs ")?;
+        LowPart::of_modules(alloc, view.known())?.push_alone(words)?;
     }
     Ok(())
 }
@@ -145,7 +159,7 @@ fn push_too_much(
     reason: Reason,
 ) -> Result<(), AllocError> {
     if lacks_modules(view, symbol, asked) {
-        push_modules(words, view.known())?;
+        words.push_str(YES_WITHOUT_MODULES)?;
     }
     let mut row = String::new(alloc);
     let kind = ReverseKind::Select;

@@ -1,4 +1,4 @@
-//! How a line of a file is shown in a message.
+//! How a line of a file, or a text, is shown in a message.
 ghost use Rattle.std.specs.Prelude.{◌≡◌, ◌≤◌, ◌<◌, length, ℕ, take};
 ghost use Rattle.std.specs.Str.{trim, IsCharBoundary};
 
@@ -15,4 +15,14 @@ pub fn shown_line(line: &str) -> &str
     let line = line.trim();
     let end = line.floor_char_boundary(MOST_SHOWN);
     &line[..end]
+}
+
+/// Of a text that has more than 160 bytes the first 160, or fewer where these end within a character.
+pub fn shown_text(text: &str) -> &str
+    ensures short { length result.now ≤ 160 }
+    ensures beginning { result.now ≡ take (length result.now) text.now }
+    ensures longest { (n : ℕ) → length result.now < n → n ≤ 160 → ¬ (IsCharBoundary text.now n) }
+{
+    let shown = text.floor_char_boundary(MOST_SHOWN);
+    &text[..shown]
 }

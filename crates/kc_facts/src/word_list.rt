@@ -1,6 +1,5 @@
 //! Words of a list, each once, of which the first few are shown.
 
-use crate::showing::shown_line;
 use std::alloc::{AllocError, Global};
 
 /// The most words that are shown.
@@ -28,13 +27,17 @@ impl WordList {
         self.shown.is_empty()
     }
 
+    /// Whether all that were added are the same words.
+    pub(crate) fn has_one(&self) -> bool {
+        self.shown.len() == 1
+    }
+
     /// Adds words, if they are not among those that are shown.
     pub(crate) fn add(&mut self, words: String) -> Result<(), AllocError> {
-        let added = shown_line(words.as_str());
         if self
             .shown
             .iter()
-            .any(|there| shown_line(there.as_str()) == added)
+            .any(|there| there.as_str() == words.as_str())
         {
             return Ok(());
         }
@@ -51,7 +54,7 @@ impl WordList {
         let mut between = "";
         for words in &self.shown {
             text.push_str(between)?;
-            text.push_str(shown_line(words.as_str()))?;
+            text.push_str(words.as_str())?;
             between = ", ";
         }
         self.more.sort_unstable();

@@ -1,7 +1,7 @@
 //! Values, types and lists in words.
 
 use crate::expressions::push_quoted;
-use crate::showing::shown_line;
+use crate::showing::{shown_line, shown_text};
 use kc_tree::{Node, SymId, SymbolType, Tri, UserVal};
 use kc_value::Known;
 use std::alloc::{AllocError, Global};
@@ -35,7 +35,7 @@ pub(crate) fn push_text_value(
     value: &str,
 ) -> Result<(), AllocError> {
     match kind {
-        SymbolType::String => push_quoted(text, shown_line(value)),
+        SymbolType::String => push_quoted(text, shown_text(value)),
         SymbolType::Bool | SymbolType::Tristate | SymbolType::Int | SymbolType::Hex => {
             text.push_str(value)
         }

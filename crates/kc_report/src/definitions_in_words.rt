@@ -6,10 +6,12 @@ ghost use Rattle.kc_report.specs.declared.extent.Extent.TheVariants.{Short, All}
 use crate::extent::Extent;
 use crate::factors_in_words::push_factor;
 use kc_facts::{
-    DefinitionRow, LineIndex, View, definition_rows, push_place, push_quoted, shown_line,
+    DefinitionRow, LineIndex, LinedFactor, View, definition_rows, push_place, push_quoted,
+    push_why_no, shown_line, symbol_below,
 };
 use kc_text::{Line, Token};
 use kc_tree::Symbol;
+use kc_value::FactorPart;
 use std::alloc::{AllocError, Global};
 
 /// The most definitions that are shown, where not all are wanted.
@@ -54,7 +56,33 @@ fn push_head(
     text.push('\n')
 }
 
-/// Adds a definition: its line, and each factor of what it depends on.
+/// Adds why a symbol is n, where it alone makes a factor n, and no factor of the definition was n before. Gives whether
+/// a factor was n by now.
+fn push_step(
+    alloc: Global,
+    text: &mut String,
+    view: &View<'_>,
+    row: &LinedFactor<'_, '_, '_>,
+    is_explained: bool,
+) -> Result<bool, AllocError> {
+    let factor = &row.factor;
+    let is_mode = matches!(factor.part, FactorPart::Mode(_));
+    if is_explained || is_mode || !factor.value.is_no() {
+        return Ok(is_explained);
+    }
+    let Some(symbol) = symbol_below(alloc, view, factor)? else {
+        return Ok(true);
+    };
+    let mut words = String::new(alloc);
+    if push_why_no(alloc, &mut words, view, symbol)? {
+        text.push_str("      ")?;
+        text.push_str(words.as_str())?;
+        text.push('\n')?;
+    }
+    Ok(true)
+}
+
+/// Adds a definition: its line, and each factor of what it depends on, with one step further for the first that is n.
 fn push_definition(
     alloc: Global,
     text: &mut String,
@@ -64,10 +92,13 @@ fn push_definition(
 ) -> Result<(), AllocError> {
     push_head(text, view, row)?;
     let shown = shown_of(extent, row.factors.len(), MOST_FACTORS);
+    let mut is_explained = false;
     for factor in row.factors.iter().take(shown) {
         push_factor(alloc, text, view, &factor.own)?;
+        is_explained = push_step(alloc, text, view, &factor.own, is_explained)?;
         if let Some(condition) = &factor.choice {
             push_factor(alloc, text, view, condition)?;
+            is_explained = push_step(alloc, text, view, condition, is_explained)?;
         }
     }
     let left = row.factors.len().saturating_sub(shown);

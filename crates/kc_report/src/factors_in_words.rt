@@ -1,8 +1,8 @@
 //! The factors of conditions as lines of text.
 
 use kc_facts::{
-    LinedFactor, View, is_if, is_unchosen, push_choice, push_expr, push_place, push_valued_factor,
-    shown_line,
+    LinedFactor, View, is_if, is_unchosen, push_choice, push_expr, push_low_values, push_place,
+    push_valued_factor, shown_line,
 };
 use kc_tree::{Tree, Tri};
 use kc_value::{Factor, FactorPart, Origin};
@@ -62,7 +62,13 @@ pub(crate) fn push_factor(
     }
     let mut words = String::new(alloc);
     push_factor_words(&mut words, view.tree(), factor)?;
-    line.push_str(shown_line(words.as_str()))?;
+    let shown = shown_line(words.as_str());
+    line.push_str(shown)?;
+    line.push_str(if shown.len() < words.len() {
+        " ..."
+    } else {
+        ""
+    })?;
     text.push_str("    ")?;
     text.push_str(factor.value.letter())?;
     text.push(' ')?;
@@ -91,7 +97,8 @@ fn push_deciding(
     }
 }
 
-/// Adds what makes a factor less than y after its line, if there is anything.
+/// Adds what makes a factor less than y after its line, if there is anything; where that is long, the values in the
+/// parts that are less than y alone.
 fn push_factor_values(
     alloc: Global,
     text: &mut String,
@@ -101,6 +108,10 @@ fn push_factor_values(
 ) -> Result<(), AllocError> {
     let mut values = String::new(alloc);
     push_deciding(&mut values, view, factor)?;
+    if shown_line(values.as_str()).len() < values.len() {
+        values = String::new(alloc);
+        push_low_values(alloc, &mut values, view, factor)?;
+    }
     if values.is_empty() {
         return Ok(());
     }
@@ -109,5 +120,5 @@ fn push_factor_values(
         text.push(' ')?;
     }
     text.push_str("  ")?;
-    text.push_str(shown_line(values.as_str()))
+    text.push_str(values.as_str())
 }

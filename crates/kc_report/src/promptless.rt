@@ -1,7 +1,8 @@
 //! The symbols without prompt that a definition depends on, and who would select them.
 
 use kc_facts::{
-    ReverseKind, View, choice_condition, definition_factors, has_prompt, push_reverse_row,
+    ReverseKind, View, choice_condition, definition_factors, has_prompt, leaves_of,
+    push_reverse_row,
 };
 use kc_statement::{ExprNode, Operands, Term};
 use kc_tree::{Expr, Node, SymId, Symbol};
@@ -49,30 +50,26 @@ fn add_operands(
 }
 
 /// Adds the symbols of an expression that are wanted.
-#[cycle(add)]
-fn add_expr(found: &mut Vec<SymId>, view: &View<'_>, expr: &Expr) -> Result<(), AllocError> {
-    match expr.node() {
-        ExprNode::Term(term) => add_term(found, view, term),
-        ExprNode::BareModule(_) => Ok(()),
-        ExprNode::Compare(_, operands) => add_operands(found, view, operands),
-        ExprNode::Not(_, inner) => add_expr(found, view, inner),
-        ExprNode::Group(inner) => add_expr(found, view, inner),
-        ExprNode::All(parts) => add_parts(found, view, parts.as_slice()),
-        ExprNode::Any(parts) => add_parts(found, view, parts.as_slice()),
-    }
-}
-
-/// Adds the symbols of expressions that are wanted.
-#[cycle(add)]
-fn add_parts(found: &mut Vec<SymId>, view: &View<'_>, parts: &[Expr]) -> Result<(), AllocError> {
-    for part in parts {
-        add_expr(found, view, part)?;
+fn add_expr(
+    alloc: Global,
+    found: &mut Vec<SymId>,
+    view: &View<'_>,
+    expr: &Expr,
+) -> Result<(), AllocError> {
+    let leaves = leaves_of(alloc, expr)?;
+    for leaf in leaves {
+        match leaf.node() {
+            ExprNode::Term(term) => add_term(found, view, term)?,
+            ExprNode::Compare(_, operands) => add_operands(found, view, operands)?,
+            _ => {}
+        }
     }
     Ok(())
 }
 
 /// Adds the symbols of a factor that is n: of the mode of a choice those of the condition of its prompt.
 fn add_factor(
+    alloc: Global,
     found: &mut Vec<SymId>,
     view: &View<'_>,
     factor: &Factor<'_>,
@@ -85,7 +82,9 @@ fn add_factor(
         return Ok(());
     };
     match deciding.part {
-        FactorPart::Expression(expr) if deciding.value.is_no() => add_expr(found, view, expr),
+        FactorPart::Expression(expr) if deciding.value.is_no() => {
+            add_expr(alloc, found, view, expr)
+        }
         _ => Ok(()),
     }
 }
@@ -99,7 +98,7 @@ fn add_definition(
 ) -> Result<(), AllocError> {
     let factors = definition_factors(alloc, view, number)?;
     for factor in &factors {
-        add_factor(found, view, factor)?;
+        add_factor(alloc, found, view, factor)?;
     }
     Ok(())
 }

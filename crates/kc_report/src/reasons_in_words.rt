@@ -3,7 +3,7 @@
 use crate::reverses::push_reverse;
 use kc_facts::{
     Family, LineIndex, Part, ReasonRow, ReasonSource, View, default_at, push_choice, push_line,
-    push_place, push_reason_words, push_term, push_valued_expr, reason_rows,
+    push_module_words, push_place, push_reason_words, push_term, push_valued_expr, reason_rows,
 };
 use kc_statement::Range;
 use kc_text::Line;
@@ -132,18 +132,18 @@ pub(crate) fn push_reason(
     reason: Reason,
 ) -> Result<(), AllocError> {
     let mut words = String::new(alloc);
-    push_reason_words(alloc, &mut words, view, symbol, reason)?;
-    let first = match reason {
-        Reason::Default(_) => "by default",
-        _ => words.as_str(),
-    };
-    match reason {
-        Reason::Default(_) => push_line(text, "  ", first)?,
-        _ => {
-            text.push_str("  because ")?;
-            push_line(text, "", first)?;
+    let before = match reason {
+        Reason::Default(_) => {
+            words.push_str("by default")?;
+            push_module_words(&mut words, view, symbol, reason)?;
+            "  "
         }
-    }
+        _ => {
+            push_reason_words(alloc, &mut words, view, symbol, reason)?;
+            "  because "
+        }
+    };
+    push_line(text, before, words.as_str())?;
     push_reason_lines(alloc, text, view, index, symbol, reason)
 }
 

@@ -3,7 +3,8 @@
 use crate::extent::Extent;
 use crate::reasons_in_words::push_said;
 use kc_facts::{
-    LineIndex, ReverseKind, ReverseLine, View, push_valued, push_valued_factors, reverse_lines,
+    LineIndex, ReverseKind, ReverseLine, View, push_reverse_names, push_valued,
+    push_valued_factors, reverse_lines,
 };
 use kc_text::Line;
 use kc_tree::{Reverse, SymId, Tri};
@@ -60,7 +61,7 @@ fn count_lines(lines: &[ReverseLine<'_, '_, '_>]) -> Tally {
 }
 
 /// Adds who selects or implies a symbol: how many of the lines that name it give it a value, and the first of these, or
-/// all lines where all are wanted. Nothing where no line names it.
+/// all lines where all are wanted. Where none does, the symbols that would. Nothing where no line names it.
 pub(crate) fn push_reverses(
     alloc: Global,
     text: &mut String,
@@ -78,6 +79,13 @@ pub(crate) fn push_reverses(
     }
     let counted = count_lines(lines.as_slice());
     push_tally(text, list.kind, counted, lines.len())?;
+    if found.choice().is_some() {
+        text.push_str(", without effect on a member of a choice")?;
+    } else if counted.active == 0 && extent == Extent::Short {
+        text.push_str(": ")?;
+        let _ = push_reverse_names(alloc, text, view, list.kind, list.symbol, None)?;
+    }
+    text.push('\n')?;
     let mut shown: usize = 0;
     for row in lines.as_slice() {
         if !is_shown(extent, !row.value.is_no(), shown) {
@@ -107,10 +115,10 @@ fn push_tally(
     let done = kind.done();
     let active = counted.active;
     if active == 0 {
-        return write!(text, "  {done} by none of {count}\n");
+        return write!(text, "  {done} by none of {count}");
     }
     let letter = counted.greatest.letter();
-    write!(text, "  {done} {letter} by {active} of {count}\n")
+    write!(text, "  {done} {letter} by {active} of {count}")
 }
 
 /// Adds how many lines are not shown.

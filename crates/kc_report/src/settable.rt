@@ -3,7 +3,7 @@
 ghost use Rattle.kc_tree.specs.declared.node.Node.TheVariants.{Vis};
 ghost use Rattle.kc_tree.specs.Nodes.{IsNodeOf};
 
-use kc_facts::{View, push_bounds, push_user};
+use kc_facts::{View, has_prompt, push_bounds, push_user};
 use kc_tree::{Node, SymId, SymbolType};
 use kc_value::{active_range, assignable_among};
 use std::alloc::{AllocError, Global};
@@ -70,12 +70,24 @@ pub(crate) fn push_settable(
     }
 }
 
+/// Whether a symbol has a prompt.
+fn has_any_prompt(view: &View<'_>, symbol: SymId) -> bool {
+    match view.tree().symbols().get(symbol.0 as usize) {
+        Some(found) => has_prompt(view, found),
+        None => false,
+    }
+}
+
 /// Adds the user value of a symbol that is not visible, or that the user chose it.
 fn push_waiting(text: &mut String, view: &View<'_>, symbol: SymId) -> Result<(), AllocError> {
     if let Some(value) = view.user().get(symbol) {
         text.push_str("  a user value ")?;
         push_user(text, view.tree().symbol_type(symbol), value)?;
-        return text.push_str(" waits until it is visible\n");
+        return text.push_str(if has_any_prompt(view, symbol) {
+            " waits until it is visible\n"
+        } else {
+            " has no effect, as it has no prompt\n"
+        });
     }
     match view.tree().choice_of(symbol) {
         Some(choice) if view.user().chosen(choice) == Some(symbol) => {
