@@ -11,8 +11,8 @@ use kc_facts::{
     View, name_in, outcomes_of, push_shortfall, read_fragments, shown_line,
 };
 use kc_files::{Assign, LineSays, ReadFault};
-use kc_tree::{ChoiceId, SymId, SymbolType, Tree};
-use kc_value::{Reason, active_range, reason_over, spelled};
+use kc_tree::{ChoiceId, Node, SymId, SymbolType, Tree};
+use kc_value::{Reason, active_range, changed_value, reason_over, spelled};
 use std::alloc::{AllocError, Global};
 
 /// Adds what is found in a `.config`: the lines that can't be used, those that take the place of others, and those without
@@ -241,7 +241,8 @@ impl Report<'_, '_, '_, '_> {
         Ok(words)
     }
 
-    /// What is said of a line without effect: why its symbol has another value.
+    /// What is said of a line whose symbol has another value than it gives: why. Where the symbol has that value for
+    /// the line, this is `y gives m: ..`.
     fn effect_words(&self, alloc: Global, assign: &Assign) -> Result<String, AllocError> {
         let view = self.view;
         let mut words = String::new(alloc);
@@ -250,7 +251,13 @@ impl Report<'_, '_, '_, '_> {
             self.push_outside(alloc, &mut words, assign)?;
             return Ok(words);
         }
-        words.push_str(" has no effect: ")?;
+        if is_changed(alloc, view, assign.symbol)? {
+            words.push_str(" gives ")?;
+            push_value(&mut words, view, assign.symbol)?;
+            words.push_str(": ")?;
+        } else {
+            words.push_str(" has no effect: ")?;
+        }
         push_shortfall(alloc, &mut words, view, assign.symbol, &assign.value)?;
         Ok(words)
     }
@@ -281,6 +288,15 @@ impl Report<'_, '_, '_, '_> {
         words.push_str("; its value is ")?;
         push_value(words, self.view, assign.symbol)
     }
+}
+
+/// Whether a symbol has another value than it would have without its user value.
+fn is_changed(alloc: Global, view: &View<'_>, symbol: SymId) -> Result<bool, AllocError> {
+    let Some(_found) = view.tree().symbols().get(symbol.0 as usize) else {
+        return Ok(false);
+    };
+    let changed = changed_value(alloc, view.known(), Node::Val(symbol))?;
+    Ok(changed.is_some())
 }
 
 /// Whether the user value of a symbol is outside its range.

@@ -3,12 +3,8 @@
 use crate::earlier_effects::{EffectsBefore, UsableLine};
 use crate::replaced::{Replaced, assign_at};
 use crate::shown_values::{push_asked, push_value};
-use kc_facts::{
-    FragmentLines, Input, MeantNames, MergeCounts, NamedLine, Outcome, View, push_meant,
-    push_shortfall, shown_line, symbol_names, type_words,
-};
-use kc_files::{Assign, LineSays, Prefix, WarningKind};
-use kc_tree::SymbolType;
+use kc_facts::{FragmentLines, Input, MergeCounts, NamedLine, Outcome, View, push_shortfall};
+use kc_files::{Assign, LineSays};
 use kc_value::is_same_user_value;
 use std::alloc::{AllocError, Global};
 
@@ -16,29 +12,29 @@ use std::alloc::{AllocError, Global};
 #[derive(Drop)]
 pub(crate) struct MergeText<'r, 's, 'f> {
     pub view: &'r View<'s>,
-    pub prefix: &'r Prefix,
     pub fragments: &'r [Input<'f>],
     pub read: &'r FragmentLines<'f>,
+    /// What is said of each line that can't be used, in their order.
+    pub unusable: &'r [String],
     pub outcomes: &'r [Outcome],
     pub replaced: &'r Replaced,
 }
 
-impl<'r> MergeText<'r, '_, '_> {
+impl MergeText<'_, '_, '_> {
     /// The lines of the report on each line of the fragments, in their order.
     ///
     /// # Errors
     ///
     /// `AllocError` where memory is refused.
     pub fn written(&self, alloc: Global) -> Result<String, AllocError> {
-        let mut left = self.read.unusable.iter();
-        let meant = self.meant_names(alloc)?;
+        let mut left = self.read.unusable.iter().zip(self.unusable);
         let got = self.lines_that_got(alloc)?;
         let mut text = String::new(alloc);
         for (index, line) in self.read.lines.iter().enumerate() {
             match &line.line.says {
-                LineSays::Warned(kind) => {
-                    if let Some(named) = left.next() {
-                        self.push_unusable(&mut text, index, *kind, named, &meant)?;
+                LineSays::Warned(_) => {
+                    if let Some((named, words)) = left.next() {
+                        self.push_unusable(&mut text, index, named, words.as_str())?;
                     }
                 }
                 LineSays::Usable(assign) => {
@@ -49,21 +45,6 @@ impl<'r> MergeText<'r, '_, '_> {
             }
         }
         Ok(text)
-    }
-
-    /// The names of symbols that a name may have been meant as, if a line names no symbol, and else none.
-    fn meant_names(&self, alloc: Global) -> Result<MeantNames<'r>, AllocError> {
-        let is_needed = self.read.lines.iter().any(|line| {
-            matches!(
-                line.line.says,
-                LineSays::Warned(WarningKind::UndefinedSymbol)
-            )
-        });
-        if is_needed {
-            MeantNames::of(alloc, symbol_names(alloc, self.view.tree())?)
-        } else {
-            MeantNames::of(alloc, Vec::new(alloc))
-        }
     }
 
     /// By the number of a symbol, the line that gives it the value that it has.
@@ -107,14 +88,13 @@ impl<'r> MergeText<'r, '_, '_> {
         write!(text, ": {name}: ")
     }
 
-    /// Adds why a line can't be used.
+    /// Adds why a line can't be used, in the words that were passed in.
     fn push_unusable(
         &self,
         text: &mut String,
         index: usize,
-        kind: WarningKind,
         named: &NamedLine<'_>,
-        meant: &MeantNames<'_>,
+        words: &str,
     ) -> Result<(), AllocError> {
         self.push_at(text, index)?;
         text.push_str(": ")?;
@@ -122,15 +102,7 @@ impl<'r> MergeText<'r, '_, '_> {
             text.push_str(named.name)?;
             text.push_str(": ")?;
         }
-        let kind_of = self
-            .view
-            .tree()
-            .find(named.name)
-            .map(|symbol| self.view.tree().symbol_type(symbol));
-        push_unusable_words(text, kind, named.value, kind_of)?;
-        if kind == WarningKind::UndefinedSymbol {
-            push_meant(text, meant.meant(self.prefix.as_str(), named.name))?;
-        }
+        text.push_str(words)?;
         text.push('\n')?;
         Ok(())
     }
@@ -226,36 +198,6 @@ impl<'r> MergeText<'r, '_, '_> {
     }
 }
 
-/// Adds the words for a line that can't be used, by the value in it and the type of its symbol.
-fn push_unusable_words(
-    text: &mut String,
-    kind: WarningKind,
-    value: Option<&str>,
-    symbol_type: Option<SymbolType>,
-) -> Result<(), AllocError> {
-    let value = shown_line(value.unwrap_or("is not set"));
-    match kind {
-        WarningKind::UndefinedSymbol => text.push_str("no symbol has this name"),
-        WarningKind::BadString if value.starts_with('"') => {
-            text.push_str("a string without a quote at its end")
-        }
-        WarningKind::BadString => text.push_str("a string without quotes"),
-        WarningKind::BadValue => {
-            let name = kind_words(symbol_type);
-            write!(text, "`{value}` is no value of {name}")
-        }
-        WarningKind::Malformed | WarningKind::Repeated => text.push_str("no line of a .config"),
-    }
-}
-
-/// What a type is called, and what has none as far as is known.
-fn kind_words(kind: Option<SymbolType>) -> &'static str {
-    match kind {
-        Some(kind) => type_words(kind),
-        None => "the symbol",
-    }
-}
-
 /// Adds the lines of a `.config` that have lost their effect, by their indices, and why.
 ///
 /// # Errors
@@ -297,7 +239,7 @@ fn push_lost_line(
     Ok(())
 }
 
-/// Adds the counts, as the last line of a report.
+/// Adds the counts, as the last line of a report; without a `.config`, whose path is empty, none of its lines.
 pub(crate) fn push_counts(
     text: &mut String,
     counts: &MergeCounts,
@@ -310,10 +252,11 @@ pub(crate) fn push_counts(
     let replaced = counts.replaced;
     write!(
         text,
-        "{asked} asked: {got} got, {other} got another value, {unusable} unusable, {replaced} replaced; "
+        "{asked} asked: {got} got, {other} got another value, {unusable} unusable, {replaced} replaced"
     )?;
     match counts.lost {
-        1 => write!(text, "1 line of {config} lost\n"),
-        lost => write!(text, "{lost} lines of {config} lost\n"),
+        _ if config == "" => text.push('\n'),
+        1 => write!(text, "; 1 line of {config} lost\n"),
+        lost => write!(text, "; {lost} lines of {config} lost\n"),
     }
 }

@@ -26,7 +26,7 @@ pub struct MergeReport {
 /// What became of the lines of fragments, over the values of the tree after all of them were merged into a `.config`
 /// (this project's own): of each line that says something, whether a later line of a fragment replaced it, it can't be
 /// used, its symbol has its value, or another one; and which lines of the `.config` have lost their effect, of symbols
-/// that no fragment names.
+/// that no fragment names. What is said of each line that can't be used is passed in, in their order.
 ///
 /// # Errors
 ///
@@ -38,6 +38,7 @@ pub fn merge_report(
     prefix: &Prefix,
     before: &EffectsBefore,
     fragments: &[Input<'_>],
+    unusable: &[String],
 ) -> Result<MergeReport, ReadFault>
     ensures outcomes { IfOk result (λ r. r.outcomes.items
         ≡ outcomes view.now.tree (assignment_of view.now.tree view.now.values) (fragment_lines view.now.tree prefix.now fragments.now)) }
@@ -58,9 +59,9 @@ pub fn merge_report(
     let counts = MergeCounts::of(outcomes.as_slice(), lost.len());
     let lines = MergeText {
         view,
-        prefix,
         fragments,
         read: &read,
+        unusable,
         outcomes: outcomes.as_slice(),
         replaced: &replaced,
     };

@@ -1,7 +1,9 @@
-//! Variables that nobody gave and no line defines, each where the reader comes to it first.
+//! Variables that nobody gave and no line defines, each where the reader comes to it first, and files that are put in
+//! place twice.
 
 use crate::finding::Finding;
 use crate::inputs::CheckInputs;
+use crate::sourced_files::{SourceLine, SourcedFiles};
 use crate::variables::Variables;
 use kc_text::{Line, LineKind};
 use std::alloc::{AllocError, Global};
@@ -21,6 +23,7 @@ pub(crate) struct MissingVariables<'v> {
     open: Vec<usize>,
     /// How many files were put in place.
     begun: usize,
+    sourced: SourcedFiles<'v>,
 }
 
 impl<'v> MissingVariables<'v> {
@@ -41,11 +44,12 @@ impl<'v> MissingVariables<'v> {
             passed_marks: Vec::new(alloc),
             open: Vec::new(alloc),
             begun: 0,
+            sourced: SourcedFiles::new(alloc),
         })
     }
 
     /// Comes to the next logical line: adds the variables that are missing up to it, each where a line refers to it
-    /// first.
+    /// first, and the files before it that were put in place twice.
     ///
     /// # Errors
     ///
@@ -59,6 +63,7 @@ impl<'v> MissingVariables<'v> {
         for run in self.begun..line.run().saturating_add(1) {
             self.begin(alloc, run, found)?;
         }
+        self.sourced.pass(alloc, line)?;
         let Some(file) = self.open.last().copied() else {
             return Ok(());
         };
@@ -77,14 +82,40 @@ impl<'v> MissingVariables<'v> {
         run: usize,
         found: &mut Vec<Finding>,
     ) -> Result<(), AllocError> {
-        if let Some(file) = self.open.last().copied() {
-            let count = self.marks_up_to_source(file);
-            self.pass(alloc, file, count, found)?;
-        }
         let file = self.files_by_run.get(&run).copied().unwrap_or(0);
+        if let Some(outer) = self.open.last().copied() {
+            let count = self.marks_up_to_source(outer);
+            self.pass(alloc, outer, count, found)?;
+            if count > 0 {
+                self.note_source(alloc, file, outer, found)?;
+            }
+        }
         self.open.push(file)?;
         self.begun = run.saturating_add(1);
         Ok(())
+    }
+
+    /// Notes that a file is put in place of the `source` line of another, whose mark was passed last.
+    fn note_source(
+        &mut self,
+        alloc: Global,
+        file: usize,
+        outer: usize,
+        found: &mut Vec<Finding>,
+    ) -> Result<(), AllocError> {
+        let files = self.variables.files();
+        let (Some(inner), Some(outer_file)) = (files.get(file), files.get(outer)) else {
+            return Ok(());
+        };
+        let last = self.passed(outer).checked_sub(1);
+        let Some(mark) = last.and_then(|last| outer_file.marks.get(last)) else {
+            return Ok(());
+        };
+        let line = SourceLine {
+            path: outer_file.path.as_str(),
+            line: mark.line,
+        };
+        self.sourced.source(alloc, inner.path.as_str(), line, found)
     }
 
     /// How many marks of a file were passed.

@@ -1,6 +1,6 @@
 //! Values as messages write them.
 
-use kc_facts::{View, shown_line};
+use kc_facts::{View, push_quoted, shown_line, shown_text};
 use kc_tree::{Node, SymId, SymbolType, UserVal};
 use std::alloc::{AllocError, Global};
 
@@ -52,10 +52,9 @@ pub(crate) fn has_no_value(view: &View<'_>, symbol: SymId) -> bool {
 
 /// Adds the text of a value: that of a string in quotes.
 fn push_text(words: &mut String, kind: SymbolType, text: &str) -> Result<(), AllocError> {
-    let text = shown_line(text);
     match kind {
-        SymbolType::String => write!(words, "\"{text}\""),
+        SymbolType::String => push_quoted(words, shown_text(text)),
         SymbolType::Int | SymbolType::Hex if text == "" => words.push_str("nothing"),
-        _ => words.push_str(text),
+        _ => words.push_str(shown_line(text)),
     }
 }

@@ -5,6 +5,7 @@ use crate::inputs::{CheckInputs, Extent};
 use crate::missing_variables::MissingVariables;
 use crate::selections::{check_member, check_selected};
 use crate::undefined_names::UndefinedNames;
+use crate::unset_symbols::{NeverModules, check_unset};
 use crate::unused_defaults::UnusedDefaults;
 use crate::values::{check_default, check_range};
 use crate::variables::Variables;
@@ -34,12 +35,17 @@ pub(crate) fn tree_findings(
     let mut missing = MissingVariables::new(alloc, variables, inputs)?;
     let mut undefined = UndefinedNames::of(alloc, tree, inputs.lines, prefix, extent)?;
     let mut unused = UnusedDefaults::of(alloc, tree, index)?;
+    let mut never = NeverModules::of(tree);
     let mut walk = Walk::new();
     let mut all = Vec::new(alloc);
     for (number, line) in inputs.lines.iter().enumerate() {
         let placed = walk.place(line);
         missing.come_to(alloc, line, &mut all)?;
         check_part(alloc, view, index, line, &placed, &mut all)?;
+        never.check(alloc, tree, line, &placed, &mut all)?;
+        if extent == Extent::All && placed.part == Part::Definition {
+            check_unset(alloc, tree, line, &placed, &mut all)?;
+        }
         unused.check(alloc, inputs.lines, number, &placed, &mut all)?;
         undefined.check(alloc, line, number, &placed, &mut all)?;
     }

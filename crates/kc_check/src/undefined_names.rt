@@ -325,7 +325,7 @@ fn is_meant_constant(
         && meant_tri(word).is_some()
 }
 
-/// Whether a word of a line is no name, but a number, or a constant that is meant.
+/// Whether a word of a line is no name, but a constant, a number, or a constant that is meant.
 fn is_constant(
     tree: &Tree,
     tokens: &[Token<'_>],
@@ -334,7 +334,9 @@ fn is_constant(
     word: &str,
 ) -> bool {
     let kind = type_of(tree, placed);
-    is_number(word, kind) || is_meant_constant(tokens, value, kind, word)
+    matches!(word, "n" | "m" | "y")
+        || is_number(word, kind)
+        || is_meant_constant(tokens, value, kind, word)
 }
 
 /// How the name at a place is read. A line may have one token as the value of a default.

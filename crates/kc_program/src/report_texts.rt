@@ -7,7 +7,7 @@ use crate::reports::{Outcome, ReportInputs};
 use kc_check::{CheckInputs, Judged, SourceText, check, effects_before, merge_report};
 use kc_explain::explain_warnings;
 use kc_facts::{Input, LineIndex, MeantNames, View, push_meant, symbol_names};
-use kc_files::{ReadFault, Warning, WarningKind};
+use kc_files::{ConfigLine, LineSays, ReadFault, Warning, WarningKind, read_config_lines};
 use kc_menu::{Help, menu_text};
 use kc_report::{Extent, why_text};
 use kc_session::{Body, MergeFault, Session, merged};
@@ -112,7 +112,7 @@ pub(crate) fn check_outcome(
     session.fill_all()?;
     let view = View::new(session.solved());
     let index = LineIndex::of(alloc, inputs.lines)?;
-    let unusable = unusable_words(alloc, inputs, warnings)?;
+    let unusable = unusable_words(alloc, inputs, inputs.config, warnings)?;
     let given = names_of(alloc, inputs.variables)?;
     let sources = source_texts(alloc, inputs)?;
     let checked = CheckInputs {
@@ -144,10 +144,11 @@ pub(crate) fn check_outcome(
     })
 }
 
-/// What is said of each line of CONFIG that can't be used, in their order.
+/// What is said of each line of CONFIG or of a fragment that can't be used, in their order.
 fn unusable_words(
     alloc: Global,
     inputs: &ReportInputs<'_>,
+    file: &ConfigFile,
     warnings: &[Warning],
 ) -> Result<Vec<String>, AllocError> {
     let unusable: Vec<Warning> = warnings
@@ -159,9 +160,42 @@ fn unusable_words(
         alloc,
         inputs.lines,
         inputs.arguments.prefix.as_str(),
-        inputs.config.bytes(),
+        file.bytes(),
         unusable.as_slice(),
     )
+}
+
+/// What is said of each line of the fragments that can't be used, in their order.
+fn unusable_words_of_fragments(
+    alloc: Global,
+    inputs: &ReportInputs<'_>,
+    tree: &Tree,
+) -> Result<Vec<String>, AllocError> {
+    let mut all = Vec::new(alloc);
+    for fragment in inputs.fragments {
+        let prefix = &inputs.arguments.prefix;
+        let lines = read_again(read_config_lines(alloc, tree, prefix, fragment.bytes()))?;
+        let warnings = warnings_of(alloc, lines.as_slice())?;
+        if !warnings.is_empty() {
+            let mut words = unusable_words(alloc, inputs, fragment, warnings.as_slice())?;
+            all.append(&mut words)?;
+        }
+    }
+    Ok(all)
+}
+
+/// The warnings of lines, in their order.
+fn warnings_of(alloc: Global, lines: &[ConfigLine]) -> Result<Vec<Warning>, AllocError> {
+    let mut warnings = Vec::new(alloc);
+    for line in lines {
+        if let LineSays::Warned(kind) = &line.says {
+            warnings.push(Warning {
+                line: line.number,
+                kind: *kind,
+            })?;
+        }
+    }
+    Ok(warnings)
 }
 
 /// The status of a report, by whether what it found makes it 1.
@@ -224,7 +258,15 @@ pub(crate) fn merge_outcome(
     session.fill_all()?;
     let view = View::new(session.solved());
     let fragments = inputs_of(alloc, inputs.fragments)?;
-    let report = read_again(merge_report(alloc, &view, prefix, &before, fragments.as_slice()))?;
+    let unusable = unusable_words_of_fragments(alloc, inputs, view.tree())?;
+    let report = read_again(merge_report(
+        alloc,
+        &view,
+        prefix,
+        &before,
+        fragments.as_slice(),
+        unusable.as_slice(),
+    ))?;
     let is_at_fault = inputs.arguments.is_strict && report.counts.has_unmet();
     Ok(Outcome {
         output,

@@ -89,7 +89,7 @@ fn a_failing_output_is_reported(rt: HostRuntime) {
         (["kconf", "menu", "Kconfig", "-"].as_slice(), cannot),
         (
             ["kconf", "merge", "Kconfig", ".config", ".config"].as_slice(),
-            ".config:1: no line of a .config
+            ".config:1: not a line of a .config
 1 asked: 0 got, 0 got another value, 1 unusable, 0 replaced; 0 lines of .config lost
 kconf: cannot write
 ",

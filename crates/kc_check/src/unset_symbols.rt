@@ -1,0 +1,117 @@
+//! Symbols that nothing makes other than n, and tristates that are never m.
+
+use crate::finding::Finding;
+use crate::selections::owner_name;
+use crate::walk::Placed;
+use kc_statement::Keyword;
+use kc_text::Line;
+use kc_tree::{Node, SymId, Symbol, Tree};
+use std::alloc::{AllocError, Global};
+
+/// Adds that a bool or a tristate is always n, since no line gives it a value, where something is computed from it. It
+/// is said where the symbol is defined first.
+///
+/// # Errors
+///
+/// `AllocError` where memory is refused.
+pub(crate) fn check_unset(
+    alloc: Global,
+    tree: &Tree,
+    line: &Line<'_>,
+    placed: &Placed,
+    found: &mut Vec<Finding>,
+) -> Result<(), AllocError> {
+    let Some(number) = placed.definition else {
+        return Ok(());
+    };
+    let Some(definition) = tree.definitions().get(number) else {
+        return Ok(());
+    };
+    let id = definition.symbol();
+    let Some(symbol) = tree.symbols().get(id.0 as usize) else {
+        return Ok(());
+    };
+    let is_first = symbol.definitions().first() == Some(&number);
+    if !is_first || !is_never_set(tree, id, symbol) || !is_used(tree, id) {
+        return Ok(());
+    }
+    let words = String::from_str(
+        alloc,
+        "always n: it has no prompt and no default, and no line selects or implies it",
+    )?;
+    found.push(Finding::in_line(alloc, line.path(), line.number(), tree.name(id), words)?)?;
+    Ok(())
+}
+
+/// Whether a symbol is a bool or a tristate in no choice, to which no line gives a value.
+fn is_never_set(tree: &Tree, id: SymId, symbol: &Symbol) -> bool {
+    tree.symbol_type(id).is_tri()
+        && symbol.choice().is_none()
+        && symbol.selected().is_empty()
+        && symbol.implied().is_empty()
+        && symbol
+            .definitions()
+            .iter()
+            .all(|number| !has_value(tree, *number))
+}
+
+/// Whether the definition of a number has a prompt or a default.
+fn has_value(tree: &Tree, number: usize) -> bool {
+    match tree.definitions().get(number) {
+        Some(definition) => definition.prompt().is_some() || !definition.defaults().is_empty(),
+        None => false,
+    }
+}
+
+/// Whether another symbol or a choice is computed from the value of a symbol.
+fn is_used(tree: &Tree, id: SymId) -> bool {
+    let Some(_found) = tree.symbols().get(id.0 as usize) else {
+        return false;
+    };
+    tree.used_by(Node::Val(id)).any(|node| match node {
+        Node::Vis(user) | Node::Val(user) => user != id,
+        Node::Mode(_) | Node::Sel(_) => true,
+    })
+}
+
+/// Whether a tree has a line that makes a symbol a tristate, which is never m, and this was said.
+#[derive(Clone, Copy)]
+pub(crate) struct NeverModules {
+    is_done: bool,
+}
+
+impl NeverModules {
+    /// Before the first line of a tree: there is nothing to say where MODULES is defined.
+    pub fn of(tree: &Tree) -> NeverModules {
+        NeverModules {
+            is_done: tree.modules().is_some(),
+        }
+    }
+
+    /// Comes to the next line: adds that a tristate is never m, of the first that is one.
+    ///
+    /// # Errors
+    ///
+    /// `AllocError` where memory is refused.
+    pub fn check(
+        &mut self,
+        alloc: Global,
+        tree: &Tree,
+        line: &Line<'_>,
+        placed: &Placed,
+        found: &mut Vec<Finding>,
+    ) -> Result<(), AllocError> {
+        let is_tristate = matches!(
+            placed.keyword,
+            Some(Keyword::Tristate | Keyword::DefTristate)
+        );
+        if self.is_done || !is_tristate || placed.definition.is_none() {
+            return Ok(());
+        }
+        self.is_done = true;
+        let name = owner_name(tree, placed);
+        let words = String::from_str(alloc, "a tristate is never m: no line defines MODULES")?;
+        found.push(Finding::in_line(alloc, line.path(), line.number(), name, words)?)?;
+        Ok(())
+    }
+}
