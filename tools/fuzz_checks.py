@@ -20,7 +20,7 @@ LINE_FAULT = re.compile(rb"kconf: (.+):(\d+): K(?:0[1-9]|1[0-9]|20)")
 SYMBOL_FAULT = re.compile(rb"kconf: K1[2-8] \w+")
 LOOP_FAULT = re.compile(rb"kconf: K19")
 LOOP_NODE = re.compile(rb"kconf: on .+", re.DOTALL)
-NO_SYMBOL = re.compile(rb"kconf: (\w+): no symbol has this name")
+NO_SYMBOL = re.compile(rb"kconf: (\w+): no such symbol(?:; did you mean \w+\?)?")
 FILE_FAULT = re.compile(rb"kconf: (.*): (?:cannot read|not UTF-8|limit)")
 # No run of the fuzzer gives a reason for these: streams are files, and there is memory enough.
 UNEXPECTED = (b"kconf: memory", b"kconf: cannot read", b"kconf: cannot write")
@@ -136,7 +136,8 @@ def unknown_name_problems(run: Run, lines: List[bytes]) -> Iterator[str]:
     given = iter(run.operands)
     if run.status != 1:
         yield f"status {run.status} with a name that no symbol has"
-    if not all(any(line == b"kconf: " + name + b": no symbol has this name" for name in given) for line in lines):
+    named = [found[1] for found in map(NO_SYMBOL.fullmatch, lines) if found]
+    if not all(any(name == operand for operand in given) for name in named):
         yield "a name that was not given, or not in this order"
 
 

@@ -5,7 +5,7 @@ import re
 from dataclasses import replace
 from typing import Callable, Dict, Iterator, List, Optional, Tuple
 
-from fuzz_checks import has_fault, parts_of_errors, replies_of
+from fuzz_checks import NO_SYMBOL, has_fault, parts_of_errors, replies_of
 from fuzz_plans import Plan
 from fuzz_reports import HEAD, Run, blocks_of, is_merge_report, lines_of, object_of
 
@@ -87,7 +87,7 @@ def problem_of_fault(again: Again, plan: Plan, run: Run) -> Optional[str]:
     if problem:
         return f"olddefconfig: {problem}"
     found, wanted = parts_of_errors(run)[1][:1], parts_of_errors(other)[1][:1]
-    if plan.target == "why" and found and found[0].endswith(b": no symbol has this name"):
+    if plan.target == "why" and found and NO_SYMBOL.fullmatch(found[0]):
         found = []
     return None if found == wanted else f"the first error is {found!r}, and that of olddefconfig {wanted!r}"
 

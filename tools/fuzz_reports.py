@@ -47,18 +47,19 @@ AT = rb".+:\d+"
 # The first line of `why`, and what is said after two blanks in the next.
 HEAD = re.compile(rb"(\w+) = (.*) \((" + KINDS + rb"), visible ([nmy]), user (.*)\)", re.DOTALL)
 REASON = re.compile(
-    rb"  (?:by default|because (?:of the user value(?:, as far as its prompt is visible|, as MODULES=n)?"
+    rb"  (?:by default|because (?:of the user value(?:, as far as its prompt is visible)?"
     rb"|the user value .* is outside the range .*|its (?:empty )?default .*is past the range .*"
     rb"|it is (?:selected|implied)|its choice selects (?:it|\w+|none of its members)"
-    rb"|its choice is optional, and no member is chosen|its dependencies are n|nothing gives it a value))",
+    rb"|its choice is optional, and no member is chosen|its dependencies are n|nothing gives it a value))"
+    rb"(?:: m is y without MODULES)?",
     re.DOTALL,
 )
 
 # A finding: its place, or the name of a variable; and its words.
 PLACED = re.compile(rb"(.+?):(\d+): (.*)", re.DOTALL)
 COUNT_OF_FINDINGS = re.compile(
-    rb"(no findings|1 finding|\d+ findings)(?:, (?:1 undefined name \(--undefined lists it\)"
-    rb"|\d+ undefined names \(--undefined lists them\)))?"
+    rb"(no findings|1 finding|\d+ findings)(?: in config, (none|\d+) in the tree)?"
+    rb"(?:, (?:1 undefined name \(--undefined lists it\)|\d+ undefined names \(--undefined lists them\)))?"
 )
 UNUSABLE = (
     rb"the line is not UTF-8|a mark of a conflict between two versions|not a line of a \.config"
@@ -71,11 +72,15 @@ UNUSABLE = (
 FINDING = re.compile(
     rb"(?:\w+: )?(?:undefined: .+ \((?:always n|a text)\)(?:; did you mean \w+\?)?"
     rb"|undefined: (?:select|imply) .+ has no effect(?:; did you mean \w+\?)?"
-    rb"|(?:select|imply) \w+ has no effect: \w+ is a member of a choice"
+    rb"|(?:select|imply) \w+ has no effect: \w+ is a member of a choice|defines no symbol: is it a \.config\?"
+    rb"|.+ is an? (?:string|int|hex), which is always n as a condition(?:; did you mean \w+\?)?"
+    rb"|a comment, which sets nothing; write # .* is not set|`\\.` is read as `.`; write `\\\\` for a backslash"
     rb"|default .* of a (?:bool|tristate) is n(?:; write [nmy])?|default .* is outside the range .*"
     rb"|range .*: its low bound is above its high bound|default .* is never used: the one of .+ has no condition"
     rb"|selected by \w+ \(" + AT + rb"\), while .+ is [nm]|.* is outside the range .*; its value is .*"
-    rb"|.* has no effect: .+|.*takes the place of .+|[A-Za-z0-9_-]+: not given, and no line defines it"
+    rb"|.* has no effect: .+|[nmy] gives [nmy]: .+|.*takes the place of .+"
+    rb"|[A-Za-z0-9_-]+: not given, and no line defines it|a tristate is never m: no line defines MODULES"
+    rb"|always n: it has no prompt and no default, and no line selects or implies it|.+ is sourced in " + AT + rb", too"
     rb"|" + UNUSABLE + rb")",
     re.DOTALL,
 )
@@ -83,15 +88,12 @@ UNUSED_VARIABLE = re.compile(rb"[A-Za-z0-9_][A-Za-z0-9_-]*: given, and used nowh
 
 # The lines of `merge`.
 COUNTS = re.compile(
-    rb"(\d+) asked: (\d+) got, (\d+) got another value, (\d+) unusable, (\d+) replaced; (\d+) lines? of (.*) lost"
+    rb"(\d+) asked: (\d+) got, (\d+) got another value, (\d+) unusable, (\d+) replaced"
+    rb"(?:; (\d+) lines? of (.*) lost)?"
 )
 REPLACED = re.compile(rb"\w+: .* takes the place of .* \(" + AT + rb"\)", re.DOTALL)
 WITHOUT_EFFECT = re.compile(rb"\w+: asked .*, got .*: .+", re.DOTALL)
-UNUSABLE_IN_MERGE = re.compile(
-    rb"no line of a \.config|\w*: (?:no symbol has this name|a string without a quote at its end"
-    rb"|a string without quotes|`.*` is no value of an? " + KINDS + rb")",
-    re.DOTALL,
-)
+UNUSABLE_IN_MERGE = re.compile(rb"(?:\w+: )?(?:" + UNUSABLE + rb")", re.DOTALL)
 LOST = re.compile(rb"\w+: was .*, is .*: .+", re.DOTALL)
 
 # The fields of `menu` by the kind of the object: those that it has to have, and those that it may.
@@ -195,16 +197,21 @@ def check_problems(run: Run) -> Iterator[str]:
     if not count:
         yield f"a last line of the findings that has no known form: {last!r}"
         return
-    wanted = {0: b"no findings", 1: b"1 finding"}.get(len(findings), b"%d findings" % len(findings))
-    if count[1] != wanted:
-        yield f"{len(findings)} findings, and a last line {last!r}"
-    if run.status != (1 if findings and b"--strict" in run.options else 0):
+    of_config = sum(line.startswith(b"config:") for line in findings) if run.config is not None else 0
+    in_tree = len(findings) - of_config
+    first = of_config if count[2] else in_tree
+    if count[1] != {0: b"no findings", 1: b"1 finding"}.get(first, b"%d findings" % first):
+        yield f"{first} findings, and a last line {last!r}"
+    if count[2] and count[2] != (b"%d" % in_tree if in_tree else b"none") or of_config and not count[2]:
+        yield f"{in_tree} findings in the tree, and a last line {last!r}"
+    judged = of_config if run.config is not None and b"--tree" not in run.options else len(findings)
+    if run.status != (1 if judged and b"--strict" in run.options else 0):
         yield f"status {run.status} with {len(findings)} findings"
     yield from finding_problems(run, findings)
 
 
 def finding_problems(run: Run, findings: List[bytes]) -> Iterator[str]:
-    """What is wrong with findings: first come those of the Kconfig, then those of CONFIG, then those of variables."""
+    """What is wrong with findings: first come those of CONFIG, then those of the Kconfig, then those of variables."""
     if len(set(findings)) != len(findings):
         yield "a finding that is there twice"
     ranks: List[Tuple[int, int]] = []
@@ -214,7 +221,7 @@ def finding_problems(run: Run, findings: List[bytes]) -> Iterator[str]:
             ranks.append((2, 0))
         elif placed and FINDING.fullmatch(placed[3]):
             is_config = placed[1] == b"config" and run.config is not None
-            ranks.append((1, int(placed[2])) if is_config else (0, 0))
+            ranks.append((0, int(placed[2])) if is_config else (1, 0))
             yield from line_problems(run, placed[1], int(placed[2]))
         else:
             yield f"a finding that has no known form: {line!r}"
@@ -249,7 +256,7 @@ def merge_problems(run: Run) -> Iterator[str]:
     *lines, last = (line for line in lines_of(run.errors) if not EXCHANGED.fullmatch(line))
     counts = COUNTS.fullmatch(last)
     assert counts, "a report has counts"
-    asked, got, other, unusable, replaced, lost = (int(counts[at]) for at in range(1, 7))
+    asked, got, other, unusable, replaced, lost = (int(counts[at] or 0) for at in range(1, 7))
     if asked != got + other + unusable + replaced:
         yield f"numbers that do not add up: {last!r}"
     if any(b"\n" in word for word in run.words):

@@ -113,12 +113,12 @@ WHYS: List[Tuple[int, bytes, bytes, bool]] = [
     (0, WHY + b"\n" + WHY.replace(b"A", b"B").replace(b"by default", b"by chance"), b"", True),
     (0, WHY + b"\n" + WHY.replace(b"A", b"B").replace(b"visible n", b"visible x"), b"", True),
     (0, WHY + b"\n" + WHY.replace(b"A", b"B").replace(b"  Kconfig", b"Kconfig"), b"", True),
-    (1, b"", b"kconf: A: no symbol has this name\nkconf: CONFIG_B: no symbol has this name\n", False),
-    (1, b"", b"kconf: config:1: warning 4: no line\nkconf: CONFIG_B: no symbol has this name\n", False),
-    (1, b"", b"kconf: CONFIG_B: no symbol has this name\nkconf: A: no symbol has this name\n", True),
-    (1, b"", b"kconf: C: no symbol has this name\n", True),
-    (0, b"", b"kconf: A: no symbol has this name\n", True),
-    (1, WHY, b"kconf: CONFIG_B: no symbol has this name\n", True),
+    (1, b"", b"kconf: A: no such symbol\nkconf: CONFIG_B: no such symbol; did you mean BB?\n", False),
+    (1, b"", b"kconf: config:1: warning 4: no line\nkconf: CONFIG_B: no such symbol\n", False),
+    (1, b"", b"kconf: CONFIG_B: no such symbol\nkconf: A: no such symbol\n", True),
+    (1, b"", b"kconf: C: no such symbol\n", True),
+    (0, b"", b"kconf: A: no such symbol\n", True),
+    (1, WHY, b"kconf: CONFIG_B: no such symbol\n", True),
     (1, b"", b"kconf: Kconfig:1: K04: no word\n", False),
     (1, b"", b"kconf: Kconfig:1: K04\n", True),
 ]
@@ -126,22 +126,32 @@ WHYS: List[Tuple[int, bytes, bytes, bool]] = [
 UNDEFINED = b"Kconfig:2: A: undefined: NETWROK (always n); did you mean NETWORK?\n"
 
 # A run of `check` with a CONFIG of two lines, its options, and whether something is wrong with it.
+IN_TREE = b"no findings in config, 1 in the tree\n"
+NO_EFFECT = b"config:2: A: y has no effect: needs B, which is n\n"
 CHECKS: List[Tuple[int, bytes, bytes, Tuple[bytes, ...], bool]] = [
     (0, b"no findings\n", b"", (), False),
     (0, b"no findings, 2 undefined names (--undefined lists them)\n", b"", (), False),
-    (0, UNDEFINED + b"1 finding\n", b"", (), False),
-    (1, UNDEFINED + b"1 finding\n", b"", (b"--strict",), False),
-    (0, UNDEFINED + b"1 finding\n", b"", (b"--strict",), True),
+    (0, UNDEFINED + IN_TREE, b"", (), False),
+    (0, UNDEFINED + IN_TREE, b"", (b"--strict",), False),
+    (1, UNDEFINED + IN_TREE, b"", (b"--strict", b"--tree"), False),
+    (1, UNDEFINED + IN_TREE, b"", (b"--strict",), True),
     (1, b"no findings\n", b"", (b"--strict",), True),
-    (1, UNDEFINED + b"1 finding\n", b"", (), True),
+    (1, UNDEFINED + IN_TREE, b"", (), True),
+    (0, UNDEFINED + b"1 finding\n", b"", (), False),
     (0, UNDEFINED + b"2 findings\n", b"", (), True),
-    (0, UNDEFINED + UNDEFINED + b"2 findings\n", b"", (), True),
-    (0, UNDEFINED.replace(b"always n", b"a word") + b"1 finding\n", b"", (), True),
-    (0, UNDEFINED.replace(b":2:", b":9:") + b"1 finding\n", b"", (), True),
-    (0, UNDEFINED.replace(b"Kconfig", b"Kconf") + b"1 finding\n", b"", (), True),
-    (0, b"config:2: A: y has no effect: needs B=n\nX: given, and used nowhere\n2 findings\n", b"", (), False),
-    (0, b"X: given, and used nowhere\nconfig:2: A: y has no effect: needs B=n\n2 findings\n", b"", (), True),
-    (0, b"config:2: A: y has no effect: needs B=n\n" + UNDEFINED + b"2 findings\n", b"", (), True),
+    (0, UNDEFINED + b"no findings in config, 2 in the tree\n", b"", (), True),
+    (0, UNDEFINED + UNDEFINED + b"no findings in config, 2 in the tree\n", b"", (), True),
+    (0, UNDEFINED.replace(b"always n", b"a word") + IN_TREE, b"", (), True),
+    (0, UNDEFINED.replace(b":2:", b":9:") + IN_TREE, b"", (), True),
+    (0, UNDEFINED.replace(b"Kconfig", b"Kconf") + IN_TREE, b"", (), True),
+    (0, NO_EFFECT + b"1 finding in config, none in the tree\n", b"", (), False),
+    (1, NO_EFFECT + b"1 finding in config, none in the tree\n", b"", (b"--strict",), False),
+    (0, NO_EFFECT + b"1 finding in config, none in the tree\n", b"", (b"--strict",), True),
+    (0, NO_EFFECT.replace(b"has no effect", b"gives m") + b"1 finding in config, none in the tree\n", b"", (), False),
+    (0, NO_EFFECT + b"X: given, and used nowhere\n1 finding in config, 1 in the tree\n", b"", (), False),
+    (0, b"X: given, and used nowhere\n" + NO_EFFECT + b"1 finding in config, 1 in the tree\n", b"", (), True),
+    (0, NO_EFFECT + UNDEFINED + b"1 finding in config, 1 in the tree\n", b"", (), False),
+    (0, UNDEFINED + NO_EFFECT + b"1 finding in config, 1 in the tree\n", b"", (), True),
     (0, UNDEFINED, b"", (), True),
     (1, b"", b"kconf: Kconfig:1: K04: no word\nkconf: Kconfig:2: K06: no owner\n", (), False),
     (1, b"", b"kconf: K14 A: two\nkconf: Kconfig:2: K17: no member\n", (), False),
@@ -153,7 +163,7 @@ CHECKS: List[Tuple[int, bytes, bytes, Tuple[bytes, ...], bool]] = [
 ]
 
 ASKED = b"%d asked: %d got, %d got another value, %d unusable, %d replaced; %d lines of config lost\n"
-OTHER = b"fragment1:1: A: asked y, got n: needs B=n\n"
+OTHER = b"fragment1:1: A: asked y, got n: needs B, which is n\n"
 
 # The report of `merge` on a CONFIG and a fragment of two lines, its status and options, and whether something is wrong.
 MERGES: List[Tuple[int, bytes, Tuple[bytes, ...], bool]] = [
@@ -167,11 +177,11 @@ MERGES: List[Tuple[int, bytes, Tuple[bytes, ...], bool]] = [
     (0, OTHER.replace(b":1:", b":4:") + ASKED % (2, 1, 1, 0, 0, 0), (), True),
     (0, OTHER.replace(b"fragment1", b"fragment2") + ASKED % (2, 1, 1, 0, 0, 0), (), True),
     (0, OTHER.replace(b"asked", b"wanted") + ASKED % (2, 1, 1, 0, 0, 0), (), True),
-    (0, b"fragment1:1: no line of a .config\n" + ASKED % (2, 1, 0, 1, 0, 0), (), False),
+    (0, b"fragment1:1: not a line of a .config\n" + ASKED % (2, 1, 0, 1, 0, 0), (), False),
     (0, b"fragment1:2: A: y takes the place of n (fragment1:1)\n" + ASKED % (2, 1, 0, 0, 1, 0), (), False),
     (0, b"fragment1:2: A: y takes the place of n (fragment1:1)\n" + ASKED % (2, 2, 0, 0, 0, 0), (), True),
-    (0, b"config:2: A: was y, is n: needs B=n\n" + ASKED % (2, 2, 0, 0, 0, 1), (), False),
-    (0, b"config:2: A: was y, is n: needs B=n\n" + OTHER + ASKED % (2, 1, 1, 0, 0, 1), (), True),
+    (0, b"config:2: A: was y, is n: needs B, which is n\n" + ASKED % (2, 2, 0, 0, 0, 1), (), False),
+    (0, b"config:2: A: was y, is n: needs B, which is n\n" + OTHER + ASKED % (2, 1, 1, 0, 0, 1), (), True),
     (1, b"kconf: Kconfig:1: K04: no word\n", (), False),
     (1, b"kconf: Kconfig:1: K04\n", (), True),
     (0, b"kconf: Kconfig: defines no symbol: is it a .config?\n" + ASKED % (2, 2, 0, 0, 0, 0), (), False),
