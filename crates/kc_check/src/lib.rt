@@ -7,6 +7,7 @@ mod earlier_effects;
 mod entry_faults;
 mod finding;
 mod inputs;
+mod long_words;
 mod meant_lines;
 mod merge_lines;
 mod merging;

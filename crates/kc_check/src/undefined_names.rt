@@ -2,6 +2,7 @@
 
 use crate::finding::Finding;
 use crate::inputs::Extent;
+use crate::long_words::differ_in_long_word;
 use crate::selections::owner_name;
 use crate::tokens::{is_compared, lone_value, names_start, word_of};
 use crate::walk::{Part, Placed, Walk};
@@ -228,8 +229,8 @@ impl<'i, 't> UndefinedNames<'i, 't> {
         is_always || meant.is_some() || self.bare(doubtful.name).is_some()
     }
 
-    /// What a name in a line may have been meant as: the name without the prefix, or one that it is near, if it is in one
-    /// place; but not the symbol that the line belongs to.
+    /// What a name in a line may have been meant as: the name without the prefix, or one that it is near and differs from
+    /// in a long word, if it is in one place; but not the symbol that the line belongs to.
     fn meant(&self, doubtful: &Doubtful<'i>, owner: Option<SymId>) -> Option<&'t str> {
         let known = self.known.get(doubtful.name)?;
         let bare = self.bare(doubtful.name);
@@ -240,7 +241,9 @@ impl<'i, 't> UndefinedNames<'i, 't> {
             return None;
         }
         let excepted = owner.map(|symbol| self.tree.name(symbol));
-        self.near.nearest(bare.unwrap_or(doubtful.name), excepted)
+        let name = bare.unwrap_or(doubtful.name);
+        let near = self.near.nearest(name, excepted)?;
+        differ_in_long_word(name, near).then_some(near)
     }
 
     /// A name without the prefix that it has.
