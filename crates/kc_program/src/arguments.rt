@@ -315,7 +315,9 @@ fn undefined_option<'a>(alloc: Global) -> Arg<'a> {
     Arg::new(alloc, "all")
         .long("undefined")
         .action(ArgAction::SetTrue)
-        .help("Lists all undefined names, not only those that are likely mistakes")
+        .help(
+            "Lists all undefined names, not only those that are likely mistakes, and the symbols that nothing sets",
+        )
 }
 
 fn strict_option<'a>(alloc: Global, help: &'a str) -> Arg<'a> {
