@@ -8,7 +8,7 @@ use crate::opening::{ConfigFile, read_config_file};
 use crate::targets::Target;
 use std::alloc::Global;
 
-/// The fragments of a command line, each of which has to be short enough for a `.config`.
+/// The fragments of a command line. Each has to be short enough for a `.config`.
 pub(crate) fn read_fragments<F: Folder>(
     alloc: Global,
     arguments: &Arguments<'_>,
