@@ -15,11 +15,13 @@ pub mod ItemLaws
 pub mod ItemLines
 pub mod Joining
 pub mod LeadingItems
+pub mod LentLists
 pub mod Lexing
 pub mod LineCounts
 pub mod LineExamples
 pub mod LineRuns
 pub mod MeaningLaws
+pub mod MoreLines
 pub mod Names
 pub mod Nesting
 pub mod Pairs

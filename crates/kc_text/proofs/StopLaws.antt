@@ -1,6 +1,5 @@
 -- The places where the reading of a line stops, and that of a variable's text.
-use Rattle.std.proofs.Common.{◌≡◌, ℕ, ◌+◌, ◌<◌, ◌≤◌, Bool, true, false, true≢false, cond, ◌||◌, List, [], ◌∷◌, ◌++◌, Option, Some, None, length, take, drop, slice_index, subst, refl, sym, ap, ◌∙◌, append_assoc, take-append-drop, length-append, length-drop, arith}
-use Rattle.std.specs.List.{prefix_len}
+use Rattle.std.proofs.Common.{◌≡◌, ℕ, ◌+◌, ◌<◌, true, false, true≢false, cond, ◌||◌, List, [], ◌∷◌, ◌++◌, Option, Some, None, length, take, drop, slice_index, subst, refl, sym, ap, ◌∙◌, append_assoc, take-append-drop, length-append, length-drop, arith}
 use Rattle.std.proofs.lemmas.Bool.{false≢true}
 use Rattle.std.proofs.lemmas.List.{append-nil}
 use Rattle.std.proofs.lemmas.List.Folds.{list_any-append}
@@ -12,12 +11,12 @@ use Rattle.kc_text.specs.declared.stops.StopKind.{StopKind}
 use Rattle.kc_text.specs.declared.stops.StopKind.TheVariants.{UnclosedQuote, BadReference}
 use Rattle.kc_text.specs.declared.stops.Stop.{Stop}
 use Rattle.kc_text.specs.Bytes.{is_blank}
-use Rattle.kc_text.specs.References.{Piece, malformed, reference_after_dollar, value_pieces}
+use Rattle.kc_text.specs.References.{Piece, malformed, value_pieces}
 use Rattle.kc_text.specs.Lexing.{Raw, word, quoted, operator, unclosed, Mode, between, in_word, in_quotes, on, is_quote, begins_word, sign_step, lexed, raw_tokens}
 use Rattle.kc_text.specs.Scanning.{bytes_of, piece_of}
 use Rattle.kc_text.specs.Shown.{Shows}
 use Rattle.kc_text.specs.Stopping.{BadDollar, Leaves, Passes, StopsWithin}
-use Rattle.kc_text.specs.Stops.{is_malformed, is_bad, stop_of, first_stop, shown_at, EndsWith, Stops, StopsInValue}
+use Rattle.kc_text.specs.Stops.{is_malformed, is_bad, stop_of, first_stop, EndsWith, Stops, StopsInValue}
 use Rattle.kc_text.proofs.Lexing.{word_begins, word_ends, lexed-word_malformed, quotes_end, lexed-quotes_malformed, raw_tokens-operator, first_is}
 use Rattle.kc_text.proofs.References.{after_value_dollar}
 use Rattle.kc_text.proofs.ShownLaws.{only_shown, quote_not_blank, quote_opens, shown}

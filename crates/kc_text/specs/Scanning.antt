@@ -10,6 +10,7 @@ use Rattle.kc_text.specs.declared.fault.TextFault.TheVariants.{NoMemory}
 use Rattle.kc_text.specs.declared.reading.Reader.{Reader}
 use Rattle.kc_text.specs.declared.state.State.{State}
 use Rattle.kc_text.specs.declared.place.Place.{Place as CodePlace}
+use Rattle.kc_text.specs.FileList.{File}
 use Rattle.kc_text.specs.Faults.{IsFaultAt}
 pub use Rattle.kc_text.specs.ItemContent.{item_of, joined_text}
 use Rattle.kc_text.specs.Reading.{ReadState, Place, Placing, placed}
@@ -61,9 +62,9 @@ place_of p = record { path = p.file.now.path; run = p.file.now.run; number = p.n
 abbrev pub outside_of : Reader → Environment
 outside_of reader = texts_in reader.vars.now
 
--- how a reader puts files in place where those of the paths `around` are open, of 64 at most
-abbrev pub placing : Reader → List (Bor (List ℕ)) → Placing
-placing reader around = placed reader.sources.now (outside_of reader) (64 - length around) (names_of around)
+-- how a reader puts these files in place where those of the paths `around` are open, of 64 at most
+abbrev pub placing : List File → Reader → List (Bor (List ℕ)) → Placing
+placing files reader around = placed files (outside_of reader) (64 - length around) (names_of around)
 
 -- what could not be read at a place, as its fault
 abbrev pub IsPlacedFault : TextFault → Place → LineFault → Type 0

@@ -125,3 +125,57 @@ impl<T: Drop> From<AllocFailed<T>> for TextFault {
         TextFault::NoMemory
     }
 }
+
+/// Why the text of a file that is asked for is not there.
+#[derive(Drop)]
+pub enum FileFault<E> {
+    /// There is no room for it among the files that were read, or memory was refused.
+    Files(TextFault),
+    /// The folder does not give it.
+    Folder(E),
+}
+
+/// Why files that are read as they are asked for have no logical lines.
+#[derive(Drop)]
+pub enum LinesFault<E> {
+    /// The first fault of the lines.
+    Text(TextFault),
+    /// The text of a file that is wanted is not there, with the fault that it is missing: K08, with its path, at the
+    /// line that wants it. `NoMemory` stands for that fault where memory was refused for it.
+    Stopped(FileFault<E>, TextFault),
+}
+
+impl<E: Drop> From<TextFault> for LinesFault<E> {
+    ghost use Rattle.std.specs.Prelude.{◌≡◌};
+    ghost use Rattle.kc_text.specs.declared.fault.LinesFault.TheVariants.{Text};
+
+    ghost from_gives = { λ fault wide. wide ≡ Text fault };
+
+    fn from(fault: TextFault) -> LinesFault<E> {
+        LinesFault::Text(fault)
+    }
+}
+
+impl<E: Drop> From<AllocError> for LinesFault<E> {
+    ghost use Rattle.std.specs.Prelude.{◌≡◌};
+    ghost use Rattle.kc_text.specs.declared.fault.LinesFault.TheVariants.{Text};
+    ghost use Rattle.kc_text.specs.declared.fault.TextFault.TheVariants.{NoMemory};
+
+    ghost from_gives = { λ _ fault. fault ≡ Text NoMemory };
+
+    fn from(_refused: AllocError) -> LinesFault<E> {
+        LinesFault::Text(TextFault::NoMemory)
+    }
+}
+
+impl<E: Drop, T: Drop> From<AllocFailed<T>> for LinesFault<E> {
+    ghost use Rattle.std.specs.Prelude.{◌≡◌};
+    ghost use Rattle.kc_text.specs.declared.fault.LinesFault.TheVariants.{Text};
+    ghost use Rattle.kc_text.specs.declared.fault.TextFault.TheVariants.{NoMemory};
+
+    ghost from_gives = { λ _ fault. fault ≡ Text NoMemory };
+
+    fn from(_refused: AllocFailed<T>) -> LinesFault<E> {
+        LinesFault::Text(TextFault::NoMemory)
+    }
+}

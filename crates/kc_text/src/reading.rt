@@ -1,7 +1,10 @@
 //! Files that are read line by line, each `source` line with the file that it names in its place.
 
 ghost use Rattle.std.specs.Prelude.{◌≡◌, ◌≤◌, length, false, true, IfOk, IfSome, OnOk, MatchOption, None, Some, Ok};
-ghost use Rattle.kc_text.specs.Faults.{GivesAfter, GivesBy};
+ghost use Rattle.kc_text.specs.Faults.{GivesAfter, GivesBy, IsFaultAt};
+ghost use Rattle.kc_text.specs.declared.fault.TextProblem.TheVariants.{MissingSource};
+ghost use Rattle.kc_text.specs.Libraries.{StaysGiven, known_files};
+ghost use Rattle.kc_text.specs.MoreFiles.{Extends, GivesOver, GivesOverBy};
 ghost use Rattle.kc_text.specs.Definitions.{defined};
 ghost use Rattle.kc_text.specs.Expansion.{is_among, names_in, then_on};
 ghost use Rattle.kc_text.specs.Help.{is_help};
@@ -14,12 +17,14 @@ ghost use Rattle.kc_text.specs.Scanning.{item_of, joined_text, names_of, outside
 use crate::defining::define;
 use crate::definition::{Definition, definition_of};
 use crate::expansion::Scope;
-use crate::fault::{TextFault, TextProblem};
+use crate::fault::{LinesFault, TextFault, TextProblem};
+use crate::folder::Folder;
 use crate::front::{Front, Start};
 use crate::items::{Item, Joined, ends_in_backslash, first_item};
+use crate::library::Texts;
 use crate::line::{Line, LineTokens, PlacedFile, Token};
 use crate::place::Place;
-use crate::sources::{MAX_BYTES, Sources};
+use crate::sources::MAX_BYTES;
 use crate::state::State;
 use crate::text::TextRef;
 use crate::tokens::{Begun, begin, tokens};
@@ -43,13 +48,12 @@ pub const MOST_LINES: usize = MAX_BYTES + MAX_PLACED + 1;
 /// The most files that are open at once.
 const MAX_OPEN: usize = 64;
 
-/// What is read from.
+/// What files are read with.
 #[derive(Clone, Copy)]
 pub(crate) struct Reader<'a> {
     pub(crate) alloc: Global,
     /// What keeps the tokens.
     pub(crate) arena: &'a Bump,
-    pub(crate) sources: &'a Sources,
     pub(crate) vars: &'a Vars,
 }
 
@@ -92,15 +96,18 @@ fn is_silent(front: Front<'_>) -> bool
 /// Reads a file, whose end stands behind its lines. The paths `around` are those of the files that are open, this
 /// one last.
 #[cycle(read)]
-fn read_file<'a>(
+fn read_file<'a, F: Folder>(
     reader: Reader<'a>,
+    texts: &mut Texts<'a, F>,
     around: &mut Vec<&'a str>,
     file: &'a PlacedFile<'a>,
     text: &'a str,
     state: &mut State<'a>,
-) -> Result<(), TextFault>
+) -> Result<(), LinesFault<F::Fault>>
     requires { length around.old.items ≤ 64 }
-    ensures reads { GivesAfter result (state_of state.new) (file_read (outside_of reader.entry) (placing reader.entry around.old.items) file.now.path file.now.run text.now (state_of state.old)) }
+    ensures reads { GivesOver result (state_of state.new) (known_files texts.new) (λ files. file_read (outside_of reader.entry) (placing files reader.entry around.old.items) file.now.path file.now.run text.now (state_of state.old)) }
+    ensures kept { Extends (known_files texts.old) (known_files texts.new) }
+    ensures given { StaysGiven texts.old texts.new }
     ensures around { OnOk result (around.new.items ≡ around.old.items) }
 {
     let mut rest = text;
@@ -114,7 +121,7 @@ fn read_file<'a>(
             let item = first_item(reader.alloc, rest, front)?;
             let taken = item.more + 1;
             let behind = item.rest;
-            read_item(reader, around, Place { file, number }, item, state)?;
+            read_item(reader, texts, around, Place { file, number }, item, state)?;
             number += taken;
             rest = behind;
         }
@@ -125,16 +132,19 @@ fn read_file<'a>(
 
 /// Reads an item at a place.
 #[cycle(read)]
-fn read_item<'a>(
+fn read_item<'a, F: Folder>(
     reader: Reader<'a>,
+    texts: &mut Texts<'a, F>,
     around: &mut Vec<&'a str>,
     place: Place<'a>,
     item: Item<'a>,
     state: &mut State<'a>,
-) -> Result<(), TextFault>
+) -> Result<(), LinesFault<F::Fault>>
     requires open { length around.old.items ≤ 64 }
     requires help { IfSome item.help (λ _. is_help (joined_text item.text) ≡ true) }
-    ensures reads { GivesAfter result (state_of state.new) (item_read (outside_of reader.entry) (placing reader.entry around.old.items) (place_of place.entry) (item_of item.entry) (state_of state.old)) }
+    ensures reads { GivesOver result (state_of state.new) (known_files texts.new) (λ files. item_read (outside_of reader.entry) (placing files reader.entry around.old.items) (place_of place.entry) (item_of item.entry) (state_of state.old)) }
+    ensures kept { Extends (known_files texts.old) (known_files texts.new) }
+    ensures given { StaysGiven texts.old texts.new }
     ensures around { OnOk result (around.new.items ≡ around.old.items) }
 {
     let Item {
@@ -144,7 +154,7 @@ fn read_item<'a>(
         rest: _,
     } = item;
     if text.as_str().len() > MAX_LINE_BYTES {
-        return Err(place.problem(reader.alloc, TextProblem::Limit));
+        return Err(LinesFault::Text(place.problem(reader.alloc, TextProblem::Limit)));
     }
     if help.is_some() {
         let tokens = state.help.of(text.as_str());
@@ -154,12 +164,12 @@ fn read_item<'a>(
     let begun = begin(&mut state.gathered, line)?;
     if begun.may_define {
         if let Some(definition) = definition_of(line) {
-            return read_definition(reader, place, &definition, state);
+            return Ok(read_definition(reader, place, &definition, state)?);
         }
     }
     let tokens = read_tokens(reader, place, begun, state)?;
     match source_path(tokens.as_slice()) {
-        Some(wanted) => put_in_place(reader, around, place, wanted, state),
+        Some(wanted) => put_in_place(reader, texts, around, place, wanted, state),
         None => Ok(state.push_statement(reader.arena, place, tokens, None)?),
     }
 }
@@ -225,58 +235,87 @@ fn placed_file<'a>(
 
 /// Reads the file of a path in place of a `source` line. The paths `around` are those of the files that are open.
 #[cycle(read)]
-fn put_in_place<'a>(
+fn put_in_place<'a, F: Folder>(
     reader: Reader<'a>,
+    texts: &mut Texts<'a, F>,
     around: &mut Vec<&'a str>,
     place: Place<'a>,
     wanted: &str,
     state: &mut State<'a>,
-) -> Result<(), TextFault>
+) -> Result<(), LinesFault<F::Fault>>
     requires { length around.old.items ≤ 64 }
-    ensures reads { GivesAfter result (state_of state.new) (placing reader.entry around.old.items (place_of place.entry) wanted.now (state_of state.old)) }
+    ensures reads { GivesOver result (state_of state.new) (known_files texts.new) (λ files. placing files reader.entry around.old.items (place_of place.entry) wanted.now (state_of state.old)) }
+    ensures kept { Extends (known_files texts.old) (known_files texts.new) }
+    ensures given { StaysGiven texts.old texts.new }
     ensures around { OnOk result (around.new.items ≡ around.old.items) }
 {
     if is_among(wanted, around.as_slice()) {
-        return Err(place.problem(reader.alloc, TextProblem::RecursiveSource));
+        let fault = place.problem(reader.alloc, TextProblem::RecursiveSource);
+        return Err(LinesFault::Text(fault));
     }
     if around.len() >= MAX_OPEN || state.followed >= MAX_FOLLOWED {
-        return Err(place.problem(reader.alloc, TextProblem::Limit));
+        let fault = place.problem(reader.alloc, TextProblem::Limit);
+        return Err(LinesFault::Text(fault));
     }
-    let Some((path, text)) = reader.sources.file(wanted) else {
-        return Err(place.missing_source(reader.alloc, wanted));
+    let (path, text) = match texts.text(wanted) {
+        Ok(Some(file)) => file,
+        Ok(None) => {
+            let missing = place.missing_source(reader.alloc, wanted);
+            return Err(LinesFault::Text(missing));
+        }
+        Err(why) => {
+            let missing = place.missing_source(reader.alloc, wanted);
+            return Err(LinesFault::Stopped(why, missing));
+        }
     };
     if text.len() > MAX_PLACED || state.placed > MAX_PLACED - text.len() {
-        return Err(place.problem(reader.alloc, TextProblem::Limit));
+        let fault = place.problem(reader.alloc, TextProblem::Limit);
+        return Err(LinesFault::Text(fault));
     }
     state.followed += 1;
     state.placed += text.len();
     let run = state.followed;
     around.push(path)?;
     let file = placed_file(reader.arena, path, run)?;
-    read_file(reader, around, file, text, state)?;
+    read_file(reader, texts, around, file, text, state)?;
     around.pop();
     Ok(())
 }
 
-/// The logical lines of the top file and all that it sources.
-pub(crate) fn read_top<'a>(reader: Reader<'a>, top: &str) -> Result<Vec<Line<'a>>, TextFault>
-    ensures few { IfOk result (λ lines. length lines.items ≤ MOST_LINES) }
-    ensures gives { GivesBy (λ v. v.items) result (logical_lines_of reader.entry.sources.now (outside_of reader.entry) top.now) }
+/// The problem that a top file is not among the sources.
+fn missing_top(alloc: Global, top: &str) -> TextFault
+    ensures { IsFaultAt result (MissingSource top.now) top.now 0 }
 {
-    let Some((path, text)) = reader.sources.file(top) else {
-        let nowhere = Place {
-            file: &PlacedFile {
-                path: TextRef::new(top),
-                run: 0,
-            },
-            number: 0,
-        };
-        return Err(nowhere.missing_source(reader.alloc, top));
+    let nowhere = Place {
+        file: &PlacedFile {
+            path: TextRef::new(top),
+            run: 0,
+        },
+        number: 0,
+    };
+    nowhere.missing_source(alloc, top)
+}
+
+/// The logical lines of the top file and all that it sources.
+pub(crate) fn read_top<'a, F: Folder>(
+    reader: Reader<'a>,
+    texts: &mut Texts<'a, F>,
+    top: &str,
+) -> Result<Vec<Line<'a>>, LinesFault<F::Fault>>
+    ensures few { IfOk result (λ lines. length lines.items ≤ MOST_LINES) }
+    ensures gives { GivesOverBy (λ v. v.items) result (known_files texts.new) (λ files. logical_lines_of files (outside_of reader.entry) top.now) }
+    ensures kept { Extends (known_files texts.old) (known_files texts.new) }
+    ensures given { StaysGiven texts.old texts.new }
+{
+    let (path, text) = match texts.text(top) {
+        Ok(Some(file)) => file,
+        Ok(None) => return Err(LinesFault::Text(missing_top(reader.alloc, top))),
+        Err(why) => return Err(LinesFault::Stopped(why, missing_top(reader.alloc, top))),
     };
     let mut state = State::with_room(reader.alloc, reader.arena, text)?;
     let mut around = Vec::new(reader.alloc);
     around.push(path)?;
     let file = placed_file(reader.arena, path, 0)?;
-    read_file(reader, &mut around, file, text, &mut state)?;
+    read_file(reader, texts, &mut around, file, text, &mut state)?;
     Ok(state.lines)
 }

@@ -16,7 +16,7 @@ use std::marker::Model;
 pub(crate) const MAX_BYTES: usize = 16_777_216;
 
 /// The most files.
-const MAX_FILES: usize = 4_096;
+pub(crate) const MAX_FILES: usize = 4_096;
 
 /// The texts of the files, by their paths. Contracts see the list of the files in the order of their paths'
 /// bytes, each as the bytes of its path and of its text.

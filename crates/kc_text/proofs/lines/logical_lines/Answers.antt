@@ -4,10 +4,10 @@ use Rattle.kc_text.proofs.ShownLaws.{value_law}
 use Rattle.kc_text.proofs.lines.logical_lines.Goals as goal
 
 pub returns-clause-are : goal.returns-clause-are
-returns-clause-are c = given_lines c.args.sources.now (texts_in c.args.vars.now) c.args.top.now (λ v. v.items) c.read_top.result c.read_top.ensures.gives
+returns-clause-are c = given_lines c.args.sources.now (texts_in c.args.vars.now) c.args.top.now (λ v. v.items) c.given_lines.result c.given_lines.ensures.gives
 
 pub returns-clause-fault : goal.returns-clause-fault
-returns-clause-fault c = given_fault c.args.sources.now (texts_in c.args.vars.now) c.args.top.now (λ v. v.items) c.read_top.result c.read_top.ensures.gives
+returns-clause-fault c = given_fault c.args.sources.now (texts_in c.args.vars.now) c.args.top.now (λ v. v.items) c.given_lines.result c.given_lines.ensures.gives
 
 pub returns-clause-one : goal.returns-clause-one
 returns-clause-one c = one_reading c.args.sources.now (texts_in c.args.vars.now) c.args.top.now

@@ -1,5 +1,5 @@
 use Rattle.std.proofs.Common.{sym, ◌∙◌, rules}
-use Rattle.kc_text.proofs.StopLaws.{value_to_begin, value_to_end, value_to_more, value_to_stop}
+use Rattle.kc_text.proofs.StopLaws.{value_to_more, value_to_stop}
 use Rattle.kc_text.proofs.stops.stop_in_value.Goals as goal
 
 pub returns-then-is_malformed-clause-stops : goal.returns-then-is_malformed-clause-stops
