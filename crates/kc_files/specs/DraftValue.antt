@@ -41,9 +41,10 @@ abbrev pub with_option : DraftValue → Option Piece → DraftValue
 with_option d None = d
 with_option d (Some p) = with_piece d p
 
-abbrev pub with_pieces : DraftValue → List Piece → DraftValue
-with_pieces d [] = d
-with_pieces d (p ∷ ps) = with_pieces (with_piece d p) ps
+-- the bytes that pieces add
+abbrev pub bytes_of_pieces : Bool → List Piece → List ℕ
+bytes_of_pieces after_end [] = []
+bytes_of_pieces after_end (p ∷ ps) = gap_before after_end p ++ piece_bytes p ++ bytes_of_pieces (is_end p) ps
 
 -- ---- a pass over the entries, which looks at the one before
 -- the entry before opens the menu: directly before the menu's end it leaves nothing inside

@@ -1,22 +1,21 @@
-ghost use Rattle.std.specs.Prelude.{◌≡◌, ◌&&◌, not, filter_map, option_map, IfOk, OnOk};
+//! The text of the `.config`.
+
+ghost use Rattle.std.specs.Prelude.{◌≡◌, ◌&&◌, ⊤, refl, not, IfOk, OnOk};
 ghost use Rattle.std.specs.String.{string_bytes};
-ghost use Rattle.kc_outline.specs.Entries.{IsEntryOf};
 ghost use Rattle.kc_tree.specs.Nodes.{all_nodes};
-ghost use Rattle.kc_outline.specs.TreeValue.{name_of};
 ghost use Rattle.kc_statement.specs.Tristate.{is_no};
 ghost use Rattle.kc_value.specs.Assignment.{Assignment};
 ghost use Rattle.kc_value.specs.Conditions.{menu_condition, comment_condition};
-ghost use Rattle.kc_value.specs.Known.{given};
 ghost use Rattle.kc_value.specs.Solution.{solution, IsOnlySolution};
-ghost use Rattle.kc_tree.specs.Fits.{type_of};
-ghost use Rattle.kc_files.specs.ConfigText.{symbol_line, written_value, title_block, end_line, menu_title, comment_title, line_of_symbol, title_of, end_of, piece_if, piece_of, config_text_of};
-ghost use Rattle.kc_files.specs.DraftValue.{with_option, with_pieces, opens_menu, piece_after, Agrees};
+ghost use Rattle.kc_files.specs.ConfigText.{title_block, end_line, menu_title, comment_title, title_of, end_of, piece_if, config_text_of};
+ghost use Rattle.kc_files.specs.DraftValue.{with_option, opens_menu, bytes_of_pieces, pieces_after, Agrees};
 
 use crate::draft::Draft;
+use crate::entry_text::{EntryText, text_of};
 use crate::prefix::Prefix;
 use crate::symbols::written_value;
 use crate::titles::{comment_title, menu_title};
-use kc_tree::{BlockId, CommentId, Entry, SymId};
+use kc_tree::{BlockId, CommentId, Entry};
 use kc_value::{Known, Resolver, comment_condition, menu_condition, values_of_all};
 use std::alloc::{AllocError, Global};
 
@@ -44,24 +43,6 @@ fn opens_menu(menu: BlockId, entry: Option<Entry>) -> bool
         Some(Entry::Menu(opened)) => opened == menu,
         _ => false,
     }
-}
-
-/// Appends the line of a symbol that has one.
-fn push_symbol(
-    draft: &mut Draft,
-    known: &Known<'_>,
-    prefix: &Prefix,
-    symbol: SymId,
-) -> Result<(), AllocError>
-    ensures { OnOk result (draft.new ≡ with_option draft.old (option_map
-        (λ v. line_of_symbol (symbol_line prefix.now (name_of known.now.tree symbol) (type_of known.now.tree symbol) v))
-        (written_value (given known.now) symbol))) }
-{
-    let tree = known.tree();
-    if let Some(value) = written_value(known, symbol) {
-        draft.push_symbol(prefix, tree.name(symbol), tree.symbol_type(symbol), value)?;
-    }
-    Ok(())
 }
 
 /// Appends the title of a menu that shows.
@@ -106,38 +87,50 @@ fn push_comment(draft: &mut Draft, known: &Known<'_>, comment: CommentId) -> Res
     Ok(())
 }
 
-/// Appends what an entry gives, after the entry before it.
-fn push_entry(
-    draft: &mut Draft,
-    known: &Known<'_>,
-    prefix: &Prefix,
-    before: Option<Entry>,
-    entry: Entry,
-) -> Result<(), AllocError>
-    requires entry { IsEntryOf known.now.tree entry }
-    ensures { OnOk result ((a : Assignment) → Agrees known.now.tree known.now.values a
-        → draft.new ≡ with_option draft.old (piece_after known.now.tree prefix.now a before entry)) }
-{
-    match entry {
-        Entry::Symbol(symbol) => push_symbol(draft, known, prefix, symbol),
-        Entry::Again(_) | Entry::Choice(_) => Ok(()),
-        Entry::Menu(menu) => push_menu(draft, known, menu),
-        Entry::EndMenu(menu) => push_menu_end(draft, known, before, menu),
-        Entry::Comment(comment) => push_comment(draft, known, comment),
-    }
+/// The `.config`, as it is made of the entries of a tree.
+#[derive(Clone, Copy)]
+struct ConfigEntries<'s, 'a> {
+    known: &'s Known<'a>,
+    prefix: &'s Prefix,
 }
 
-/// Appends what the entries of the tree give.
-fn push_entries(draft: &mut Draft, known: &Known<'_>, prefix: &Prefix) -> Result<(), AllocError>
-    ensures { OnOk result ((a : Assignment) → Agrees known.now.tree known.now.values a
-        → draft.new ≡ with_pieces draft.old (filter_map (piece_of known.now.tree prefix.now a) known.now.tree.entries)) }
-{
-    let mut before = None;
-    for entry in known.tree().entries() {
-        push_entry(draft, known, prefix, before, *entry)?;
-        before = Some(*entry);
+impl EntryText for ConfigEntries<'_, '_> {
+    ghost tree_of = { λ c. c.known.now.tree };
+
+    ghost is_ready = { λ c. ⊤ };
+
+    ghost is_over = { λ c a. Agrees c.known.now.tree c.known.now.values a };
+
+    ghost rest = { λ c a d before es. bytes_of_pieces d.after_end (pieces_after c.known.now.tree c.prefix.now a before es) };
+
+    ghost rest_of_none = { λ c a d before. refl };
+
+    #[tactic(auto, using(crate::proofs::DraftLaws::piece_then_rest))]
+    fn push(
+        &self,
+        draft: &mut Draft,
+        before: Option<Entry>,
+        entry: Entry,
+    ) -> Result<(), AllocError> {
+        let tree = self.known.tree();
+        match entry {
+            Entry::Symbol(symbol) => match written_value(self.known, symbol) {
+                Some(value) => {
+                    draft.push_symbol(
+                        self.prefix,
+                        tree.name(symbol),
+                        tree.symbol_type(symbol),
+                        value,
+                    )
+                }
+                None => Ok(()),
+            },
+            Entry::Again(_) | Entry::Choice(_) => Ok(()),
+            Entry::Menu(menu) => push_menu(draft, self.known, menu),
+            Entry::EndMenu(menu) => push_menu_end(draft, self.known, before, menu),
+            Entry::Comment(comment) => push_comment(draft, self.known, comment),
+        }
     }
-    Ok(())
 }
 
 /// The text of the `.config` over the values of all nodes: what `config_text` gives
@@ -151,9 +144,12 @@ pub fn config_text_over(
     ensures { IfOk result (λ text. (a : Assignment) → Agrees known.now.tree known.now.values a
         → string_bytes text ≡ config_text_of known.now.tree prefix.now header.now a) }
 {
-    let mut draft = Draft::new(String::from_str(alloc, header)?);
-    push_entries(&mut draft, known, prefix)?;
-    Ok(draft.into_string())
+    text_of(
+        alloc,
+        header,
+        known.tree(),
+        &ConfigEntries { known, prefix },
+    )
 }
 
 /// The text of the `.config`: the header as it is, then what the tree's entries give in their order. A symbol that is

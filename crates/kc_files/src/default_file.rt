@@ -1,18 +1,19 @@
 //! The text of the default file.
 
-ghost use Rattle.std.specs.Prelude.{◌≡◌, ◌++◌, IfOk, OnOk, option_and_then};
+ghost use Rattle.std.specs.Prelude.{◌≡◌, ⊤, refl, IfOk, option_and_then};
+ghost use Rattle.std.specs.List.{flat_map};
 ghost use Rattle.std.specs.String.{string_bytes};
-ghost use Rattle.kc_outline.specs.Entries.{IsEntryOf};
 ghost use Rattle.kc_tree.specs.declared.node.Node.TheVariants.{Vis, Val, Sel};
-ghost use Rattle.kc_tree.specs.Accepted.{IsAccepted};
 ghost use Rattle.kc_tree.specs.Nodes.{IsNodeOf, all_nodes};
 ghost use Rattle.kc_value.specs.ChangedValue.{changed_value};
 ghost use Rattle.kc_value.specs.Replay.{shown_in};
 ghost use Rattle.kc_value.specs.Solution.{solution, AreSolved, IsOnlySolution};
 ghost use Rattle.kc_value.specs.UserValues.{UserValues};
 ghost use Rattle.kc_files.specs.DefaultLoading.{HasNoFeeds, KeepsChanges};
-ghost use Rattle.kc_files.specs.DefaultText.{is_changed_member, default_value, default_line, default_entry, default_text_of};
+ghost use Rattle.kc_files.specs.DefaultText.{is_changed_member, default_value, default_entry, default_text_of};
 
+use crate::draft::Draft;
+use crate::entry_text::{EntryText, text_of};
 use crate::prefix::Prefix;
 use crate::symbol_line::push_symbol_line;
 use crate::symbols::selected_member;
@@ -105,71 +106,50 @@ fn shown_value(value: Option<Value>) -> Option<UserVal>
     }
 }
 
-/// Appends the line of a symbol that has one.
-fn push_symbol(
+/// The default file, as it is made of the entries of a tree.
+#[derive(Clone, Copy)]
+struct DefaultEntries<'s, 'a> {
     alloc: Global,
-    out: &mut String,
-    solved: &Solved<'_>,
-    prefix: &str,
-    symbol: SymId,
-) -> Result<(), AllocError>
-    requires node { IsNodeOf solved.now.tree (Vis symbol) }
-    requires solved { AreSolved solved.now.tree solved.now.user solved.now.values }
-    ensures { OnOk result (string_bytes out.new
-        ≡ string_bytes out.old ++ default_line solved.now.tree solved.now.user prefix.now symbol) }
-{
-    if let Some(value) = default_value(alloc, solved, symbol)? {
-        let tree = solved.tree();
-        push_symbol_line(
-            out,
-            prefix,
-            tree.name(symbol),
-            tree.symbol_type(symbol),
-            &value,
-        )?;
-    }
-    Ok(())
+    solved: &'s Solved<'a>,
+    prefix: &'s Prefix,
 }
 
-/// Appends what an entry gives.
-fn push_entry(
-    alloc: Global,
-    out: &mut String,
-    solved: &Solved<'_>,
-    prefix: &str,
-    entry: Entry,
-) -> Result<(), AllocError>
-    requires entry { IsEntryOf solved.now.tree entry }
-    requires solved { AreSolved solved.now.tree solved.now.user solved.now.values }
-    ensures { OnOk result (string_bytes out.new
-        ≡ string_bytes out.old ++ default_entry solved.now.tree solved.now.user prefix.now entry) }
-{
-    match entry {
-        Entry::Symbol(symbol) => push_symbol(alloc, out, solved, prefix, symbol),
-        Entry::Again(_)
-        | Entry::Choice(_)
-        | Entry::Menu(_)
-        | Entry::EndMenu(_)
-        | Entry::Comment(_) => Ok(()),
-    }
-}
+impl EntryText for DefaultEntries<'_, '_> {
+    ghost tree_of = { λ e. e.solved.now.tree };
 
-/// Appends what the entries of the tree give.
-fn push_entries(
-    alloc: Global,
-    out: &mut String,
-    solved: &Solved<'_>,
-    prefix: &str,
-) -> Result<(), AllocError>
-    requires solved { AreSolved solved.now.tree solved.now.user solved.now.values }
-    ensures accepted { IsAccepted solved.now.tree }
-    ensures text { OnOk result (string_bytes out.new
-        ≡ string_bytes out.old ++ default_text_of solved.now.tree solved.now.user prefix.now) }
-{
-    for entry in solved.tree().entries() {
-        push_entry(alloc, out, solved, prefix, *entry)?;
+    ghost is_ready = { λ e. AreSolved e.solved.now.tree e.solved.now.user e.solved.now.values };
+
+    ghost is_over = { λ e a. ⊤ };
+
+    ghost rest = { λ e a d before es. flat_map (default_entry e.solved.now.tree e.solved.now.user e.prefix.now) es };
+
+    ghost rest_of_none = { λ e a d before. refl };
+
+    fn push(
+        &self,
+        draft: &mut Draft,
+        _before: Option<Entry>,
+        entry: Entry,
+    ) -> Result<(), AllocError> {
+        let tree = self.solved.tree();
+        match entry {
+            Entry::Symbol(symbol) => match default_value(self.alloc, self.solved, symbol)? {
+                Some(value) => push_symbol_line(
+                    &mut draft.text,
+                    self.prefix.as_str(),
+                    tree.name(symbol),
+                    tree.symbol_type(symbol),
+                    &value,
+                ),
+                None => Ok(()),
+            },
+            Entry::Again(_)
+            | Entry::Choice(_)
+            | Entry::Menu(_)
+            | Entry::EndMenu(_)
+            | Entry::Comment(_) => Ok(()),
+        }
     }
-    Ok(())
 }
 
 /// The text of the default file, over the values of all nodes: what `defconfig_text` gives, with what is said there. The
@@ -184,11 +164,15 @@ pub fn defconfig_text_over(
     ensures keeps { HasNoFeeds solved.now.user
         → IfOk result (λ text. KeepsChanges solved.now.tree solved.now.user prefix.now (string_bytes text)) }
 {
-    // That what the user values change is just enough is a clause of this call.
+    // That the prefix is well formed, and that what the user values change is just enough, are clauses of these calls.
+    let _ = prefix.as_str();
     let _ = solved.user();
-    let mut text = String::new(alloc);
-    push_entries(alloc, &mut text, solved, prefix.as_str())?;
-    Ok(text)
+    let entries = DefaultEntries {
+        alloc,
+        solved,
+        prefix,
+    };
+    text_of(alloc, "", solved.tree(), &entries)
 }
 
 /// The text of the default file (`savedefconfig` of the kernel's scripts/kconfig/conf.c and `write_min_config` of

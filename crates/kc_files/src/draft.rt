@@ -14,7 +14,7 @@ use std::marker::Model;
 /// The text so far, and what has to be known of its last piece. Contracts see the record of both.
 #[derive(Drop)]
 pub(crate) struct Draft {
-    text: String,
+    pub(crate) text: String,
     /// Whether the last piece is the end line of a menu, which an empty line parts from a symbol line.
     after_end: bool,
 }

@@ -1,20 +1,22 @@
 //! The text of the C header.
 
-ghost use Rattle.std.specs.Prelude.{◌≡◌, ◌++◌, slice_index_or, codes, IfOk, OnOk};
+ghost use Rattle.std.specs.Prelude.{◌≡◌, ◌++◌, ⊤, refl, slice_index_or, codes, IfOk, OnOk};
+ghost use Rattle.std.specs.List.{flat_map};
 ghost use Rattle.std.specs.String.{string_bytes};
-ghost use Rattle.kc_outline.specs.Entries.{IsEntryOf};
 ghost use Rattle.kc_outline.specs.TreeValue.{name_of};
 ghost use Rattle.kc_tree.specs.Nodes.{all_nodes};
 ghost use Rattle.kc_value.specs.Assignment.{Assignment};
 ghost use Rattle.kc_value.specs.Known.{given};
 ghost use Rattle.kc_value.specs.Solution.{solution, IsOnlySolution};
 ghost use Rattle.kc_files.specs.DraftValue.{Agrees};
-ghost use Rattle.kc_files.specs.HeaderText.{has_hex_sign, missing_hex_sign, text_in_c, has_no_macro, macro_line, tri_macro, text_macro, symbol_macro, macro_of, entry_macro, header_text_of};
+ghost use Rattle.kc_files.specs.HeaderText.{has_hex_sign, missing_hex_sign, text_in_c, has_no_macro, macro_line, tri_macro, text_macro, symbol_macro, entry_macro, header_text_of};
 
+use crate::draft::Draft;
+use crate::entry_text::{EntryText, text_of};
 use crate::prefix::Prefix;
 use crate::quoting::push_quoted;
 use crate::symbols::written_value;
-use kc_tree::{Entry, SymId, SymbolType, Tri, UserVal};
+use kc_tree::{Entry, SymbolType, Tri, UserVal};
 use kc_value::{Known, Resolver, values_of_all};
 use std::alloc::{AllocError, Global};
 
@@ -140,59 +142,49 @@ fn push_symbol_macro(
     }
 }
 
-/// Appends the macro of a symbol that is written.
-fn push_symbol(
-    out: &mut String,
-    known: &Known<'_>,
-    prefix: &Prefix,
-    symbol: SymId,
-) -> Result<(), AllocError>
-    ensures { OnOk result (string_bytes out.new
-        ≡ string_bytes out.old ++ macro_of known.now.tree prefix.now (given known.now) symbol) }
-{
-    let tree = known.tree();
-    if let Some(value) = written_value(known, symbol) {
-        push_symbol_macro(
-            out,
-            prefix,
-            tree.name(symbol),
-            tree.symbol_type(symbol),
-            value,
-        )?;
-    }
-    Ok(())
+/// The C header, as it is made of the entries of a tree.
+#[derive(Clone, Copy)]
+struct HeaderEntries<'s, 'a> {
+    known: &'s Known<'a>,
+    prefix: &'s Prefix,
 }
 
-/// Appends what an entry gives.
-fn push_entry(
-    out: &mut String,
-    known: &Known<'_>,
-    prefix: &Prefix,
-    entry: Entry,
-) -> Result<(), AllocError>
-    requires { IsEntryOf known.now.tree entry }
-    ensures { (a : Assignment) → Agrees known.now.tree known.now.values a → OnOk result (string_bytes out.new
-        ≡ string_bytes out.old ++ entry_macro known.now.tree prefix.now a entry) }
-{
-    match entry {
-        Entry::Symbol(symbol) => push_symbol(out, known, prefix, symbol),
-        Entry::Again(_)
-        | Entry::Choice(_)
-        | Entry::Menu(_)
-        | Entry::EndMenu(_)
-        | Entry::Comment(_) => Ok(()),
-    }
-}
+impl EntryText for HeaderEntries<'_, '_> {
+    ghost tree_of = { λ h. h.known.now.tree };
 
-/// Appends what the entries of the tree give.
-fn push_entries(out: &mut String, known: &Known<'_>, prefix: &Prefix) -> Result<(), AllocError>
-    ensures { (a : Assignment) → Agrees known.now.tree known.now.values a → OnOk result (string_bytes out.new
-        ≡ string_bytes out.old ++ header_text_of known.now.tree prefix.now a) }
-{
-    for entry in known.tree().entries() {
-        push_entry(out, known, prefix, *entry)?;
+    ghost is_ready = { λ h. ⊤ };
+
+    ghost is_over = { λ h a. Agrees h.known.now.tree h.known.now.values a };
+
+    ghost rest = { λ h a d before es. flat_map (entry_macro h.known.now.tree h.prefix.now a) es };
+
+    ghost rest_of_none = { λ h a d before. refl };
+
+    fn push(
+        &self,
+        draft: &mut Draft,
+        _before: Option<Entry>,
+        entry: Entry,
+    ) -> Result<(), AllocError> {
+        let tree = self.known.tree();
+        match entry {
+            Entry::Symbol(symbol) => match written_value(self.known, symbol) {
+                Some(value) => push_symbol_macro(
+                    &mut draft.text,
+                    self.prefix,
+                    tree.name(symbol),
+                    tree.symbol_type(symbol),
+                    value,
+                ),
+                None => Ok(()),
+            },
+            Entry::Again(_)
+            | Entry::Choice(_)
+            | Entry::Menu(_)
+            | Entry::EndMenu(_)
+            | Entry::Comment(_) => Ok(()),
+        }
     }
-    Ok(())
 }
 
 /// The text of the C header over the values of all nodes: what `header_text` gives where they are those of the solution.
@@ -205,9 +197,7 @@ pub fn header_text_over(
     ensures { IfOk result (λ text. (a : Assignment) → Agrees known.now.tree known.now.values a
         → string_bytes text ≡ header_text_of known.now.tree prefix.now a) }
 {
-    let mut text = String::new(alloc);
-    push_entries(&mut text, known, prefix)?;
-    Ok(text)
+    text_of(alloc, "", known.tree(), &HeaderEntries { known, prefix })
 }
 
 /// The text of the C header: a macro for each symbol that is written and not n, in the order of the first definitions

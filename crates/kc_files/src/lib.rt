@@ -10,6 +10,7 @@ mod counting;
 mod default_file;
 mod draft;
 mod effects;
+mod entry_text;
 mod header_file;
 mod line_form;
 mod line_reading;

@@ -1,15 +1,17 @@
 //! The list of symbols that have no value from the user yet.
 
-ghost use Rattle.std.specs.Prelude.{◌≡◌, ◌++◌, nat_le, count_by, IfOk, OnOk};
+ghost use Rattle.std.specs.Prelude.{◌≡◌, ⊤, refl, nat_le, count_by, IfOk};
+ghost use Rattle.std.specs.List.{flat_map};
 ghost use Rattle.std.specs.String.{string_bytes};
-ghost use Rattle.kc_outline.specs.Entries.{IsEntryOf};
 ghost use Rattle.kc_tree.specs.declared.node.Node.TheVariants.{Vis};
 ghost use Rattle.kc_tree.specs.Nodes.{IsNodeOf, all_nodes};
 ghost use Rattle.kc_value.specs.ChoiceRule.{is_visible};
 ghost use Rattle.kc_value.specs.Known.{given};
 ghost use Rattle.kc_value.specs.Solution.{solution, AreSolved, IsOnlySolution};
-ghost use Rattle.kc_files.specs.NewText.{has_another_value, is_new_symbol, visible_count, is_new_member, is_new, new_line, new_entry, new_text_of};
+ghost use Rattle.kc_files.specs.NewText.{has_another_value, is_new_symbol, visible_count, is_new_member, is_new, new_entry, new_text_of};
 
+use crate::draft::Draft;
+use crate::entry_text::{EntryText, text_of};
 use crate::prefix::Prefix;
 use crate::symbol_line::push_text_line;
 use crate::symbols::{selected_member, shown_text};
@@ -94,71 +96,52 @@ fn is_new(alloc: Global, solved: &Solved<'_>, symbol: SymId) -> Result<bool, All
     }
 }
 
-/// Appends the line of a symbol that has one.
-fn push_symbol(
+/// The list of new symbols, as it is made of the entries of a tree.
+#[derive(Clone, Copy)]
+struct NewEntries<'s, 'a> {
     alloc: Global,
-    out: &mut String,
-    solved: &Solved<'_>,
-    prefix: &Prefix,
-    symbol: SymId,
-) -> Result<(), AllocError>
-    requires inside { IsNodeOf solved.now.tree (Vis symbol) }
-    requires solved { AreSolved solved.now.tree solved.now.user solved.now.values }
-    ensures { OnOk result (string_bytes out.new
-        ≡ string_bytes out.old ++ new_line solved.now.tree solved.now.user prefix.now symbol) }
-{
-    if is_new(alloc, solved, symbol)? {
-        let tree = solved.tree();
-        let value = shown_text(solved.known(), symbol);
-        push_text_line(
-            out,
-            prefix.as_str(),
-            tree.name(symbol),
-            tree.symbol_type(symbol),
-            value,
-        )?;
-    }
-    Ok(())
+    solved: &'s Solved<'a>,
+    prefix: &'s Prefix,
 }
 
-/// Appends what an entry gives.
-fn push_entry(
-    alloc: Global,
-    out: &mut String,
-    solved: &Solved<'_>,
-    prefix: &Prefix,
-    entry: Entry,
-) -> Result<(), AllocError>
-    requires inside { IsEntryOf solved.now.tree entry }
-    requires solved { AreSolved solved.now.tree solved.now.user solved.now.values }
-    ensures { OnOk result (string_bytes out.new
-        ≡ string_bytes out.old ++ new_entry solved.now.tree solved.now.user prefix.now entry) }
-{
-    match entry {
-        Entry::Symbol(symbol) => push_symbol(alloc, out, solved, prefix, symbol),
-        Entry::Again(_)
-        | Entry::Choice(_)
-        | Entry::Menu(_)
-        | Entry::EndMenu(_)
-        | Entry::Comment(_) => Ok(()),
-    }
-}
+impl EntryText for NewEntries<'_, '_> {
+    ghost tree_of = { λ n. n.solved.now.tree };
 
-/// Appends what the entries of the tree give.
-fn push_entries(
-    alloc: Global,
-    out: &mut String,
-    solved: &Solved<'_>,
-    prefix: &Prefix,
-) -> Result<(), AllocError>
-    requires solved { AreSolved solved.now.tree solved.now.user solved.now.values }
-    ensures { OnOk result (string_bytes out.new
-        ≡ string_bytes out.old ++ new_text_of solved.now.tree solved.now.user prefix.now) }
-{
-    for entry in solved.tree().entries() {
-        push_entry(alloc, out, solved, prefix, *entry)?;
+    ghost is_ready = { λ n. AreSolved n.solved.now.tree n.solved.now.user n.solved.now.values };
+
+    ghost is_over = { λ n a. ⊤ };
+
+    ghost rest = { λ n a d before es. flat_map (new_entry n.solved.now.tree n.solved.now.user n.prefix.now) es };
+
+    ghost rest_of_none = { λ n a d before. refl };
+
+    fn push(
+        &self,
+        draft: &mut Draft,
+        _before: Option<Entry>,
+        entry: Entry,
+    ) -> Result<(), AllocError> {
+        let solved = self.solved;
+        match entry {
+            Entry::Symbol(symbol) => {
+                if !is_new(self.alloc, solved, symbol)? {
+                    return Ok(());
+                }
+                push_text_line(
+                    &mut draft.text,
+                    self.prefix.as_str(),
+                    solved.tree().name(symbol),
+                    solved.tree().symbol_type(symbol),
+                    shown_text(solved.known(), symbol),
+                )
+            }
+            Entry::Again(_)
+            | Entry::Choice(_)
+            | Entry::Menu(_)
+            | Entry::EndMenu(_)
+            | Entry::Comment(_) => Ok(()),
+        }
     }
-    Ok(())
 }
 
 /// The list of symbols that the user can still decide on, over the values of all nodes: what `new_text` gives. The error
@@ -171,9 +154,12 @@ pub fn new_text_over(
     requires { AreSolved solved.now.tree solved.now.user solved.now.values }
     ensures { IfOk result (λ text. string_bytes text ≡ new_text_of solved.now.tree solved.now.user prefix.now) }
 {
-    let mut text = String::new(alloc);
-    push_entries(alloc, &mut text, solved, prefix)?;
-    Ok(text)
+    let entries = NewEntries {
+        alloc,
+        solved,
+        prefix,
+    };
+    text_of(alloc, "", solved.tree(), &entries)
 }
 
 /// The list of symbols that the user can still decide on, each with the value that it has (`listnewconfig` of the
