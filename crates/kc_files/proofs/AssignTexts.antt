@@ -25,7 +25,7 @@ use Rattle.kc_files.specs.WrittenAssigns.{assigns_text, IsWritable, AreApart}
 use Rattle.kc_files.proofs.AssignLines.{assign_body, assign_line_is, body_unfed, body_read}
 use Rattle.kc_files.proofs.LineFormLaws.{IsNamed}
 use Rattle.kc_files.proofs.LineTexts.{lines_of_text, lines_utf8}
-use Rattle.kc_files.proofs.PassLaws.{one_config_reading}
+use Rattle.kc_files.proofs.ReadingLaws.{one_config_reading}
 
 -- ---- the lines
 pub text_is : (t : TreeValue) (prefix : List ℕ) (assigns : List Assign) → text_of_lines (map (assign_body t prefix) assigns) ≡ assigns_text t prefix assigns

@@ -9,7 +9,7 @@ use Rattle.std.proofs.lemmas.Slice.Eq.{bytes_eq-Decides}
 use Rattle.std.proofs.lemmas.Option.{none-some, same_Some}
 use Rattle.std.proofs.lemmas.Str.{is_utf8-from_IsUtf8, IsUtf8-from_is_utf8}
 use Rattle.kc_statement.specs.Names.{is_name_byte}
-use Rattle.kc_files.specs.PrefixForm.{is_prefix_byte, is_prefix}
+use Rattle.kc_files.specs.PrefixForm.{is_prefix}
 use Rattle.kc_files.specs.declared.line_form.LineForm.{LineForm}
 use Rattle.kc_files.specs.declared.line_form.LineForm.TheVariants.{Assigned, Unset, Nothing, Malformed}
 use Rattle.kc_files.specs.LineForm.{is_word, IsAssignment, IsUnset, IsComment, HasForm}
@@ -215,4 +215,4 @@ line_form_only prefix line Malformed named h = malformed_only prefix line h
 
 -- a prefix has bytes of names alone
 pub prefix_bytes : (prefix : List ℕ) → is_prefix prefix ≡ true → IsNamed prefix
-prefix_bytes prefix h = (and_parts (nat_le (length prefix) 64) (list_all is_prefix_byte prefix) h).1
+prefix_bytes prefix h = (and_parts (nat_le (length prefix) 64) (list_all is_name_byte prefix) h).1

@@ -7,8 +7,7 @@ use Rattle.kc_files.specs.LineSteps.{readings_in}
 use Rattle.kc_files.specs.OneReading.{assigns_in, warnings_in, IsReadAs}
 use Rattle.kc_files.specs.PrefixForm.{is_prefix}
 use Rattle.kc_files.proofs.LineFormLaws.{prefix_bytes}
-use Rattle.kc_files.proofs.PassLaws.{one_config_reading}
-use Rattle.kc_files.proofs.ReadingLaws.{readings_have}
+use Rattle.kc_files.proofs.ReadingLaws.{one_config_reading, readings_have}
 
 -- what the lines give is a reading
 lines_read : (t : TreeValue) (prefix text : List ℕ) → IsConfigReading t prefix text (assigns_in t prefix text) (warnings_in t prefix text)

@@ -1,6 +1,6 @@
 -- The reading of a line is the one that its definition says, and the only one.
 use Rattle.std.proofs.Common.{◌≡◌, ◌⊎◌, inl, inr, ℕ, List, [], ◌∷◌, length, Option, Some, None, refl, sym, ap, subst, ◌∙◌}
-use Rattle.std.specs.Prelude.{map}
+use Rattle.std.specs.Prelude.{filter_map, map}
 use Rattle.std.specs.List.{AllZip}
 use Rattle.std.specs.Option.{option_map_or}
 use Rattle.std.proofs.lemmas.Option.{none-some}
@@ -8,6 +8,8 @@ use Rattle.kc_statement.specs.declared.id.SymId.{SymId}
 use Rattle.kc_statement.specs.declared.symbol_type.SymbolType.{SymbolType}
 use Rattle.kc_outline.specs.TreeValue.{TreeValue, symbol_named}
 use Rattle.kc_tree.specs.declared.user_value.UserVal.{UserVal}
+use Rattle.kc_files.specs.declared.assign.Assign.{Assign}
+use Rattle.kc_files.specs.declared.warning.Warning.{Warning}
 use Rattle.kc_files.specs.declared.warning.WarningKind.{WarningKind}
 use Rattle.kc_files.specs.declared.warning.WarningKind.TheVariants as warning
 use Rattle.kc_files.specs.declared.line_form.LineForm.{LineForm}
@@ -15,7 +17,8 @@ use Rattle.kc_files.specs.declared.line_form.LineForm.TheVariants as form
 use Rattle.kc_files.specs.declared.line_reading.Reading.{Reading}
 use Rattle.kc_files.specs.declared.line_reading.Reading.TheVariants as reading
 use Rattle.kc_tree.specs.Fits.{type_of}
-use Rattle.kc_files.specs.ConfigLines.{trimmed}
+use Rattle.kc_files.specs.ConfigLines.{lines_in, trimmed}
+use Rattle.kc_files.specs.ConfigReading.{counting, usable, warnings_from, IsConfigReading}
 use Rattle.kc_files.specs.ValueForm.{Gives, GivesNo}
 use Rattle.kc_files.specs.ReadingSteps.{line_form, value_given, no_given}
 use Rattle.kc_files.specs.LineReading.{bad_value, Says, IsMeant, HasReading}
@@ -108,3 +111,10 @@ pub reading_fits : (t : TreeValue) (prefix line : List ℕ) (r : Reading) → r 
 reading_fits t prefix line r is inside =
     let h = reading_has t prefix line in
     says_fits t h.0 r (subst (IsMeant t h.0) (sym is) h.2) inside
+
+-- two readings of one text are equal
+pub one_config_reading : (t : TreeValue) (prefix text : List ℕ) (xs bs : List Assign) (ws vs : List Warning) → IsNamed prefix
+    → IsConfigReading t prefix text xs ws → IsConfigReading t prefix text bs vs → (bs ≡ xs) × (vs ≡ ws)
+one_config_reading t prefix text xs bs ws vs named h k =
+    let same = sym (readings_only t prefix (lines_in text) k.readings named k.read) ∙ readings_only t prefix (lines_in text) h.readings named h.read in
+    (k.counted ∙ ap (λ rs. counting (filter_map usable rs)) same ∙ sym h.counted, k.warned ∙ ap (warnings_from [] 1) same ∙ sym h.warned)

@@ -21,3 +21,4 @@ pub mod LineSteps
 pub mod LoadingSteps
 pub mod NumberedLines
 pub mod Effects
+pub mod Fates

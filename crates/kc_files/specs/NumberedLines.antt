@@ -21,12 +21,6 @@ says_of reading.Nothing = None
 abbrev pub numbered : ℕ → LineSays → ConfigLine
 numbered n s = record { number = n; says = s }
 
--- the lines so far, with what the line of this number gives
-abbrev pub with_line : List ConfigLine → ℕ → Reading → List ConfigLine
-with_line lines n (reading.Usable a) = lines ++ numbered n (said.Usable a) ∷ []
-with_line lines n (reading.Warned k) = lines ++ numbered n (said.Warned k) ∷ []
-with_line lines n reading.Nothing = lines
-
 -- those that say something, of lines whose first has this number
 abbrev pub lines_from : ℕ → List Reading → List ConfigLine
 lines_from n [] = []

@@ -1,9 +1,9 @@
 ghost use Rattle.std.specs.Prelude.{◌≡◌, ◌↔◌, ℕ, List, false, IsTrue, IfOk};
-ghost use Rattle.std.specs.List.{list_all};
 ghost use Rattle.kc_outline.specs.TreeValue.{TreeValue};
 ghost use Rattle.kc_files.specs.OneReading.{IsReadAs};
-ghost use Rattle.kc_files.specs.PrefixForm.{is_prefix_byte, is_prefix};
+ghost use Rattle.kc_files.specs.PrefixForm.{is_prefix};
 
+use crate::line_form::has_name_bytes;
 use kc_text::Text;
 use std::alloc::{AllocError, Global};
 use std::marker::Model;
@@ -38,22 +38,11 @@ pub enum PrefixFault {
     NoMemory,
 }
 
-fn is_prefix_byte(byte: u8) -> bool
-    ensures { result ≡ is_prefix_byte byte }
-{
-    byte.is_ascii_alphanumeric() || byte == b'_'
-}
-
-fn has_prefix_bytes(text: &str) -> bool
-    ensures { result ≡ list_all is_prefix_byte text.now }
-{
-    text.as_bytes().iter().all(|byte| is_prefix_byte(*byte))
-}
-
+/// Whether a text is a prefix.
 fn is_well_formed(text: &str) -> bool
     ensures { result ≡ is_prefix text.now }
 {
-    text.len() <= MAX_BYTES && has_prefix_bytes(text)
+    text.len() <= MAX_BYTES && has_name_bytes(text)
 }
 
 impl Prefix {

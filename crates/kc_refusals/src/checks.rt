@@ -22,7 +22,7 @@ enum Check {
 }
 
 /// All checks by their words, in the order of the layers that the calls belong to.
-const CHECKS: [(&str, Check); 25] = [
+const CHECKS: [(&str, Check); 24] = [
     ("add", Check::Texts(&ADDITIONS)),
     ("from_pairs", Check::Texts(&PAIR_READINGS)),
     ("logical_lines", Check::Texts(&LINE_READINGS)),
@@ -47,10 +47,6 @@ const CHECKS: [(&str, Check); 25] = [
     ("new", Check::Session(SessionCall::Apply(Word::New))),
     ("run", Check::Session(SessionCall::Run)),
     ("fill", Check::Session(SessionCall::Fill)),
-    (
-        "lines_without_effect",
-        Check::Session(SessionCall::LinesWithoutEffect),
-    ),
     ("merged", Check::Session(SessionCall::Merged)),
     ("set_after_list", Check::Session(SessionCall::SetAfterList)),
     (

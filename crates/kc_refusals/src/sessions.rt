@@ -3,7 +3,7 @@
 use crate::asking::want_nodes;
 use crate::finding::{Call, Stop, Time, Wrong, made, want};
 use crate::opening::{open_top, stop_of};
-use crate::reporting::{check_effects, check_fill, check_merged};
+use crate::reporting::{check_fill, check_merged};
 use crate::showing::user_text;
 use crate::streams::check_run;
 use crate::text_calls::Texts;
@@ -135,8 +135,6 @@ pub(crate) enum SessionCall {
     Run,
     /// `fill_all`.
     Fill,
-    /// `lines_without_effect`.
-    LinesWithoutEffect,
     /// `merged`.
     Merged,
     /// `set S x` after `list`.
@@ -152,19 +150,17 @@ pub(crate) fn check_session(texts: &Texts, call: SessionCall) -> Result<Call, St
         _ => ("Kconfig", CONFIG),
     };
     match open_top(texts, top, config) {
-        Ok((mut session, _)) => check_opened(texts, &mut session, call),
+        Ok((mut session, _)) => check_opened(texts.alloc, &mut session, call),
         Err(fault) => Err(stop_of(&fault)),
     }
 }
 
 /// Checks a call on a session that was opened for it.
-fn check_opened(texts: &Texts, session: &mut Session, call: SessionCall) -> Result<Call, Stop> {
-    let alloc = texts.alloc;
+fn check_opened(alloc: Global, session: &mut Session, call: SessionCall) -> Result<Call, Stop> {
     match call {
         SessionCall::Apply(word) => check_command(alloc, session, word),
         SessionCall::Run => check_run(alloc, session),
         SessionCall::Fill => check_fill(alloc, session),
-        SessionCall::LinesWithoutEffect => check_effects(texts, session),
         SessionCall::Merged => check_merged(alloc, session),
         SessionCall::SetAfterList => check_set_after_list(session, false),
         SessionCall::SetAfterNodes => check_set_after_list(session, true),

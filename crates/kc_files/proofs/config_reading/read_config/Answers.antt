@@ -1,40 +1,26 @@
-use Rattle.std.proofs.Common.{◌≡◌, sym, ap, ◌∙◌}
-use Rattle.std.specs.List.{list_any}
+use Rattle.std.proofs.Common.{List, filter_map, sym, subst, ◌∙◌}
 use Rattle.std.proofs.lemmas.List.Elements.{All-same}
-use Rattle.kc_files.specs.ConfigReading.{counting}
+use Rattle.kc_files.specs.declared.assign.Assign.{Assign}
+use Rattle.kc_files.specs.declared.warning.Warning.{Warning}
+use Rattle.kc_files.specs.ConfigReading.{counting, IsConfigReading}
 use Rattle.kc_files.specs.LineReading.{IsAssignFor}
-use Rattle.kc_files.specs.LineSteps.{PassValue, readings_in, is_repeat}
+use Rattle.kc_files.specs.NumberedLines.{assign_of}
 use Rattle.kc_files.proofs.CountingLaws.{All-counting}
-use Rattle.kc_files.proofs.PassLaws.{passed_as, reads}
-use Rattle.kc_files.proofs.SingleLines.{pass_counts}
+use Rattle.kc_files.proofs.NumberedLaws.{assigns_fit, text_counted}
 use Rattle.kc_files.proofs.UnfedReading.{config_unfed}
 use Rattle.kc_files.proofs.config_reading.read_config.Goals as goal
 
-pub counting_of-requires-clause-single : goal.counting_of-requires-clause-single
-counting_of-requires-clause-single c = λ none.
-    let t = c.args.tree.now in
-    let prefix = c.args.prefix.now in
-    let text = c.args.bytes.now in
-    let pass : PassValue = record { assigns = c.assigns.inside.assigns.items; warnings = c.assigns.inside.warnings.items; named = c.assigns.inside.named.items } in
-    let same : c.in_ok-assigns.field-0 ≡ pass = cc in
-    let n = c.in_ok-assigns.ensures.0 in
-    let passed = passed_as t c.as_str.result.now prefix text n c.in_ok-assigns.field-0 pass c.as_str.ensures.text same c.in_ok-assigns.ensures.1 in
-    pass_counts t (readings_in t prefix text) n pass passed (ap (list_any is_repeat) (sym c.as_slice.ensures.value) ∙ none)
+pub returns-clause-read : goal.returns-clause-read
+returns-clause-read c = (
+  c.in_ok-reading.ensures.assigns ∙ text_counted c.args.tree.now c.args.prefix.now c.args.bytes.now c.in_ok-lines.lines.lines c.in_ok-lines.ensures.lines,
+  c.in_ok-reading.ensures.warnings ∙ c.in_ok-lines.ensures.warnings,
+)
 
 pub returns-clause-reading : goal.returns-clause-reading
 returns-clause-reading c =
-    let t = c.args.tree.now in
-    let prefix = c.args.prefix.now in
-    let text = c.args.bytes.now in
-    let pass : PassValue = record { assigns = c.assigns.inside.assigns.items; warnings = c.assigns.inside.warnings.items; named = c.assigns.inside.named.items } in
-    let same : c.in_ok-assigns.field-0 ≡ pass = cc in
-    let n = c.in_ok-assigns.ensures.0 in
-    let passed = passed_as t c.as_str.result.now prefix text n c.in_ok-assigns.field-0 pass c.as_str.ensures.text same c.in_ok-assigns.ensures.1 in
-    reads t prefix text n pass c.in_ok-counting.counting.items passed c.in_ok-counting.ensures
-
-pub returns-clause-read : goal.returns-clause-read
-returns-clause-read c =
-    (c.as_str.ensures.readings c.args.tree.now c.args.bytes.now).only c.in_ok-counting.counting.items c.assigns.inside.warnings.items (returns-clause-reading c)
+    let read = returns-clause-read c in
+    subst (λ (p : List Assign × List Warning). IsConfigReading c.args.tree.now c.args.prefix.now c.args.bytes.now p.0 p.1)
+    (λ i. (sym read.0 i, sym read.1 i)) (c.as_str.ensures.readings c.args.tree.now c.args.bytes.now).reading
 
 pub returns-clause-only : goal.returns-clause-only
 returns-clause-only c = λ assigns warnings h.
@@ -45,14 +31,10 @@ returns-clause-only c = λ assigns warnings h.
 pub returns-clause-fitting : goal.returns-clause-fitting
 returns-clause-fitting c =
     let t = c.args.tree.now in
-    let prefix = c.args.prefix.now in
-    let text = c.args.bytes.now in
-    let pass : PassValue = record { assigns = c.assigns.inside.assigns.items; warnings = c.assigns.inside.warnings.items; named = c.assigns.inside.named.items } in
-    let same : c.in_ok-assigns.field-0 ≡ pass = cc in
-    let n = c.in_ok-assigns.ensures.0 in
-    let passed = passed_as t c.as_str.result.now prefix text n c.in_ok-assigns.field-0 pass c.as_str.ensures.text same c.in_ok-assigns.ensures.1 in
-    All-same (IsAssignFor t) c.in_ok-counting.counting.items (counting pass.assigns) c.in_ok-counting.ensures (All-counting (IsAssignFor t) pass.assigns passed.fitting)
+    let lines = c.in_ok-lines.lines.lines in
+    All-same (IsAssignFor t) c.in_ok-reading.reading.0.items (counting (filter_map assign_of lines)) c.in_ok-reading.ensures.assigns
+    (All-counting (IsAssignFor t) (filter_map assign_of lines) (assigns_fit t lines c.in_ok-lines.ensures.fitting))
 
 pub returns-clause-unfed : goal.returns-clause-unfed
 returns-clause-unfed c =
-    config_unfed c.args.tree.now c.args.prefix.now c.args.bytes.now c.in_ok-counting.counting.items c.assigns.inside.warnings.items (returns-clause-reading c)
+    config_unfed c.args.tree.now c.args.prefix.now c.args.bytes.now c.in_ok-reading.reading.0.items c.in_ok-reading.reading.1.items (returns-clause-reading c)

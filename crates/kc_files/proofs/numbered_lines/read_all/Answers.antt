@@ -3,7 +3,7 @@ use Rattle.std.specs.Prelude.{map}
 use Rattle.kc_files.specs.LineSteps.{reading_of, readings_in}
 use Rattle.kc_files.proofs.NumberedLaws.{IsRead, read_step}
 use Rattle.kc_files.proofs.ReadingLaws.{reading_fits}
-use Rattle.kc_files.proofs.numbered_lines.read_lines.Goals as goal
+use Rattle.kc_files.proofs.numbered_lines.read_all.Goals as goal
 
 pub loop-rest-preserved : goal.loop-rest-preserved
 loop-rest-preserved c =

@@ -1,7 +1,7 @@
 use Rattle.std.proofs.Common.{◌≤◌, ◌+◌, length}
 use Rattle.kc_files.specs.LineSteps.{readings_in}
 use Rattle.kc_files.proofs.NumberedLaws.{IsRead}
-use Rattle.kc_files.proofs.numbered_lines.read_lines.Given as goal
+use Rattle.kc_files.proofs.numbered_lines.read_all.Given as goal
 
 -- what was read are the lines before the rest
 abbrev pub invariant-loop-rest : goal.invariant-loop-rest
