@@ -4,8 +4,8 @@ use crate::characters::push_character;
 use crate::meanings::warning_meaning;
 use crate::meant_lines::{meant_line, push_meant_line};
 use crate::messages::ConfigMessage;
+use crate::named_symbols::NamedSymbols;
 use crate::piece::{texts, words_of};
-use crate::symbol_types::SymbolTypes;
 use kc_facts::has_name_bytes;
 use std::alloc::{AllocError, Global};
 
@@ -21,7 +21,7 @@ pub(crate) fn malformed_words(
     alloc: Global,
     prefix: &str,
     text: Option<&str>,
-    types: &SymbolTypes,
+    symbols: &NamedSymbols<'_>,
 ) -> Result<String, AllocError> {
     let Some(text) = text else {
         return words_of(alloc, ConfigMessage::NotText.row(), &texts!());
@@ -33,7 +33,7 @@ pub(crate) fn malformed_words(
         return character_words(alloc, ConfigMessage::ByteOrderMark, text, 1);
     }
     match text.split_once('=') {
-        Some((name, value)) => assignment_words(alloc, prefix, name, value, types),
+        Some((name, value)) => assignment_words(alloc, prefix, name, value, symbols),
         None => String::from_str(alloc, warning_meaning(4).unwrap_or("")),
     }
 }
@@ -52,7 +52,7 @@ fn assignment_words(
     prefix: &str,
     name: &str,
     value: &str,
-    types: &SymbolTypes,
+    symbols: &NamedSymbols<'_>,
 ) -> Result<String, AllocError> {
     let bare = name.trim();
     if bare.is_empty() {
@@ -69,7 +69,7 @@ fn assignment_words(
     };
     let mut words = words_of(alloc, message.row(), &texts!(prefix: prefix))?;
     for name in &named_symbols(prefix, name) {
-        if let Some(typed) = types.get(name) {
+        if let Some(typed) = symbols.get(name) {
             let line = meant_line(alloc, prefix, name, typed.kind(), value)?;
             push_meant_line(alloc, &mut words, line)?;
             return Ok(words);

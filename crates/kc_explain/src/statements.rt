@@ -93,14 +93,7 @@ impl<'l, 'a> Statements<'l, 'a> {
 
     /// The type that a line gives its symbol or its choice.
     pub fn kind(&self, line: usize) -> Option<SymbolType> {
-        match self.keyword(line)? {
-            Keyword::Bool | Keyword::DefBool => Some(SymbolType::Bool),
-            Keyword::Tristate | Keyword::DefTristate => Some(SymbolType::Tristate),
-            Keyword::String => Some(SymbolType::String),
-            Keyword::Int => Some(SymbolType::Int),
-            Keyword::Hex => Some(SymbolType::Hex),
-            _ => None,
-        }
+        type_of(self.keyword(line)?)
     }
 
     /// Whether a line gives what it belongs to a prompt.
@@ -264,6 +257,18 @@ fn last_up_to(numbers: &[usize], most: usize) -> Option<usize> {
 /// Whether a line is the end of its file.
 pub(crate) fn is_end(line: &Line<'_>) -> bool {
     line.kind() == LineKind::EndOfFile
+}
+
+/// The type that a line of this first word gives its symbol or its choice.
+pub(crate) fn type_of(word: Keyword) -> Option<SymbolType> {
+    match word {
+        Keyword::Bool | Keyword::DefBool => Some(SymbolType::Bool),
+        Keyword::Tristate | Keyword::DefTristate => Some(SymbolType::Tristate),
+        Keyword::String => Some(SymbolType::String),
+        Keyword::Int => Some(SymbolType::Int),
+        Keyword::Hex => Some(SymbolType::Hex),
+        _ => None,
+    }
 }
 
 /// The second word of a line.

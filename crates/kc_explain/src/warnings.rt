@@ -1,12 +1,12 @@
-//! What is said of the warnings of a `.config`.
+//! What is said of the warnings of `.config` files and fragments.
 
 use crate::malformed::{malformed_words, named_symbols};
 use crate::meant_lines::{before_comment, is_taken, meant_line, push_meant_line};
 use crate::messages::ConfigMessage;
+use crate::named_symbols::NamedSymbols;
 use crate::piece::{Texts, texts, words_of};
+use crate::sought_names::SoughtNames;
 use crate::spelling::beginning;
-use crate::statements::Statements;
-use crate::symbol_types::SymbolTypes;
 use kc_facts::{MeantNames, NamedLine, name_in, push_meant, type_words};
 use kc_files::{Warning, WarningKind};
 use kc_statement::SymbolType;
@@ -14,7 +14,14 @@ use kc_text::Line;
 use std::alloc::{AllocError, Global};
 use std::collections::BTreeMap;
 
-/// A line of a `.config` with its warning.
+/// A `.config` or a fragment, and the warnings of its lines, in the order of their numbers.
+#[derive(Clone, Copy)]
+pub struct WarnedFile<'f> {
+    pub bytes: &'f [u8],
+    pub warnings: &'f [Warning],
+}
+
+/// A line of such a file with its warning.
 #[derive(Clone, Copy)]
 struct Warned<'c> {
     kind: WarningKind,
@@ -23,8 +30,8 @@ struct Warned<'c> {
     before: usize,
 }
 
-/// What is written after the number of each warning of a `.config`, in their order, by the lines of the Kconfig, the prefix
-/// of names, and the bytes of the `.config`. The lines are read once, however many warnings there are.
+/// What is written after the number of each warning of files, in their order, by the lines of the Kconfig and the prefix of
+/// names. The lines of the Kconfig are read once, however many files and warnings there are, and not where there are none.
 ///
 /// # Errors
 ///
@@ -33,16 +40,18 @@ pub fn explain_warnings(
     alloc: Global,
     lines: &[Line<'_>],
     prefix: &str,
-    config: &[u8],
-    warnings: &[Warning],
+    files: &[WarnedFile<'_>],
 ) -> Result<Vec<String>, AllocError> {
-    let warned = warned_lines(alloc, prefix, config, warnings)?;
-    let statements = Statements::read(alloc, lines)?;
-    let types = types_of(&statements, prefix, warned.as_slice())?;
-    let meant = meant_names(&statements, warned.as_slice())?;
+    let warned = warned_lines(alloc, prefix, files)?;
+    let warned = warned.as_slice();
+    if warned.is_empty() {
+        return Ok(Vec::new(alloc));
+    }
+    let symbols = named_symbols_of(alloc, lines, prefix, warned)?;
+    let meant = MeantNames::of(alloc, symbols.found(alloc)?)?;
     let mut all = Vec::new(alloc);
-    for warned in warned.as_slice() {
-        let mut words = warning_words(alloc, lines, prefix, warned, &types)?;
+    for warned in warned {
+        let mut words = warning_words(alloc, lines, prefix, warned, &symbols)?;
         if warned.kind == WarningKind::UndefinedSymbol {
             push_meant(&mut words, meant.meant(prefix, warned.line.name))?;
         }
@@ -51,18 +60,32 @@ pub fn explain_warnings(
     Ok(all)
 }
 
-/// The lines that warnings name, which are in the order of their numbers.
+/// The lines of files that warnings name.
 fn warned_lines<'c>(
     alloc: Global,
     prefix: &str,
-    config: &'c [u8],
-    warnings: &[Warning],
+    files: &[WarnedFile<'c>],
 ) -> Result<Vec<Warned<'c>>, AllocError> {
     let mut warned = Vec::new(alloc);
+    for file in files {
+        if !file.warnings.is_empty() {
+            add_warned_lines(alloc, &mut warned, prefix, *file)?;
+        }
+    }
+    Ok(warned)
+}
+
+/// Adds the lines of a file that warnings name.
+fn add_warned_lines<'c>(
+    alloc: Global,
+    warned: &mut Vec<Warned<'c>>,
+    prefix: &str,
+    file: WarnedFile<'c>,
+) -> Result<(), AllocError> {
     let mut last = BTreeMap::new(alloc);
-    let mut left = warnings.iter().copied();
+    let mut left = file.warnings.iter().copied();
     let mut next = left.next();
-    for (index, line) in config.split(|byte| *byte == b'\n').enumerate() {
+    for (index, line) in file.bytes.split(|byte| *byte == b'\n').enumerate() {
         let number = index.saturating_add(1);
         let line = name_in(prefix, line);
         let warning = next.filter(|warning| warning.line == number);
@@ -75,42 +98,33 @@ fn warned_lines<'c>(
             last.insert(line.name, number)?;
         }
     }
-    Ok(warned)
+    Ok(())
 }
 
-/// The names of symbols that a name may have been meant as, if a line names no symbol, and else none.
-fn meant_names<'l>(
-    statements: &Statements<'l, '_>,
-    warned: &[Warned<'_>],
-) -> Result<MeantNames<'l>, AllocError> {
-    let mut names = Vec::new(statements.alloc);
-    let is_needed = warned
-        .iter()
-        .any(|warned| warned.kind == WarningKind::UndefinedSymbol);
-    for definition in statements.definitions.iter().filter(|_| is_needed) {
-        names.push(definition.name)?;
-    }
-    MeantNames::of(statements.alloc, names)
-}
-
-/// The types of the symbols that lines of a `.config` name, or may be meant to name.
-fn types_of(
-    statements: &Statements<'_, '_>,
+/// The symbols that lines of `.config` files name, or may be meant to name.
+fn named_symbols_of<'l>(
+    alloc: Global,
+    lines: &'l [Line<'_>],
     prefix: &str,
     warned: &[Warned<'_>],
-) -> Result<SymbolTypes, AllocError> {
-    let mut names = Vec::new(statements.alloc);
+) -> Result<NamedSymbols<'l>, AllocError> {
+    let mut names = Vec::new(alloc);
+    let mut sought = SoughtNames::none(alloc);
     for warned in warned {
-        names.push(warned.line.name)?;
-        let (name, _) = match warned.line.text {
-            Some(text) if warned.kind == WarningKind::Malformed => {
-                text.split_once('=').unwrap_or(("", ""))
+        let name = warned.line.name;
+        names.push(name)?;
+        match (warned.kind, warned.line.text) {
+            (WarningKind::UndefinedSymbol, _) => {
+                sought.add(name.strip_prefix(prefix).unwrap_or(name))?;
             }
-            _ => ("", ""),
-        };
-        names.extend_from_slice(&named_symbols(prefix, name))?;
+            (WarningKind::Malformed, Some(text)) => {
+                let (name, _) = text.split_once('=').unwrap_or(("", ""));
+                names.extend_from_slice(&named_symbols(prefix, name))?;
+            }
+            _ => {}
+        }
     }
-    SymbolTypes::of(statements, names.as_slice())
+    NamedSymbols::of(alloc, lines, names.as_slice(), sought)
 }
 
 /// What is written after the number of the warning of a line: which symbol it is about, and which line before it.
@@ -119,18 +133,18 @@ fn warning_words(
     lines: &[Line<'_>],
     prefix: &str,
     warned: &Warned<'_>,
-    types: &SymbolTypes,
+    symbols: &NamedSymbols<'_>,
 ) -> Result<String, AllocError> {
     let texts = texts!(name: warned.line.name, line: warned.before);
     match warned.kind {
         WarningKind::UndefinedSymbol => words_of(alloc, ConfigMessage::UndefinedName.row(), &texts),
         WarningKind::Repeated => words_of(alloc, ConfigMessage::Repeated.row(), &texts),
-        WarningKind::Malformed => malformed_words(alloc, prefix, warned.line.text, types),
+        WarningKind::Malformed => malformed_words(alloc, prefix, warned.line.text, symbols),
         WarningKind::BadValue | WarningKind::BadString => {
-            let typed = types.get(warned.line.name);
+            let typed = symbols.get(warned.line.name);
             let (Some(typed), Some(line)) = (typed, typed.and_then(|typed| lines.get(typed.line)))
             else {
-                return malformed_words(alloc, prefix, warned.line.text, types);
+                return malformed_words(alloc, prefix, warned.line.text, symbols);
             };
             let texts = texts!(path: line.path(), line: line.number(), ..texts);
             value_words(alloc, prefix, warned, typed.kind(), texts)

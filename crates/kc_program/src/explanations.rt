@@ -9,8 +9,8 @@ use crate::sourcing::{
 };
 use bumpalo::Bump;
 use kc_explain::{
-    Explanation, explain_choice, explain_line, explain_loop, explain_symbol, explain_text,
-    explain_warnings, fault_meaning, warning_meaning,
+    Explanation, WarnedFile, explain_choice, explain_line, explain_loop, explain_symbol,
+    explain_text, explain_warnings, fault_meaning, warning_meaning,
 };
 use kc_files::Warning;
 use kc_text::{Line, Text, TextFault, TextProblem};
@@ -284,6 +284,9 @@ pub fn words_of_warnings<F: Folder>(
     let arena = Bump::new(alloc);
     let lines = files.lines(&arena, kconfig).ok()?;
     let prefix = kconfig.prefix.as_str();
-    let config = kconfig.config.bytes();
-    explain_warnings(alloc, lines.as_slice(), prefix, config, warnings).ok()
+    let config = WarnedFile {
+        bytes: kconfig.config.bytes(),
+        warnings,
+    };
+    explain_warnings(alloc, lines.as_slice(), prefix, &[config]).ok()
 }

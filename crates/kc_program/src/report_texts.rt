@@ -5,7 +5,7 @@ use crate::opening::ConfigFile;
 use crate::paths_read::paths_read;
 use crate::reports::{Outcome, ReportInputs};
 use kc_check::{CheckInputs, Judged, SourceText, check, effects_before, merge_report};
-use kc_explain::explain_warnings;
+use kc_explain::{WarnedFile, explain_warnings};
 use kc_facts::{Input, LineIndex, MeantNames, View, push_meant, symbol_names};
 use kc_files::{ConfigLine, LineSays, ReadFault, Warning, WarningKind, read_config_lines};
 use kc_menu::{Help, menu_text};
@@ -112,7 +112,7 @@ pub(crate) fn check_outcome(
     session.fill_all()?;
     let view = View::new(session.solved());
     let index = LineIndex::of(alloc, inputs.lines)?;
-    let unusable = unusable_words(alloc, inputs, inputs.config, warnings)?;
+    let unusable = unusable_words(alloc, inputs, warnings)?;
     let given = names_of(alloc, inputs.variables)?;
     let sources = source_texts(alloc, inputs)?;
     let checked = CheckInputs {
@@ -144,11 +144,10 @@ pub(crate) fn check_outcome(
     })
 }
 
-/// What is said of each line of CONFIG or of a fragment that can't be used, in their order.
+/// What is said of each line of CONFIG that can't be used, in their order.
 fn unusable_words(
     alloc: Global,
     inputs: &ReportInputs<'_>,
-    file: &ConfigFile,
     warnings: &[Warning],
 ) -> Result<Vec<String>, AllocError> {
     let unusable: Vec<Warning> = warnings
@@ -156,13 +155,12 @@ fn unusable_words(
         .copied()
         .filter(|warning| warning.kind != WarningKind::Repeated)
         .collect(alloc)?;
-    explain_warnings(
-        alloc,
-        inputs.lines,
-        inputs.arguments.prefix.as_str(),
-        file.bytes(),
-        unusable.as_slice(),
-    )
+    let config = WarnedFile {
+        bytes: inputs.config.bytes(),
+        warnings: unusable.as_slice(),
+    };
+    let prefix = inputs.arguments.prefix.as_str();
+    explain_warnings(alloc, inputs.lines, prefix, &[config])
 }
 
 /// What is said of each line of the fragments that can't be used, in their order.
@@ -171,17 +169,26 @@ fn unusable_words_of_fragments(
     inputs: &ReportInputs<'_>,
     tree: &Tree,
 ) -> Result<Vec<String>, AllocError> {
-    let mut all = Vec::new(alloc);
+    let prefix = &inputs.arguments.prefix;
+    let mut warnings = Vec::new(alloc);
     for fragment in inputs.fragments {
-        let prefix = &inputs.arguments.prefix;
         let lines = read_again(read_config_lines(alloc, tree, prefix, fragment.bytes()))?;
-        let warnings = warnings_of(alloc, lines.as_slice())?;
-        if !warnings.is_empty() {
-            let mut words = unusable_words(alloc, inputs, fragment, warnings.as_slice())?;
-            all.append(&mut words)?;
-        }
+        warnings.push(warnings_of(alloc, lines.as_slice())?)?;
     }
-    Ok(all)
+    let mut files = Vec::new(alloc);
+    for (fragment, warnings) in inputs.fragments.iter().zip(warnings.as_slice()) {
+        files.push(WarnedFile {
+            bytes: fragment.bytes(),
+            warnings: warnings.as_slice(),
+        })?;
+    }
+    let files = files.as_slice();
+    explain_warnings(
+        alloc,
+        inputs.lines,
+        prefix.as_str(),
+        files,
+    )
 }
 
 /// The warnings of lines, in their order.
