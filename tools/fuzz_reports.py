@@ -66,8 +66,8 @@ UNUSABLE = (
     rb"|.+ in column \d+ is not allowed(?:; leave it out| in a name, which has ASCII letters, digits and _ alone)"
     rb"|no name is (?:before `=`|after .*)|blanks (?:around `=`|before the name|after `=`)(?:; write .+)?"
     rb"|the name does not begin with \w+(?:; write .+)?|a comment has a line of its own; write .+"
-    rb"|no symbol is named .+|\w+ is an? " + KINDS + rb" \(" + AT + rb"\), which takes .+"
-    rb"|no `\"` ends the text of the string \w+ .+|\w+ is a string \(" + AT + rb"\); write .*"
+    rb"|no symbol has this name(?:; did you mean \w+\?)?|it is an? " + KINDS + rb" \(" + AT + rb"\), which takes .+"
+    rb"|it is a string \(" + AT + rb"\)(?:, and no `\"` ends its text)?(?:; write .*)?"
 )
 FINDING = re.compile(
     rb"(?:\w+: )?(?:undefined: .+ \((?:always n|a text)\)(?:; did you mean \w+\?)?"

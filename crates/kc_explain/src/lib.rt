@@ -45,4 +45,4 @@ pub use loops::explain_loop;
 pub use meanings::{fault_meaning, refusal_meaning, warning_meaning};
 pub use symbol_words::explain_symbol;
 pub use texts::explain_text;
-pub use warnings::{WarnedFile, explain_warnings};
+pub use warnings::{Naming, WarnedFile, explain_warnings};

@@ -157,6 +157,8 @@ pub(crate) enum ConfigMessage {
     /// Words after those for a line: the line that is meant.
     Meant,
     UndefinedName,
+    /// The same where the name comes before the words.
+    Undefined,
     Repeated,
     NotSet,
     EmptyValue,
@@ -367,6 +369,7 @@ impl ConfigMessage {
             Self::WithoutPrefix => row!["the name does not begin with " Prefix],
             Self::Meant => row!["; write " Form],
             Self::UndefinedName => row!["no symbol is named " Name],
+            Self::Undefined => row!["no symbol has this name"],
             Self::Repeated =>
                 row![Name " has a usable line before, line " Line "; this one counts"],
             Self::NotSet => row![
@@ -381,7 +384,7 @@ impl ConfigMessage {
             Self::BlanksAfter => row!["blanks after `=`"],
             Self::CommentAfter => row!["a comment has a line of its own"],
             Self::UnclosedString => row![
-                "no `\"` ends the text of the string " Name " (" Path ":" Line ")"
+                Name " is a string (" Path ":" Line "), and no `\"` ends its text"
             ],
             Self::BareString => row![Name " is a string (" Path ":" Line ")"],
             Self::LongString => row![

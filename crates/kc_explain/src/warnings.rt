@@ -30,6 +30,15 @@ struct Warned<'c> {
     before: usize,
 }
 
+/// How words name the symbol of a line.
+#[derive(Clone, Copy, PartialEq, Eq)]
+pub enum Naming {
+    /// By its name.
+    Named,
+    /// Not at all, since its name comes before the words.
+    NamedBefore,
+}
+
 /// What is written after the number of each warning of files, in their order, by the lines of the Kconfig and the prefix of
 /// names. The lines of the Kconfig are read once, however many files and warnings there are, and not where there are none.
 ///
@@ -41,6 +50,7 @@ pub fn explain_warnings(
     lines: &[Line<'_>],
     prefix: &str,
     files: &[WarnedFile<'_>],
+    naming: Naming,
 ) -> Result<Vec<String>, AllocError> {
     let warned = warned_lines(alloc, prefix, files)?;
     let warned = warned.as_slice();
@@ -51,7 +61,7 @@ pub fn explain_warnings(
     let meant = MeantNames::of(alloc, symbols.found(alloc)?)?;
     let mut all = Vec::new(alloc);
     for warned in warned {
-        let mut words = warning_words(alloc, lines, prefix, warned, &symbols)?;
+        let mut words = warning_words(alloc, lines, prefix, warned, &symbols, naming)?;
         if warned.kind == WarningKind::UndefinedSymbol {
             push_meant(&mut words, meant.meant(prefix, warned.line.name))?;
         }
@@ -134,10 +144,21 @@ fn warning_words(
     prefix: &str,
     warned: &Warned<'_>,
     symbols: &NamedSymbols<'_>,
+    naming: Naming,
 ) -> Result<String, AllocError> {
-    let texts = texts!(name: warned.line.name, line: warned.before);
+    let name = match naming {
+        Naming::Named => warned.line.name,
+        Naming::NamedBefore => "it",
+    };
+    let texts = texts!(name: name, line: warned.before);
     match warned.kind {
-        WarningKind::UndefinedSymbol => words_of(alloc, ConfigMessage::UndefinedName.row(), &texts),
+        WarningKind::UndefinedSymbol => {
+            let message = match naming {
+                Naming::Named => ConfigMessage::UndefinedName,
+                Naming::NamedBefore => ConfigMessage::Undefined,
+            };
+            words_of(alloc, message.row(), &texts)
+        }
         WarningKind::Repeated => words_of(alloc, ConfigMessage::Repeated.row(), &texts),
         WarningKind::Malformed => malformed_words(alloc, prefix, warned.line.text, symbols),
         WarningKind::BadValue | WarningKind::BadString => {

@@ -9,7 +9,7 @@ use crate::sourcing::{
 };
 use bumpalo::Bump;
 use kc_explain::{
-    Explanation, WarnedFile, explain_choice, explain_line, explain_loop, explain_symbol,
+    Explanation, Naming, WarnedFile, explain_choice, explain_line, explain_loop, explain_symbol,
     explain_text, explain_warnings, fault_meaning, warning_meaning,
 };
 use kc_files::Warning;
@@ -288,5 +288,5 @@ pub fn words_of_warnings<F: Folder>(
         bytes: kconfig.config.bytes(),
         warnings,
     };
-    explain_warnings(alloc, lines.as_slice(), prefix, &[config]).ok()
+    explain_warnings(alloc, lines.as_slice(), prefix, &[config], Naming::Named).ok()
 }

@@ -5,7 +5,7 @@ use crate::opening::ConfigFile;
 use crate::paths_read::paths_read;
 use crate::reports::{Outcome, ReportInputs};
 use kc_check::{CheckInputs, Judged, SourceText, check, effects_before, merge_report};
-use kc_explain::{WarnedFile, explain_warnings};
+use kc_explain::{Naming, WarnedFile, explain_warnings};
 use kc_facts::{Input, LineIndex, MeantNames, View, push_meant, symbol_names};
 use kc_files::{ConfigLine, LineSays, ReadFault, Warning, WarningKind, read_config_lines};
 use kc_menu::{Help, menu_text};
@@ -160,7 +160,7 @@ fn unusable_words(
         warnings: unusable.as_slice(),
     };
     let prefix = inputs.arguments.prefix.as_str();
-    explain_warnings(alloc, inputs.lines, prefix, &[config])
+    explain_warnings(alloc, inputs.lines, prefix, &[config], Naming::NamedBefore)
 }
 
 /// What is said of each line of the fragments that can't be used, in their order.
@@ -188,6 +188,7 @@ fn unusable_words_of_fragments(
         inputs.lines,
         prefix.as_str(),
         files,
+        Naming::NamedBefore,
     )
 }
 
