@@ -74,9 +74,29 @@ impl<'t> Found<'t> {
 
     /// The names of the variables to which the lines refer.
     pub fn names(&self, alloc: Global) -> Result<Vec<&str>, AllocError> {
+        self.names_before(alloc, "")
+    }
+
+    /// The names of those to which the lines refer before a text with which they end.
+    fn names_before(&self, alloc: Global, end: &str) -> Result<Vec<&str>, AllocError> {
         match self.value() {
-            Some(value) => value_references_in(alloc, value),
-            None => references_in(alloc, self.text()),
+            Some(value) => value_references_in(alloc, value.strip_suffix(end).unwrap_or("")),
+            None => references_in(alloc, self.text().strip_suffix(end).unwrap_or("")),
+        }
+    }
+
+    /// The first variable to which the lines refer before a text with which they end, and whose text, by its definition in
+    /// the same file, has a dollar that begins no reference.
+    pub fn faulty_before(&self, alloc: Global, end: &str) -> Result<Option<&str>, AllocError> {
+        let names = self.names_before(alloc, end)?;
+        Ok(names.iter().copied().find(|name| self.is_faulty(name)))
+    }
+
+    /// Whether the text of a variable, by its definition in the same file, has such a dollar.
+    fn is_faulty(&self, name: &str) -> bool {
+        match self.definitions.get(name) {
+            Some((_, value)) => stop_in_value(value.as_str()).is_some(),
+            None => false,
         }
     }
 

@@ -9,6 +9,7 @@ mod choice_words;
 mod corrections;
 mod expressions;
 mod forms;
+mod help_texts;
 mod hints;
 mod indentation;
 mod items;

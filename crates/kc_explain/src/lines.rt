@@ -6,6 +6,7 @@ ghost use Rattle.kc_facts.specs.Named.{AreRemarksOf};
 
 use crate::blocks::explain_block;
 use crate::forms::explain_form;
+use crate::help_texts::push_of_help;
 use crate::limits::explain_limit;
 use crate::piece::{Piece, Texts};
 use crate::said::{Said, Unsaid, or_meaning, say};
@@ -100,9 +101,17 @@ fn explain_here(suspect: &Suspect<'_, '_, '_>, text: &str, problem: LineProblem)
     match problem {
         LineProblem::Limit => explain_limit(suspect),
         LineProblem::UnknownStatement => explain_unknown(suspect, text),
-        LineProblem::Malformed => explain_form(suspect),
-        LineProblem::StrayAttribute => explain_stray(suspect),
+        LineProblem::Malformed => or_of_help(suspect, text, explain_form(suspect)),
+        LineProblem::StrayAttribute => or_of_help(suspect, text, explain_stray(suspect)),
         LineProblem::UnbalancedBlock => explain_block(suspect),
         LineProblem::Unsupported => explain_unsupported(suspect),
     }
+}
+
+/// What is said of a line, and that it may be meant as the first of a help text that is empty.
+fn or_of_help(suspect: &Suspect<'_, '_, '_>, text: &str, said: Said) -> Said {
+    let mut finding = said?;
+    let alloc = suspect.statements.alloc;
+    push_of_help(alloc, &mut finding.words, text, suspect.line.number())?;
+    Ok(finding)
 }

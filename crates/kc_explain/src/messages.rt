@@ -101,6 +101,8 @@ pub(crate) enum TextMessage {
     LineForEach,
     /// Words after those for a character or a quote in a line that begins with `//`.
     CommentBegins,
+    /// Words after those for a mistake in the line after a `help` without a text.
+    OfHelp,
     Function,
     ReservedName,
     Dollar,
@@ -285,6 +287,9 @@ impl TextMessage {
             Self::WriteOr => row!["; write `||`"],
             Self::LineForEach => row!["; write a line for each"],
             Self::CommentBegins => row!["; a comment begins with `#`"],
+            Self::OfHelp => row![
+                "; if the line is text of the `help` in line " Line ", it has to be indented"
+            ],
             Self::Function => row![
                 "the function `" Name "` is not run: expand the tree first, see docs/TREES.md"
             ],

@@ -1,6 +1,7 @@
 //! What is said of a fault of a text.
 
 use crate::characters::push_character;
+use crate::help_texts::push_of_help;
 use crate::hints::hint_at;
 use crate::items::{Found, Spot, find_item, spot_after};
 use crate::meanings::fault_meaning;
@@ -144,6 +145,7 @@ impl TextLine<'_> {
         if let Some(hint) = hint_at(before, stop) {
             words.push_str(words_of(self.alloc, hint.row(), &texts!())?.as_str())?;
         }
+        push_of_help(self.alloc, &mut words, self.text, self.number)?;
         self.show(words, spot.line)
     }
 
@@ -159,6 +161,9 @@ impl TextLine<'_> {
         let Some((spot, stop)) = self.stop(found, StopKind::BadReference) else {
             return self.explain_expanded(found);
         };
+        if let Some(name) = found.faulty_before(self.alloc, stop)? {
+            return self.say_of_variable(name);
+        }
         let (message, name) = match dollar_of(stop.get(1..).unwrap_or("")) {
             Dollar::Function(name) => (TextMessage::Function, name),
             Dollar::Reserved(name) => (TextMessage::ReservedName, name),
@@ -177,10 +182,18 @@ impl TextLine<'_> {
 
     /// What is said of a dollar that begins no reference in the text of a variable (K10).
     fn explain_expanded(&self, found: &Found<'_>) -> Result<Explanation, AllocError> {
+        if let Some(name) = found.faulty_before(self.alloc, "")? {
+            return self.say_of_variable(name);
+        }
         let names = found.names(self.alloc)?;
-        let [name] = names.as_slice() else {
-            return self.plain(10);
-        };
+        match names.as_slice() {
+            [name] => self.say_of_variable(name),
+            _ => self.plain(10),
+        }
+    }
+
+    /// That a dollar which begins no reference is in the text of a variable (K10).
+    fn say_of_variable(&self, name: &str) -> Result<Explanation, AllocError> {
         self.say(
             TextMessage::DollarOfVariable,
             texts!(name: name),

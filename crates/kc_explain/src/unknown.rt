@@ -1,5 +1,6 @@
 //! What is said of a line that begins with no known word (K04).
 
+use crate::help_texts::empty_help_before;
 use crate::indentation::{help_indentation, indentation, line_of};
 use crate::lines::Suspect;
 use crate::messages::LineMessage;
@@ -8,7 +9,6 @@ use crate::piece::texts;
 use crate::said::Said;
 use crate::spelling::tokens_text;
 use kc_text::{Line, Token};
-use std::alloc::AllocError;
 
 /// How a line after a help text is indented.
 #[derive(Clone, Copy)]
@@ -52,28 +52,6 @@ fn after_help(suspect: &Suspect<'_, '_, '_>, text: &str) -> Option<AfterHelp> {
     (after.of_line < after.of_text).then_some(after)
 }
 
-/// The number of the `help` line before a line in the same file, where its text is empty and nothing but blank lines and
-/// comments is between them. If the first line of a help text is not indented, the text is empty.
-fn empty_help(suspect: &Suspect<'_, '_, '_>, text: &str) -> Result<Option<usize>, AllocError> {
-    let line = suspect.line;
-    let before = suspect.statements.lines.get(..suspect.at).unwrap_or(&[]);
-    let Some(help) = before.last().filter(|help| help.run() == line.run()) else {
-        return Ok(None);
-    };
-    let Some(words) = help.help() else {
-        return Ok(None);
-    };
-    let words = words.to_text(suspect.statements.alloc)?;
-    let count = line
-        .number()
-        .saturating_sub(help.number())
-        .saturating_sub(1);
-    let mut between = text.lines().skip(help.number()).take(count);
-    let is_next = between.all(|line| line.trim().is_empty() || line.trim().starts_with('#'));
-    let is_empty = words.as_str().is_empty() && !text.is_empty();
-    Ok((is_empty && is_next).then_some(help.number()))
-}
-
 /// What is said of an unknown word. After a help text it is one of that text, unless it is near a keyword and indented as
 /// `help` is. After a `help` without a text it is one of the text, unless it is near a keyword and in small letters.
 fn explain_word(suspect: &Suspect<'_, '_, '_>, word: &str, text: &str) -> Said {
@@ -81,7 +59,8 @@ fn explain_word(suspect: &Suspect<'_, '_, '_>, word: &str, text: &str) -> Said {
         return suspect.say(LineMessage::CommentSign.row(), &texts!(word: word));
     }
     let after = after_help(suspect, text);
-    let help = empty_help(suspect, text)?;
+    let alloc = suspect.statements.alloc;
+    let help = empty_help_before(alloc, text, suspect.line.number())?;
     let is_small = !word.bytes().any(|byte| byte.is_ascii_uppercase());
     let wanted = match wanted_for(suspect.line, word) {
         wanted if word == "allnoconfig_y" => wanted,
