@@ -9,6 +9,8 @@ use Rattle.kc_explain.specs.declared.messages.FormMessage.{FormMessage}
 use Rattle.kc_explain.specs.declared.messages.FormMessage.TheVariants as form
 use Rattle.kc_explain.specs.declared.messages.LineMessage.{LineMessage}
 use Rattle.kc_explain.specs.declared.messages.LineMessage.TheVariants as line
+use Rattle.kc_explain.specs.declared.messages.RefusalMessage.{RefusalMessage}
+use Rattle.kc_explain.specs.declared.messages.RefusalMessage.TheVariants as refusal
 use Rattle.kc_explain.specs.declared.messages.ChoiceMessage.{ChoiceMessage}
 use Rattle.kc_explain.specs.declared.messages.ChoiceMessage.TheVariants as choice
 use Rattle.kc_explain.specs.declared.messages.SymbolMessage.{SymbolMessage}
@@ -187,6 +189,17 @@ config_slots config.CommentAfter = []
 config_slots config.UnclosedString = slot.Name ∷ slot.Path ∷ slot.Line ∷ []
 config_slots config.BareString = slot.Name ∷ slot.Path ∷ slot.Line ∷ []
 config_slots config.LongString = slot.Name ∷ slot.Path ∷ slot.Line ∷ []
+
+abbrev pub refusal_slots : RefusalMessage → List Slot
+refusal_slots refusal.Empty = []
+refusal_slots refusal.Unknown = slot.Word ∷ []
+refusal_slots refusal.Listed = []
+refusal_slots refusal.Missing = slot.Form ∷ []
+refusal_slots refusal.Spare = slot.Form ∷ []
+refusal_slots refusal.WithoutPrefix = slot.Prefix ∷ []
+refusal_slots refusal.Unfit = slot.Name ∷ slot.Kind ∷ slot.List ∷ []
+refusal_slots refusal.NoCount = slot.Word ∷ []
+refusal_slots refusal.Ended = slot.Word ∷ []
 
 -- for the words by which a line has a node use the next: the kind of a block, and the other symbol
 abbrev pub way_slots : Way → List Slot

@@ -3,7 +3,7 @@
 
 ghost use Rattle.std.specs.Prelude.{◌≡◌, true};
 ghost use Rattle.std.specs.List.{list_all};
-ghost use Rattle.kc_explain.specs.Messages.{choice_slots, config_slots, fills, form_slots, line_slots, node_slots, symbol_slots, text_slots, way_slots};
+ghost use Rattle.kc_explain.specs.Messages.{choice_slots, config_slots, fills, form_slots, line_slots, node_slots, refusal_slots, symbol_slots, text_slots, way_slots};
 
 use crate::causes::Way;
 use crate::piece::{Piece, Slot};
@@ -170,6 +170,22 @@ pub(crate) enum ConfigMessage {
     UnclosedString,
     BareString,
     LongString,
+}
+
+/// What is said of a command of a session that is refused.
+#[derive(Clone, Copy)]
+pub(crate) enum RefusalMessage {
+    Empty,
+    Unknown,
+    /// Words after those for an unknown command, where none is near.
+    Listed,
+    Missing,
+    Spare,
+    /// Words after those for a name that no symbol has.
+    WithoutPrefix,
+    Unfit,
+    NoCount,
+    Ended,
 }
 
 impl LineMessage {
@@ -395,6 +411,25 @@ impl ConfigMessage {
             Self::LongString => row![
                 Name " is a string (" Path ":" Line "), which takes a text in quotes"
             ],
+        }
+    }
+}
+
+impl RefusalMessage {
+    /// Its row.
+    pub fn row(self) -> &'static [Piece]
+        ensures { list_all (fills (refusal_slots self)) result.now ≡ true }
+    {
+        match self {
+            Self::Empty => row!["the line is empty"],
+            Self::Unknown => row!["no command is named " Word],
+            Self::Listed => row!["; kconf session --help lists them"],
+            Self::Missing => row!["an argument is missing: " Form],
+            Self::Spare => row!["an argument too many: " Form],
+            Self::WithoutPrefix => row!["; names are written without " Prefix],
+            Self::Unfit => row![Name " is " Kind ", which takes " List],
+            Self::NoCount => row!["`" Word "` is no count of lines, which has one to seven digits"],
+            Self::Ended => row!["the input ended before " Word " lines"],
         }
     }
 }

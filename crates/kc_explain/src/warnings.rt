@@ -203,7 +203,7 @@ fn value_words(
 }
 
 /// The values that a type takes.
-fn values_of(kind: SymbolType) -> &'static str {
+pub(crate) fn values_of(kind: SymbolType) -> &'static str {
     match kind {
         SymbolType::Bool => "n and y",
         SymbolType::Tristate => "n, m and y",

@@ -45,6 +45,14 @@ impl CommandLine {
         self
     }
 
+    /// Whether it is UTF-8, as far as that is known: a long line is not kept.
+    pub(crate) fn is_utf8(&self) -> bool {
+        match self.bytes.get(..self.len) {
+            Some(line) => from_utf8(line).is_ok(),
+            None => true,
+        }
+    }
+
     /// The text without its line end, if it can be shown: it is short, and UTF-8 without control characters.
     pub(crate) fn text(&self) -> Option<&str> {
         let line = self.bytes.get(..self.len)?;

@@ -3,9 +3,13 @@
 ghost use Rattle.std.specs.Prelude.{◌≡◌, OnSome};
 
 use crate::commands_read::CommandLine;
-use kc_explain::refusal_meaning;
+use kc_explain::{RefusalWords, refusal_meaning};
+use std::alloc::Global;
 use std::cell::Cell;
 use std::io::{self, Write};
+
+/// What is said of a command that is not UTF-8.
+const NOT_UTF8: &str = "the command is not UTF-8";
 
 /// How many bytes the line of a refusal has: `refused N` and a line feed.
 const REFUSAL_LEN: usize = 10;
@@ -16,6 +20,8 @@ const REFUSAL_LEN: usize = 10;
 /// A reply ends where it is flushed, as the serving of a session flushes after each.
 #[derive(Drop)]
 pub struct ExplainedReplies<'w, W, E> {
+    alloc: Global,
+    words: &'w RefusalWords<'w>,
     output: &'w mut W,
     errors: &'w mut E,
     /// The line of the command, as far as it was read.
@@ -30,11 +36,15 @@ pub struct ExplainedReplies<'w, W, E> {
 impl<'w, W: Write, E: Write> ExplainedReplies<'w, W, E> {
     /// An output to which nothing is written yet.
     pub fn new(
+        alloc: Global,
+        words: &'w RefusalWords<'w>,
         output: &'w mut W,
         errors: &'w mut E,
         line: &'w Cell<CommandLine>,
     ) -> ExplainedReplies<'w, W, E> {
         ExplainedReplies {
+            alloc,
+            words,
             output,
             errors,
             line,
@@ -64,22 +74,33 @@ impl<'w, W: Write, E: Write> ExplainedReplies<'w, W, E> {
         let line = self.line.replace(CommandLine::unread());
         if let Some(number) = refusal {
             // What is not written changes no reply.
-            let _ = self.explain(number, line.text());
+            let _ = self.explain(number, &line);
         }
     }
 
     /// Writes the words of a refusal, and the command, if it can be shown.
-    fn explain(&mut self, number: u8, text: Option<&str>) -> io::Result<()> {
+    fn explain(&mut self, number: u8, line: &CommandLine) -> io::Result<()> {
         let command = self.commands;
-        let words = refusal_meaning(number).unwrap_or("");
-        write!(
-            self.errors,
-            "kconf: command {command}: refused {number}: {words}"
-        )?;
-        match text {
-            Some(text) => writeln!(self.errors, ": `{text}`"),
-            None => writeln!(self.errors),
+        write!(self.errors, "kconf: command {command}: refused {number}: ")?;
+        let Some(text) = line.text() else {
+            return writeln!(self.errors, "{}", words_without_text(number, line));
+        };
+        match self.words.words(self.alloc, number, text) {
+            Ok(Some(words)) => writeln!(self.errors, "{words}: `{text}`"),
+            _ => writeln!(
+                self.errors,
+                "{}: `{text}`",
+                refusal_meaning(number).unwrap_or("")
+            ),
         }
+    }
+}
+
+/// The words of a refusal of a command that can't be shown.
+fn words_without_text(number: u8, line: &CommandLine) -> &'static str {
+    match number {
+        1 if !line.is_utf8() => NOT_UTF8,
+        _ => refusal_meaning(number).unwrap_or(""),
     }
 }
 

@@ -20,6 +20,7 @@ use crate::targets::Target;
 use crate::variables_file::{VariablesFileFault, read_variables, with_words};
 use clap::Error;
 use clap::error::ErrorKind;
+use kc_explain::{RefusalWords, SymbolNames};
 use kc_files::Warning;
 use kc_session::{IoFault, Reply, Session, run};
 use kc_text::{Text, Vars};
@@ -166,7 +167,8 @@ fn serve_session<F: Folder, R: Read, W: Write, E: Write>(
     let mut session = open_session(alloc, kconfig, wording, errors)?;
     let served = match (target, wording) {
         (Target::Session, Wording::Explained) => {
-            serve_explained(alloc, &mut session, input, output, errors)
+            let prefix = kconfig.prefix.as_str();
+            serve_explained(alloc, prefix, &mut session, input, output, errors)
         }
         (target, _) => write_target(alloc, target, &mut session, input, output),
     };
@@ -181,17 +183,20 @@ fn serve_session<F: Folder, R: Read, W: Write, E: Write>(
 /// Serves a session whose refusals are explained.
 fn serve_explained<R: Read, W: Write, E: Write>(
     alloc: Global,
+    prefix: &str,
     session: &mut Session,
     input: &mut R,
     output: &mut W,
     errors: &mut E,
 ) -> Result<(), Fault> {
+    let names = SymbolNames::of(alloc, session.tree())?;
+    let words = RefusalWords::of(alloc, &names, prefix)?;
     let line = Cell::new(CommandLine::unread());
     let Ok(input) = BufReader::new(alloc, &mut *input) else {
         return Err(Fault::NoMemory);
     };
     let mut commands = CommandsRead { input, line: &line };
-    let mut replies = ExplainedReplies::new(output, errors, &line);
+    let mut replies = ExplainedReplies::new(alloc, &words, output, errors, &line);
     write_target(alloc, Target::Session, session, &mut commands, &mut replies)
 }
 

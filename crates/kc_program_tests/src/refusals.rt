@@ -44,8 +44,8 @@ fn refusals_are_explained_whatever_a_write_takes(rt: HostRuntime) -> Result<(), 
     );
     let replies = "ok\nrefused 1\nA type=bool value=y vis=y can=n,y user=y\nok\nrefused 3\n";
     let words =
-        "kconf: command 2: refused 1: not UTF-8, no such command, or an argument missing or too many: `frob`
-kconf: command 4: refused 3: not a value of the symbol's type: `set A m`
+        "kconf: command 2: refused 1: no command is named frob; kconf session --help lists them: `frob`
+kconf: command 4: refused 3: A is a bool, which takes n and y: `set A m`
 ";
     assert_eq!(rt; output.text.as_slice(), replies.as_bytes());
     assert_eq!(rt; errors.as_slice(), words.as_bytes());
