@@ -107,13 +107,13 @@ impl<'a> Arguments<'a> {
     }
 }
 
-/// What is said where the first word after the program's name is a target of other tools, and none of kconf.
+/// What is said where the target, or what help is wanted of, is one of other tools, and none of kconf.
 fn other_target<'a, S: AsStr>(
     alloc: Global,
     command: &mut Command<'_>,
     words: &[S],
 ) -> Result<Option<BadWords<'a>>, AllocError> {
-    let Some(name) = words.get(1).map(|word| word.as_str()) else {
+    let Some(name) = named_target(words) else {
         return Ok(None);
     };
     let Some(hint) = Hint::of_target(name) else {
@@ -125,6 +125,15 @@ fn other_target<'a, S: AsStr>(
         error,
         hint: Some(hint),
     }))
+}
+
+/// The word that names a target: the first after the program's name, and after `help` the next one.
+fn named_target<S: AsStr>(words: &[S]) -> Option<&str> {
+    let first = words.get(1)?.as_str();
+    match words.get(2) {
+        Some(second) if first == "help" => Some(second.as_str()),
+        _ => Some(first),
+    }
 }
 
 impl From<AllocError> for WordFault<'_> {
