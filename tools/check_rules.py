@@ -147,7 +147,7 @@ def defines(text: str, name: str) -> bool:
 
 def has_item(text: str, name: str) -> bool:
     """Whether a file of src/ has a function or a constant of a name."""
-    kind = r"\s*(?:pub(?:\(crate\))? )?(?:const )?(?:fn|const) "
+    kind = r"\s*(?:pub(?:\((?:crate|super)\))? )?(?:const )?(?:fn|const) "
     return bool(re.search(rf"^{kind}{re.escape(name)}\b", text, re.MULTILINE))
 
 

@@ -8,9 +8,8 @@ use crate::piece::{texts, words_of};
 use crate::said::{Said, Unsaid};
 use crate::spelling::{begins_comment, first_word, tokens_text, written_text};
 use kc_facts::Finding;
-use kc_statement::{
-    Keyword, Mistake, Names, Seed, Unread, Wanted, is_word, read_keyword, read_statement,
-};
+use kc_outline::form_mistake;
+use kc_statement::{Keyword, Mistake, Wanted, is_word, read_keyword};
 use kc_text::Token;
 use std::alloc::AllocError;
 
@@ -75,21 +74,9 @@ fn is_in_condition(suspect: &Suspect<'_, '_, '_>, mistake: &Mistake) -> bool {
 /// The first place in which a line goes another way than its form, if it does. That depends on no names. A `source` that
 /// is as it is to be has no form, and no mistake.
 fn mistake_of(suspect: &Suspect<'_, '_, '_>) -> Result<Option<Mistake>, AllocError> {
-    let line = suspect.line;
-    let names = Names::with_capacity(suspect.statements.alloc, Seed::fixed(), 0)?;
-    match read_statement(
-        suspect.statements.alloc,
-        &names,
-        line,
-        read_keyword(line),
-        0,
-    ) {
-        Ok(_) => Ok(None),
-        Err(Unread::At(mistake)) if mistake.left == 0 && mistake.wanted == Wanted::Nothing => {
-            Ok(None)
-        }
-        Err(Unread::At(mistake)) => Ok(Some(mistake)),
-        Err(Unread::NoMemory) => Err(AllocError),
+    match form_mistake(suspect.statements.alloc, suspect.line)? {
+        Some(mistake) if mistake.left == 0 && mistake.wanted == Wanted::Nothing => Ok(None),
+        found => Ok(found),
     }
 }
 

@@ -7,23 +7,17 @@ use Rattle.std.proofs.lemmas.List.Elements.{All-push, All-weaker, Contains-push,
 use Rattle.std.proofs.lemmas.List.Quantifiers.{all_pairs_push}
 use Rattle.kc_text.specs.LineValue.{LineValue}
 use Rattle.kc_statement.specs.Names.{names_of}
-use Rattle.kc_statement.specs.Statements.{HasForm}
 use Rattle.kc_statement.specs.declared.statement.Statement.{Statement}
 use Rattle.kc_outline.specs.declared.fault.FaultyLine.{FaultyLine}
 use Rattle.kc_outline.specs.declared.fault.LineProblem.{LineProblem}
 use Rattle.kc_outline.specs.declared.fault.LineProblem.TheVariants.{Limit, Malformed}
 use Rattle.kc_outline.specs.Enclosing.{before, open_blocks, innermost, choice_among, nearest_statement, owner_at}
 use Rattle.kc_outline.specs.FaultyLines.{HasProblemAt, IsAfterTooDeep, AreLineFaults, IsRefusal, AreRefusedForFirst}
-use Rattle.kc_outline.specs.LineFaults.{HasProblem, IsSound, early_problem, late_problem, first_problem, is_no_choice_default, is_past_limit, opens_too_deep, test}
+use Rattle.kc_outline.specs.LineFaults.{HasProblem, IsSound, late_problem, first_problem, is_no_choice_default, is_past_limit, opens_too_deep, test}
 use Rattle.kc_outline.specs.Reader.{IsFound, IsOnlyForm, IsOnlyProblem, faults_with}
 use Rattle.kc_outline.specs.TreeOf.{Reading, IsReading, tree_of}
-use Rattle.kc_outline.proofs.OnlyLaws.{late_alone, sound_alone, only_fault}
+use Rattle.kc_outline.proofs.OnlyLaws.{sound_alone, only_fault}
 use Rattle.kc_outline.proofs.PlaceLaws.{AreRead, last_place, read_none, read_push}
-
--- what is found of a line that has a form
-pub found_late : (names : List (List ℕ)) (earlier : List LineValue) (last : Bool) (l : LineValue) (s : Statement) (found : Option LineProblem) → early_problem earlier last l ≡ None → HasForm names l s → IsOnlyForm names l s → found ≡ late_problem earlier l s → IsFound names earlier last l found
-found_late names earlier last l s None early form only late = (s, record { early = early; form = form; late = sym late }, only)
-found_late names earlier last l s (Some p) early form only late = late_alone names earlier last l s p early form only (sym late)
 
 -- the first fault, which stops the reading after the lines before it are read
 pub record IsStoppedAt (lines : List LineValue) (f : FaultyLine) : Type 0 where

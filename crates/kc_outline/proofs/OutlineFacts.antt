@@ -27,12 +27,13 @@ use Rattle.kc_outline.specs.declared.fault.LineFault.{LineFault}
 use Rattle.kc_outline.specs.declared.fault.LineFault.TheVariants as fault
 use Rattle.kc_outline.specs.declared.context.Context.{Context}
 use Rattle.kc_outline.specs.declared.stop.Stop.{Stop}
-use Rattle.kc_outline.specs.declared.stop.Stop.TheVariants.{Problem, NoMemory}
+use Rattle.kc_outline.specs.declared.fault.LineProblem.{LineProblem}
+use Rattle.kc_outline.specs.Stops.{problem_in}
 use Rattle.kc_outline.specs.Enclosing.{before}
 use Rattle.kc_outline.specs.FirstProblem.{IsReadFault, AreRefusedFor}
 use Rattle.kc_statement.specs.Names.{names_of}
 use Rattle.kc_outline.specs.ContextAfter.{IsContextAfter}
-use Rattle.kc_outline.specs.Reader.{AreReadingsBefore, IsOnlyProblem, IsOutlineAfter, IsStop, IsReportedFor}
+use Rattle.kc_outline.specs.Reader.{AreReadingsBefore, IsOnlyProblem, IsOutlineAfter, IsStop, IsStopFor, IsReportedAs, IsReportedFor}
 use Rattle.kc_statement.specs.Statements.{HasFormOf, HasForm}
 use Rattle.kc_outline.specs.TreeOf.{Reading, IsOutlineOf, tree_of, symbol_at, symbol_entry, menu_entry, choice_entry, comment_entry, definition_number, entry_at}
 use Rattle.kc_outline.specs.TreeValue.{TreeValue}
@@ -189,13 +190,13 @@ pub record IsTheFault (lines : List LineValue) (f : LineFault) : Type 0 where
   pub fault : IsReadFault lines f
   pub refused : AreRefusedFor lines f
 
-pub first_fault : (lines : List LineValue) (i : ℕ) (l : LineValue) (names : List (List ℕ)) (t : TreeValue) (stop : Stop) (reported : LineFault)
+fault_of : (lines : List LineValue) (i : ℕ) (l : LineValue) (names : List (List ℕ)) (t : TreeValue) (found : Option LineProblem) (reported : LineFault)
     → slice_get lines i ≡ Some l → names ≡ names_of lines
     → IsOutlineAfter names (length lines - i) (before lines i) t
-    → IsStop names (before lines i) (length lines - i - 1 == 0) l stop
-    → i < length lines → IsReportedFor stop l reported → IsTheFault lines reported
-first_fault lines i l names t NoMemory reported is same after stopped within tells = subst (IsTheFault lines) (sym tells) (record { fault = tt; refused = tt })
-first_fault lines i l names t (Problem problem) (fault.At p path number) is same after stopped within tells =
+    → IsStopFor names (before lines i) (length lines - i - 1 == 0) l found
+    → i < length lines → IsReportedAs found l reported → IsTheFault lines reported
+fault_of lines i l names t None reported is same after stopped within tells = subst (IsTheFault lines) (sym tells) (record { fault = tt; refused = tt })
+fault_of lines i l names t (Some problem) (fault.At p path number) is same after stopped within tells =
     let last : (length lines - i - 1 == 0) ≡ (i + 1 == length lines) = last_place (length lines) i within in
     let here : IsOnlyProblem names (before lines i) (i + 1 == length lines) l problem = subst (λ b. IsOnlyProblem names (before lines i) b l problem) last stopped in
     let named : IsOnlyProblem (names_of lines) (before lines i) (i + 1 == length lines) l problem = subst (λ ns. IsOnlyProblem ns (before lines i) (i + 1 == length lines) l problem) same here in
@@ -217,4 +218,11 @@ first_fault lines i l names t (Problem problem) (fault.At p path number) is same
       );
       refused = only_fault lines i l is p earlier.readings read alone path number tells.1 tells.2;
     }
-first_fault lines i l names t (Problem problem) fault.NoMemory is same after stopped within tells = record { fault = tt; refused = tt }
+fault_of lines i l names t (Some problem) fault.NoMemory is same after stopped within tells = record { fault = tt; refused = tt }
+
+pub first_fault : (lines : List LineValue) (i : ℕ) (l : LineValue) (names : List (List ℕ)) (t : TreeValue) (stop : Stop) (reported : LineFault)
+    → slice_get lines i ≡ Some l → names ≡ names_of lines
+    → IsOutlineAfter names (length lines - i) (before lines i) t
+    → IsStop names (before lines i) (length lines - i - 1 == 0) l stop
+    → i < length lines → IsReportedFor stop l reported → IsTheFault lines reported
+first_fault lines i l names t stop reported is same after stopped within tells = fault_of lines i l names t (problem_in stop) reported is same after stopped within tells

@@ -5,6 +5,7 @@ pub mod Enclosing
 pub mod Entries
 pub mod FaultyLines
 pub mod FirstProblem
+pub mod FormMistakes
 pub mod Grouped
 pub mod LineFaults
 pub mod Members

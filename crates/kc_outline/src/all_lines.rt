@@ -20,10 +20,10 @@ ghost use Rattle.kc_text.specs.declared.reading.TheConstants.{MOST_LINES};
 
 use crate::context::Context;
 use crate::fault::LineFault;
-use crate::one_line::read_line;
 use crate::outline::Outline;
+use crate::reading::read_line;
 use crate::stop::Stop;
-use kc_statement::{Seed, read_names};
+use kc_statement::{Seed, read_keyword, read_names};
 use kc_text::{Line, Text};
 use std::alloc::Global;
 
@@ -31,7 +31,7 @@ use std::alloc::Global;
 fn line_fault(alloc: Global, stop: Stop, line: &Line<'_>) -> LineFault
     ensures { IsReportedFor stop line.now result }
 {
-    let Stop::Problem(problem) = stop else {
+    let Some(problem) = stop.problem() else {
         return LineFault::NoMemory;
     };
     match Text::copy_of(alloc, line.path()) {
@@ -80,8 +80,8 @@ pub fn read_outline(alloc: Global, seed: Seed, lines: &[Line<'_>]) -> Result<Out
     let mut outline = Outline::new(alloc, names)?;
     let mut context = Context::new(alloc);
     for (index, line) in lines.iter().enumerate() {
-        let following = lines.len() - index - 1;
-        if let Err(stop) = read_line(alloc, &mut outline, &mut context, line, following) {
+        let (keyword, following) = (read_keyword(line), lines.len() - index - 1);
+        if let Err(stop) = read_line(alloc, &mut outline, &mut context, line, keyword, following) {
             return Err(line_fault(alloc, stop, line));
         }
     }

@@ -7,6 +7,7 @@ ghost use Rattle.kc_outline.specs.LineFaults.{leaves_open, stays_open};
 ghost use Rattle.kc_outline.specs.Enclosing.{choice_among, innermost};
 ghost use Rattle.kc_outline.specs.ContextAfter.{blocks_after, owner_made, HasRoom, IsContextAfter, IsPlaceAfter};
 ghost use Rattle.kc_statement.specs.Statements.{HasForm};
+ghost use Rattle.kc_outline.specs.Reader.{owner_after};
 ghost use Rattle.kc_outline.specs.TreeOf.{defined_in};
 
 use crate::id::{BlockId, ChoiceId, CommentId};
@@ -140,16 +141,6 @@ impl OpenBlocks {
     }
 }
 
-/// The symbol of a definition.
-pub(crate) fn defined_symbol(statement: &Statement) -> Option<SymId>
-    ensures { result ≡ defined_in statement.now }
-{
-    match statement {
-        Statement::Config(symbol) => *symbol,
-        _ => None,
-    }
-}
-
 /// What is known of the lines before a line.
 #[derive(Drop)]
 pub(crate) struct Context {
@@ -218,7 +209,7 @@ impl Context {
     }
 
     /// What a statement of this keyword makes that takes attributes, which may define a symbol.
-    fn made_by(&self, keyword: Keyword, symbol: Option<SymId>) -> Option<Owner>
+    pub(crate) fn made_by(&self, keyword: Keyword, symbol: Option<SymId>) -> Option<Owner>
         requires { HasRoom self.now }
         ensures { result ≡ owner_made keyword symbol self.now.definitions self.now.blocks self.now.choices self.now.comments }
     {
@@ -282,7 +273,8 @@ impl Context {
         }
     }
 
-    /// Goes past a line of this keyword, which has a form and may define a symbol.
+    /// Goes past a line of this keyword, which may define a symbol. Where it has a problem, what it makes is not looked
+    /// at: the place after it goes by the keyword alone.
     pub(crate) fn pass(
         &mut self,
         line: &Line<'_>,
@@ -291,9 +283,11 @@ impl Context {
     ) -> Result<(), AllocError>
         requires room { HasRoom self.old }
         requires keyword { keyword ≡ keyword_of line.now }
-        ensures { OnOk result ((names : List (List ℕ)) (earlier : List LineValue) (statement : Statement)
+        ensures known { OnOk result ((names : List (List ℕ)) (earlier : List LineValue) (statement : Statement)
             → IsContextAfter names earlier self.old → HasForm names line.now statement → symbol ≡ defined_in statement
             → IsContextAfter names (line.now ∷ earlier) self.new) }
+        ensures place { OnOk result ((earlier : List LineValue) → IsPlaceAfter earlier self.old → IsPlaceAfter (line.now ∷ earlier) self.new) }
+        ensures owner { OnOk result (self.new.owner ≡ owner_after self.old keyword symbol) }
     {
         let Some(word) = keyword else {
             self.statement = None;
@@ -307,30 +301,6 @@ impl Context {
         self.stack.pass(word, block)?;
         self.statement = keyword;
         self.owner = self.made_by(word, symbol);
-        self.count(word);
-        Ok(())
-    }
-    /// Goes past a line of this keyword, whatever it says. It may have a problem, so what it makes is not looked at: the
-    /// owner is left as it was.
-    pub(crate) fn pass_over(
-        &mut self,
-        line: &Line<'_>,
-        keyword: Option<Keyword>,
-    ) -> Result<(), AllocError>
-        requires room { HasRoom self.old }
-        requires keyword { keyword ≡ keyword_of line.now }
-        ensures { OnOk result ((earlier : List LineValue) → IsPlaceAfter earlier self.old → IsPlaceAfter (line.now ∷ earlier) self.new) }
-    {
-        let Some(word) = keyword else {
-            self.statement = None;
-            return Ok(());
-        };
-        if word.is_attribute() {
-            return Ok(());
-        }
-        let block = self.block_opened(word, line.run());
-        self.stack.pass(word, block)?;
-        self.statement = keyword;
         self.count(word);
         Ok(())
     }

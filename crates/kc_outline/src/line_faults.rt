@@ -6,13 +6,13 @@ ghost use Rattle.std.specs.Option.{option_copied};
 ghost use Rattle.kc_text.specs.LineValue.{LineValue};
 ghost use Rattle.kc_statement.specs.Forms.{is_word};
 ghost use Rattle.kc_statement.specs.Keywords.{keyword_of};
-ghost use Rattle.kc_outline.specs.LineFaults.{block_problem, closes_wrongly, early_problem, end_problem, is_unsupported, is_name_term, is_no_choice_default, is_of_choice, is_past_limit, is_stray, is_unquoted, late_problem, opens_too_deep, starts_with, word_problem};
+ghost use Rattle.kc_outline.specs.LineFaults.{block_problem, closes_wrongly, early_problem, end_problem, is_unsupported, is_name_term, is_of_choice, is_stray, is_unquoted, opens_too_deep, starts_with, word_problem};
 ghost use Rattle.kc_outline.specs.Enclosing.{open_blocks, nearest_statement};
 
 use crate::context::{Context, OpenBlocks};
 use crate::fault::LineProblem;
 use crate::limits::MOST_OPEN_BLOCKS;
-use kc_statement::{Keyword, Statement, Term, is_name, is_word, nests_too_deep, term_alone};
+use kc_statement::{Keyword, Term, is_name, is_word, nests_too_deep};
 use kc_text::{Line, LineKind, Token};
 
 /// Whether tokens begin with this word, unquoted and without reference.
@@ -175,13 +175,6 @@ pub(crate) fn opens_too_deep(context: &Context, line: &Line<'_>, keyword: Option
     }
 }
 
-/// Whether a statement defines one symbol more than there may be.
-fn is_past_limit(statement: &Statement) -> bool
-    ensures { result ≡ is_past_limit statement.now }
-{
-    matches!(statement, Statement::Config(None))
-}
-
 /// Whether a term is a name, of a symbol or of none.
 pub(crate) fn is_name_term(term: Option<&Term>) -> bool
     ensures { result ≡ is_name_term (option_copied term.entry) }
@@ -190,39 +183,5 @@ pub(crate) fn is_name_term(term: Option<&Term>) -> bool
         Some(Term::Symbol(_)) => true,
         Some(Term::Undefined(word)) => is_name(word.as_str()),
         Some(Term::Tri(_) | Term::Text(_)) | None => false,
-    }
-}
-
-/// Whether a statement is a default of a choice, and its value no name alone.
-fn is_no_choice_default(context: &Context, statement: &Statement) -> bool
-    ensures { result ≡ is_no_choice_default context.now.statement statement.now }
-{
-    match statement {
-        Statement::Default(default) => {
-            is_of_choice(context.statement()) && !is_name_term(term_alone(&default.value))
-        }
-        _ => false,
-    }
-}
-
-/// The problem of a line that has a form: a default of a choice that is no name, a block too deep, or a symbol too
-/// many.
-pub(crate) fn late_problem(
-    context: &Context,
-    line: &Line<'_>,
-    keyword: Option<Keyword>,
-    statement: &Statement,
-) -> Option<LineProblem>
-    requires { keyword ≡ keyword_of line.now }
-    ensures { (earlier : List LineValue) → context.now.stack ≡ open_blocks earlier
-        → context.now.statement ≡ nearest_statement earlier
-        → result ≡ late_problem earlier line.now statement.now }
-{
-    if is_no_choice_default(context, statement) {
-        Some(LineProblem::Malformed)
-    } else if opens_too_deep(context, line, keyword) || is_past_limit(statement) {
-        Some(LineProblem::Limit)
-    } else {
-        None
     }
 }

@@ -1,60 +1,47 @@
 //! All lines that have a problem.
 
-ghost use Rattle.std.specs.Prelude.{◌≡◌, ◌≤◌, List, length, IfOk, OnOk};
+ghost use Rattle.std.specs.Prelude.{◌≡◌, ◌≤◌, ◌==◌, ◌∷◌, List, Option, length, IfOk, OnOk};
 ghost use Rattle.kc_text.specs.LineValue.{LineValue};
 ghost use Rattle.kc_text.specs.declared.reading.TheConstants.{MOST_LINES};
-ghost use Rattle.kc_statement.specs.Keywords.{keyword_of};
-ghost use Rattle.kc_outline.specs.Enclosing.{nearest_statement, open_blocks};
+ghost use Rattle.kc_outline.specs.ContextAfter.{HasRoom, IsPlaceAfter};
 ghost use Rattle.kc_outline.specs.FaultyLines.{AreLineFaults, AreRefusedForFirst};
 ghost use Rattle.kc_outline.specs.Reader.{IsFound, faults_with};
 
 use crate::context::Context;
 use crate::fault::{FaultyLine, LineProblem};
-use crate::line_faults::{early_problem, late_problem, opens_too_deep};
-use kc_statement::{Keyword, Names, Seed, Unread, read_keyword, read_names, read_statement};
+use crate::line_faults::opens_too_deep;
+use crate::outline::Outline;
+use crate::reading::read_line;
+use kc_statement::{Seed, read_keyword, read_names};
 use kc_text::Line;
 use std::alloc::{AllocError, Global};
 
-/// The problem of a line, if it has one. The context is that of the lines before it; `is_last` says that no line
-/// follows.
-fn problem_of(
+/// Reads a line after those that the outline and the context come from, and adds what it says, or what is wrong with it
+/// to the faults. `following` lines come after it, and `place` before it.
+fn read_or_report(
     alloc: Global,
-    names: &Names,
-    context: &Context,
+    outline: &mut Outline,
+    context: &mut Context,
     line: &Line<'_>,
-    keyword: Option<Keyword>,
-    is_last: bool,
-) -> Result<Option<LineProblem>, AllocError>
-    requires { keyword ≡ keyword_of line.now }
-    ensures { IfOk result (λ found. (earlier : List LineValue)
-        → context.now.stack ≡ open_blocks earlier → context.now.statement ≡ nearest_statement earlier
-        → IsFound names.now earlier is_last line.now found) }
-{
-    if let Some(problem) = early_problem(context, line, keyword, is_last) {
-        return Ok(Some(problem));
-    }
-    let statement = match read_statement(alloc, names, line, keyword, 0) {
-        Ok(statement) => statement,
-        Err(Unread::At(_)) => return Ok(Some(LineProblem::Malformed)),
-        Err(Unread::NoMemory) => return Err(AllocError),
-    };
-    let problem = late_problem(context, line, keyword, &statement);
-    drop(statement);
-    Ok(problem)
-}
-
-/// Adds what was found of the line at a place.
-fn add_found(
-    faults: &mut Vec<FaultyLine>,
+    following: usize,
     place: usize,
-    found: Option<LineProblem>,
+    faults: &mut Vec<FaultyLine>,
 ) -> Result<(), AllocError>
-    ensures { OnOk result (faults.new.items ≡ faults_with faults.old.items place found) }
+    requires room { HasRoom context.old }
+    ensures names { OnOk result (outline.new.names ≡ outline.old.names) }
+    ensures place { OnOk result ((earlier : List LineValue) → IsPlaceAfter earlier context.old → IsPlaceAfter (line.now ∷ earlier) context.new) }
+    ensures faults { OnOk result ((earlier : List LineValue) → IsPlaceAfter earlier context.old
+        → (found : Option LineProblem) × IsFound outline.old.names earlier (following == 0) line.now found × (faults.new.items ≡ faults_with faults.old.items place found)) }
 {
-    if let Some(problem) = found {
-        faults.push(FaultyLine { place, problem })?;
-    }
-    Ok(())
+    let keyword = read_keyword(line);
+    let Err(stop) = read_line(alloc, outline, context, line, keyword, following) else {
+        return Ok(());
+    };
+    let Some(problem) = stop.problem() else {
+        return Err(AllocError);
+    };
+    faults.push(FaultyLine { place, problem })?;
+    context.pass(line, keyword, None)
 }
 
 /// All lines that have a problem, in their order, each with the first that it has (this project's own, after
@@ -76,17 +63,24 @@ pub fn faulty_lines(
     ensures first { IfOk result (λ faults. AreRefusedForFirst lines.now faults.items) }
 {
     let names = read_names(alloc, seed, lines)?;
+    let mut outline = Outline::new(alloc, names)?;
     let mut context = Context::new(alloc);
     let mut faults = Vec::new(alloc);
     for (place, line) in lines.iter().enumerate() {
-        let keyword = read_keyword(line);
-        let is_last = place + 1 == lines.len();
-        let found = problem_of(alloc, &names, &context, line, keyword, is_last)?;
-        add_found(&mut faults, place, found)?;
-        if opens_too_deep(&context, line, keyword) {
+        let is_last_read = opens_too_deep(&context, line, read_keyword(line));
+        let following = lines.len() - place - 1;
+        read_or_report(
+            alloc,
+            &mut outline,
+            &mut context,
+            line,
+            following,
+            place,
+            &mut faults,
+        )?;
+        if is_last_read {
             return Ok(faults);
         }
-        context.pass_over(line, keyword)?;
     }
     Ok(faults)
 }

@@ -1,21 +1,19 @@
 //! The tree of the lines so far.
 
-ghost use Rattle.std.specs.Prelude.{◌≡◌, ◌≤◌, List, [], ◌∷◌, ◌++◌, length, IfOk, OnOk};
-ghost use Rattle.kc_outline.specs.TreeOf.{Reading, tree_of, symbols_in};
-ghost use Rattle.kc_outline.specs.Outline.{AreMade, IsNamedIn};
+ghost use Rattle.std.specs.Prelude.{◌≡◌, ◌≤◌, [], length, IfOk};
+ghost use Rattle.kc_outline.specs.TreeOf.{tree_of, symbols_in};
 ghost use Rattle.kc_statement.specs.declared.limits.TheConstants.{MOST_SYMBOLS};
 
 mod adding;
-mod frequent;
+mod attributes;
+mod statements;
 
 use crate::block::{Block, Comment};
 use crate::choice::Choice;
-use crate::context::Owner;
 use crate::definition::Definition;
 use crate::entry::Entry;
-use crate::id::{BlockId, ChoiceId};
 use crate::symbol::Symbol;
-use kc_statement::{Names, Statement};
+use kc_statement::Names;
 use std::alloc::{AllocError, Global};
 use std::marker::Model;
 
@@ -80,23 +78,6 @@ impl Outline {
             Some(definition) => definition.symbol().0 as usize + 1,
             None => 0,
         }
-    }
-
-    /// Adds what a line says that is in a block and a choice, and belongs to an owner. A `config` line names a
-    /// symbol that the outline has.
-    pub(crate) fn add_line(
-        &mut self,
-        alloc: Global,
-        statement: Statement,
-        block: Option<BlockId>,
-        choice: Option<ChoiceId>,
-        owner: Option<Owner>,
-    ) -> Result<(), AllocError>
-        ensures { OnOk result ((rs : List Reading)
-            → AreMade rs → IsNamedIn self.old.names statement → self.old ≡ tree_of self.old.names rs
-            → self.new ≡ tree_of self.old.names (rs ++ record { statement = statement; block = block; choice = choice; owner = owner } ∷ [])) }
-    {
-        self.add(alloc, statement, block, choice, owner)
     }
 }
 

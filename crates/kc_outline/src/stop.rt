@@ -1,14 +1,34 @@
 //! Why a line was not added.
 
+ghost use Rattle.std.specs.Prelude.{◌≡◌};
+ghost use Rattle.kc_outline.specs.Stops.{problem_in};
+
 use crate::fault::LineProblem;
-use kc_statement::Unread;
+use kc_statement::{Mistake, Unread};
 use std::alloc::AllocError;
 
 /// Why a line was not added.
 #[derive(Clone, Copy, PartialEq, Eq)]
 pub(crate) enum Stop {
+    /// The line has this problem.
     Problem(LineProblem),
+    /// The line does not have its form (K05), and this is its first mistake.
+    Form(Mistake),
+    /// Memory was refused.
     NoMemory,
+}
+
+impl Stop {
+    /// The problem of the line, none where memory was refused.
+    pub(crate) fn problem(self) -> Option<LineProblem>
+        ensures { result ≡ problem_in self }
+    {
+        match self {
+            Stop::Problem(problem) => Some(problem),
+            Stop::Form(_) => Some(LineProblem::Malformed),
+            Stop::NoMemory => None,
+        }
+    }
 }
 
 impl From<AllocError> for Stop {
@@ -31,7 +51,7 @@ impl From<Unread> for Stop {
     fn from(unread: Unread) -> Stop {
         match unread {
             Unread::NoMemory => Stop::NoMemory,
-            Unread::At(_) => Stop::Problem(LineProblem::Malformed),
+            Unread::At(mistake) => Stop::Form(mistake),
         }
     }
 }

@@ -1,5 +1,5 @@
 -- A line says one statement at most.
-use Rattle.std.proofs.Common.{◌≡◌, ℕ, List, [], ◌∷◌, Option, Some, None, take, drop, codes, refl, sym, ap, subst, ◌∙◌, inl, inr, IfOk, Result, Ok, Err}
+use Rattle.std.proofs.Common.{◌≡◌, ℕ, List, [], ◌∷◌, Option, Some, None, take, drop, codes, refl, sym, ap, subst, ◌∙◌, inl, inr}
 use Rattle.kc_text.specs.LineValue.{LineValue}
 use Rattle.kc_text.specs.declared.line.LineKind.{LineKind}
 use Rattle.kc_text.specs.declared.line.LineKind.TheVariants.{Statement as StatementLine, EndOfFile as EndLine}
@@ -188,7 +188,3 @@ one_of names StatementLine (t ∷ rest) s r (word, is, h) (other, also, k) =
 pub one_statement : (names : List (List ℕ)) (l : LineValue) (s r : Statement) → HasForm names l s → HasForm names l r → r ≡ s
 unfolding HasForm
 one_statement names l s r h k = one_of names l.kind l.tokens s r h k
-
-pub says_only_that : {E : Type 0} (names : List (List ℕ)) (l : LineValue) (r : Result Statement E) → IfOk r (HasForm names l) → IfOk r (λ s. (t : Statement) → HasForm names l t → t ≡ s)
-says_only_that names l (Ok s) h = λ t k. one_statement names l s t h k
-says_only_that names l (Err e) h = tt

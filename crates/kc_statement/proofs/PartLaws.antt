@@ -1,5 +1,5 @@
 -- The part of a line that is read after its keyword is that of the one statement that the line says.
-use Rattle.std.proofs.Common.{◌≡◌, ◌==◌, ℕ, List, [], ◌∷◌, Some, IfOk, IfErr, Result, Ok, Err, Bool, true, false, drop, length, refl, sym, ap, subst, ◌∙◌}
+use Rattle.std.proofs.Common.{◌≡◌, ◌⊎◌, inl, inr, ◌==◌, ℕ, List, [], ◌∷◌, Some, IfOk, IfErr, Result, Ok, Err, Bool, true, false, drop, length, refl, sym, ap, subst, ◌∙◌}
 use Rattle.std.proofs.lemmas.Bool.{eqb-true}
 use Rattle.std.proofs.lemmas.List.{nil_from_length}
 use Rattle.kc_text.specs.LineValue.{LineValue}
@@ -8,6 +8,7 @@ use Rattle.kc_text.specs.declared.line.LineKind.TheVariants.{Statement as Statem
 use Rattle.kc_text.specs.declared.line.Token.{Token}
 use Rattle.kc_statement.specs.declared.attribute.Prompt.{Prompt}
 use Rattle.kc_statement.specs.declared.attribute.DefaultValue.{DefaultValue}
+use Rattle.kc_statement.specs.declared.attribute.Setting.{Setting}
 use Rattle.kc_statement.specs.declared.keyword.Keyword.{Keyword}
 use Rattle.kc_statement.specs.declared.keyword.Keyword.TheVariants as keyword
 use Rattle.kc_statement.specs.declared.statement.Statement.{Statement}
@@ -16,7 +17,8 @@ use Rattle.kc_statement.specs.declared.symbol_type.SymbolType.{SymbolType}
 use Rattle.kc_statement.specs.Keywords.{keyword_at, keyword_of}
 use Rattle.kc_statement.specs.declared.mistake.Unread.{Unread}
 use Rattle.kc_statement.specs.Mistakes.{IsMistake}
-use Rattle.kc_statement.specs.LineParts.{IsPartOf, IsSaidWhere, SaysOnly}
+use Rattle.kc_statement.specs.LineParts.{IsPartOf, SaysOnly}
+use Rattle.kc_statement.specs.LoneLines.{lone_statement, said_by_option}
 use Rattle.kc_statement.specs.Statements.{IsPrompt, IsDefault, type_word, default_word, HasFormAfter, HasFormOf, HasForm, HasNoForm}
 use Rattle.kc_statement.proofs.FormOf.{Says, FormOf, form_of}
 use Rattle.kc_statement.proofs.OneStatement.{one_statement}
@@ -57,16 +59,60 @@ module _ (names : List (List ℕ)) (l : LineValue) (tokens : List Token) (same :
     part_of (Ok x) p mistake = says (f x) (some x p)
     part_of (Err e) read none = λ at. says_none (λ s h. let read = part s (form_of names tokens k s h) in none at read.0 read.1)
 
--- a `help` line has nothing after its word
-pub help_where : (names : List (List ℕ)) (l : LineValue) (tokens : List Token) → tokens ≡ drop 1 l.tokens → keyword_of l ≡ Some keyword.Help → (b : Bool) → b ≡ (length tokens == 0) → IsSaidWhere names l statement.Help b
-unfolding FormOf
-help_where names l tokens same is true e = says names l tokens same keyword.Help is statement.Help (refl, none_of tokens (sym e))
-help_where names l tokens same is false e =
-    says_none names l tokens same keyword.Help is
-    (λ s h. let none : tokens ≡ [] = (form_of names tokens keyword.Help s h).0 in
-    let no : false ≡ true = e ∙ ap (λ (ts : List Token). length ts == 0) none in
-    absurd (cc))
+-- ---- a line that is its keyword alone
+some_is : (s r : Statement) → Some s ≡ Some r → s ≡ r
+some_is s r e = cc
 
+-- what its statement is, where nothing comes after the keyword
+alone_form : (names : List (List ℕ)) (tokens : List Token) (k : Keyword) (s : Statement) → lone_statement k ≡ Some s → tokens ≡ [] → HasFormAfter names k tokens s
+alone_form names tokens keyword.EndMenu s e none = subst (HasFormAfter names keyword.EndMenu tokens) (some_is statement.EndMenu s e) (refl, none)
+alone_form names tokens keyword.EndIf s e none = subst (HasFormAfter names keyword.EndIf tokens) (some_is statement.EndIf s e) (refl, none)
+alone_form names tokens keyword.Choice s e none = subst (HasFormAfter names keyword.Choice tokens) (some_is statement.Choice s e) (refl, none)
+alone_form names tokens keyword.EndChoice s e none = subst (HasFormAfter names keyword.EndChoice tokens) (some_is statement.EndChoice s e) (refl, none)
+alone_form names tokens keyword.Modules s e none = subst (HasFormAfter names keyword.Modules tokens) (some_is statement.Modules s e) (inl (refl, none))
+alone_form names tokens keyword.Optional s e none = subst (HasFormAfter names keyword.Optional tokens) (some_is statement.Optional s e) (refl, none)
+alone_form names tokens keyword.Help s e none = subst (HasFormAfter names keyword.Help tokens) (some_is statement.Help s e) (refl, none)
+alone_form names tokens _ s e none = absurd (cc)
+
+-- and it has no other form
+alone_only : (names : List (List ℕ)) (tokens : List Token) (k : Keyword) (s r : Statement) → lone_statement k ≡ Some s → FormOf names k tokens r → tokens ≡ []
+unfolding FormOf
+alone_only names tokens keyword.EndMenu s r e h = h.0
+alone_only names tokens keyword.EndIf s r e h = h.0
+alone_only names tokens keyword.Choice s r e h = h.0
+alone_only names tokens keyword.EndChoice s r e h = h.0
+alone_only names tokens keyword.Modules s r e h = h.0
+alone_only names tokens keyword.Optional s r e h = h.0
+alone_only names tokens keyword.Help s r e h = h.0
+alone_only names tokens _ s r e h = absurd (cc)
+
+module _ (names : List (List ℕ)) (l : LineValue) (tokens : List Token) (same : tokens ≡ drop 1 l.tokens) (k : Keyword) (s : Statement) (is : keyword_of l ≡ Some k) (lone : lone_statement k ≡ Some s) where
+  pub alone_says : (length tokens == 0) ≡ true → SaysOnly names l s
+  alone_says none = says names l tokens same k is s (alone_form names tokens k s lone (none_of tokens none))
+
+  pub alone_says_none : (length tokens == 0) ≡ false → HasNoForm names l
+  alone_says_none some =
+      says_none names l tokens same k is
+      (λ r h. let none = alone_only names tokens k s r lone (form_of names tokens k r h) in
+      let no : false ≡ true = sym some ∙ ap (λ (ts : List Token). length ts == 0) none in
+      absurd (cc))
+
+-- ---- an end of file, and keywords without a form
+pub end_says : (names : List (List ℕ)) (l : LineValue) → l.kind ≡ EndLine → SaysOnly names l statement.EndOfFile
+unfolding HasForm
+end_says names l e =
+    let form : HasForm names l statement.EndOfFile = subst (λ (k : LineKind). HasFormOf names k l.tokens statement.EndOfFile) (sym e) refl in
+    record { form = form; only = λ r g. one_statement names l statement.EndOfFile r form g }
+
+formless : (names : List (List ℕ)) (tokens : List Token) (k : Keyword) → (k ≡ keyword.Source) ⊎ (k ≡ keyword.Unsupported) → (s : Statement) → FormOf names k tokens s → ⊥
+unfolding FormOf
+formless names tokens k (inl e) s h = subst (λ (x : Keyword). FormOf names x tokens s) e h
+formless names tokens k (inr e) s h = subst (λ (x : Keyword). FormOf names x tokens s) e h
+
+pub says_nothing : (names : List (List ℕ)) (l : LineValue) (k : Keyword) → keyword_of l ≡ Some k → (k ≡ keyword.Source) ⊎ (k ≡ keyword.Unsupported) → HasNoForm names l
+says_nothing names l k is none = says_none names l (drop 1 l.tokens) refl k is (λ s h. formless names (drop 1 l.tokens) k none s (form_of names (drop 1 l.tokens) k s h))
+
+-- ---- types
 pub type_where : (names : List (List ℕ)) (l : LineValue) (tokens : List Token) → tokens ≡ drop 1 l.tokens → (t : SymbolType) → keyword_of l ≡ Some (type_word t) → (length tokens == 0) ≡ true → SaysOnly names l (statement.Type t)
 type_where names l tokens same t is none = says names l tokens same (type_word t) is (statement.Type t) (refl, none_of tokens none)
 
@@ -80,3 +126,7 @@ module _ (names : List (List ℕ)) (l : LineValue) (tokens : List Token) (same :
       → (r : Result DefaultValue Unread) → IfOk r (IsDefault names tokens) → IfErr r (IsMistake (IsDefault names tokens)) → IsPartOf names l (λ d. statement.TypeAndDefault t d) r
   typed_default_of t k word is (Ok d) h mistake = says names l tokens same k is (statement.TypeAndDefault t d) (word, h)
   typed_default_of t k word is (Err e) h none = λ at. says_none names l tokens same k is (no_typed_default names tokens t k word (none at))
+
+  pub option_of : keyword_of l ≡ Some keyword.Option → (r : Result Setting Unread) → IfOk r (λ x. HasFormAfter names keyword.Option tokens (said_by_option x)) → IfErr r (IsMistake (HasFormAfter names keyword.Option tokens)) → IsPartOf names l said_by_option r
+  option_of is (Ok x) h mistake = says names l tokens same keyword.Option is (said_by_option x) h
+  option_of is (Err e) h none = λ at. says_none names l tokens same keyword.Option is (none at)

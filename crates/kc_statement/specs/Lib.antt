@@ -5,6 +5,7 @@ pub mod Keywords
 pub mod Names
 pub mod LentText
 pub mod LineParts
+pub mod LoneLines
 pub mod Mistakes
 pub mod Places
 pub mod PromptText

@@ -41,3 +41,12 @@ pub struct Range {
     /// The condition after `if`.
     pub condition: Option<Expr>,
 }
+
+/// What an `option` line sets (kconfig-language.rst, "Menu attributes").
+#[derive(Clone, Copy, Debug, PartialEq, Eq)]
+pub enum Setting {
+    /// `option modules`
+    Modules,
+    /// `option allnoconfig_y`
+    AllNoConfigYes,
+}

@@ -8,7 +8,6 @@ mod id;
 mod keyword;
 mod lent_text;
 mod limits;
-mod line_parts;
 mod lone_terms;
 mod long_texts;
 mod mistake;
@@ -26,15 +25,12 @@ mod symbol_type;
 mod tri;
 mod word;
 
-pub use attribute::{DefaultValue, Prompt, Range};
+pub use attribute::{DefaultValue, Prompt, Range, Setting};
 pub use expr::{Comparison, Expr, ExprKind, ExprNode, Operands, Term};
 pub use id::SymId;
 pub use keyword::{Keyword, read_keyword};
 pub use lent_text::LentText;
 pub use limits::{MOST_NESTED, MOST_SYMBOLS};
-pub use line_parts::{
-    read_default, read_definition, read_depends, read_selection, read_typed_prompt, stands_alone,
-};
 pub use lone_terms::{lone_term, term_alone};
 pub use mistake::{Mistake, Unread, Wanted};
 pub use name::{is_name, read_names};
@@ -45,7 +41,10 @@ pub use prompt_text::PromptText;
 pub use seed::Seed;
 pub use shared_text::SharedText;
 pub use statement::Statement;
-pub use statement_forms::read_statement;
+pub use statement_forms::{
+    read_alone, read_default, read_definition, read_depends, read_if, read_option, read_prompt,
+    read_range, read_selection, read_title, read_visible, stands_alone, without_form,
+};
 pub use symbol_type::SymbolType;
 pub use tri::Tri;
 pub use word::is_word;

@@ -1,9 +1,13 @@
-//! The forms of statements and attributes.
+//! The forms of statements and attributes. A line is read as the part by which it says what it says, its title, its
+//! value or its condition: one function for each form. None makes a statement, which would need room for the largest of
+//! all parts.
 
-ghost use Rattle.std.specs.Prelude.{◌≡◌, ℕ, List, Some, IfOk, IfErr};
+ghost use Rattle.std.specs.Prelude.{◌≡◌, ℕ, List, [], Some, drop, false, IsTrue, IfOk, IfErr};
 ghost use Rattle.kc_statement.specs.Keywords.{keyword_of};
-ghost use Rattle.kc_statement.specs.Mistakes.{IsMistake, WhereMistaken};
-ghost use Rattle.kc_statement.specs.Statements.{HasForm, HasFormAfter, HasNoForm, type_word, default_word};
+ghost use Rattle.kc_statement.specs.LineParts.{stands_alone, IsPartOf, SaysOnly};
+ghost use Rattle.kc_statement.specs.LoneLines.{lone_statement, said_by_option};
+ghost use Rattle.kc_statement.specs.Mistakes.{IsMistake};
+ghost use Rattle.kc_statement.specs.Statements.{HasFormAfter, HasNoForm, default_word, type_word};
 
 mod condition;
 mod default;
@@ -11,7 +15,8 @@ mod prompt;
 mod range;
 mod selection;
 
-use crate::expr::ExprKind;
+use crate::attribute::{DefaultValue, Prompt, Range, Setting};
+use crate::expr::{Expr, ExprKind};
 use crate::id::SymId;
 use crate::keyword::Keyword;
 use crate::mistake::{Unread, Wanted, wants};
@@ -21,144 +26,192 @@ use crate::parser::Parser;
 use crate::statement::Statement;
 use crate::symbol_type::SymbolType;
 use crate::word::is_word;
-use kc_text::{Line, LineKind, Text, Token};
+use kc_text::{Line, Text, Token};
 use prompt::quoted_text;
 use std::alloc::Global;
 
-/// What a line of this keyword says (kconfig-language.rst, "Menu entries" and "Menu attributes"), or the first mistake
-/// where it does not have the form of a statement or an attribute. The line says no other statement. A symbol that it
-/// defines is likely to have the number `likely`.
-///
-/// # Errors
-///
-/// `NoMemory` where memory is refused, and `At` where the line says nothing.
-pub fn read_statement(
+/// The tokens after the first.
+fn after_first<'a, 'b>(tokens: &'a [Token<'b>]) -> &'a [Token<'b>]
+    ensures { result.now ≡ drop 1 tokens.now }
+{
+    let Some((_, rest)) = tokens.split_first() else {
+        return tokens;
+    };
+    rest
+}
+
+/// Whether nothing comes after the first word of a line. Then a type is a type alone.
+pub fn stands_alone(line: &Line<'_>) -> bool
+    ensures alone { result ≡ stands_alone line.now }
+    ensures kind { (names : List (List ℕ)) (kind : SymbolType) → keyword_of line.now ≡ Some (type_word kind) → IsTrue result
+        → SaysOnly names line.now (Statement.Type kind) }
+{
+    after_first(line.tokens()).is_empty()
+}
+
+/// Reads a line that is to be its keyword alone, as `endif`. Where something comes after that, the error is the mistake.
+pub fn read_alone(line: &Line<'_>) -> Result<(), Unread>
+    ensures { (names : List (List ℕ)) (k : Keyword) (s : Statement) → keyword_of line.now ≡ Some k → lone_statement k ≡ Some s
+        → IsPartOf names line.now (λ _. s) result }
+{
+    let rest = after_first(line.tokens());
+    if !rest.is_empty() {
+        return Err(wants(Wanted::Nothing, rest.len()));
+    }
+    Ok(())
+}
+
+/// The symbol that a `config` line defines, none where it is one more than a tree may have. It is likely to have the
+/// number `likely`. Where the line does not have its form, the error is the first mistake.
+pub fn read_definition(
     alloc: Global,
     names: &Names,
     line: &Line<'_>,
-    keyword: Option<Keyword>,
     likely: usize,
-) -> Result<Statement, Unread>
-    requires keyword { keyword ≡ keyword_of line.now }
-    ensures form { IfOk result (HasForm names.now line.now) }
-    ensures only { IfOk result (λ s. (r : Statement) → HasForm names.now line.now r → r ≡ s) }
-    ensures mistake { IfErr result (λ e. WhereMistaken e (HasNoForm names.now line.now)) }
+) -> Result<Option<SymId>, Unread>
+    requires { keyword_of line.now ≡ Some Keyword.Config }
+    ensures { IsPartOf names.now line.now (λ symbol. Statement.Config symbol) result }
 {
-    match line.kind() {
-        LineKind::EndOfFile => Ok(Statement::EndOfFile),
-        LineKind::Statement => {
-            let Some(keyword) = keyword else {
-                return Err(wants(Wanted::Keyword, line.tokens().len()));
-            };
-            let Some((_, rest)) = line.tokens().split_first() else {
-                return Err(wants(Wanted::Keyword, 0));
-            };
-            Parser { alloc, names }.read_form(keyword, rest, likely)
-        }
+    Parser { alloc, names }.definition(after_first(line.tokens()), likely)
+}
+
+/// The title of a `menu`, a `comment` or a `mainmenu`, or the first mistake where the line does not have its form.
+pub fn read_title(alloc: Global, names: &Names, line: &Line<'_>) -> Result<Text, Unread>
+    ensures menu { keyword_of line.now ≡ Some Keyword.Menu → IsPartOf names.now line.now (λ title. Statement.Menu title) result }
+    ensures comment { keyword_of line.now ≡ Some Keyword.Comment → IsPartOf names.now line.now (λ title. Statement.Comment title) result }
+    ensures main { keyword_of line.now ≡ Some Keyword.MainMenu → IsPartOf names.now line.now (λ _. Statement.MainMenu) result }
+{
+    Parser { alloc, names }.title(after_first(line.tokens()))
+}
+
+/// The condition of an `if`, or the first mistake where the line does not have its form.
+pub fn read_if(alloc: Global, names: &Names, line: &Line<'_>) -> Result<Expr, Unread>
+    requires { keyword_of line.now ≡ Some Keyword.If }
+    ensures { IsPartOf names.now line.now (λ condition. Statement.If condition) result }
+{
+    Parser { alloc, names }.expression(ExprKind::Condition, after_first(line.tokens()))
+}
+
+/// The prompt of a `prompt` line, or one after a type, which something comes after; or the first mistake where the line
+/// does not have its form.
+pub fn read_prompt(alloc: Global, names: &Names, line: &Line<'_>) -> Result<Prompt, Unread>
+    ensures part { keyword_of line.now ≡ Some Keyword.Prompt → IsPartOf names.now line.now (λ prompt. Statement.Prompt prompt) result }
+    ensures typed { (kind : SymbolType) → stands_alone line.now ≡ false → keyword_of line.now ≡ Some (type_word kind)
+        → IsPartOf names.now line.now (λ prompt. Statement.TypeAndPrompt kind prompt) result }
+{
+    Parser { alloc, names }.prompt(after_first(line.tokens()))
+}
+
+/// The value that a `default` line gives, or one that gives a type too; or the first mistake where the line does not
+/// have its form.
+pub fn read_default(alloc: Global, names: &Names, line: &Line<'_>) -> Result<DefaultValue, Unread>
+    ensures part { keyword_of line.now ≡ Some Keyword.Default → IsPartOf names.now line.now (λ value. Statement.Default value) result }
+    ensures typed { (kind : SymbolType) (k : Keyword) → default_word kind ≡ Some k → keyword_of line.now ≡ Some k
+        → IsPartOf names.now line.now (λ value. Statement.TypeAndDefault kind value) result }
+{
+    Parser { alloc, names }.default_value(after_first(line.tokens()))
+}
+
+/// The bounds of a `range` line, or the first mistake where the line does not have its form.
+pub fn read_range(alloc: Global, names: &Names, line: &Line<'_>) -> Result<Range, Unread>
+    requires { keyword_of line.now ≡ Some Keyword.Range }
+    ensures { IsPartOf names.now line.now (λ range. Statement.Range range) result }
+{
+    Parser { alloc, names }.range(after_first(line.tokens()))
+}
+
+/// The condition of a `depends on` line, or the first mistake where the line does not have its form.
+pub fn read_depends(alloc: Global, names: &Names, line: &Line<'_>) -> Result<Expr, Unread>
+    requires { keyword_of line.now ≡ Some Keyword.Depends }
+    ensures { IsPartOf names.now line.now (λ on. Statement.DependsOn on) result }
+{
+    Parser { alloc, names }.after_word("on", Wanted::On, after_first(line.tokens()))
+}
+
+/// The condition of a `visible if` line, or the first mistake where the line does not have its form.
+pub fn read_visible(alloc: Global, names: &Names, line: &Line<'_>) -> Result<Expr, Unread>
+    requires { keyword_of line.now ≡ Some Keyword.Visible }
+    ensures { IsPartOf names.now line.now (λ condition. Statement.VisibleIf condition) result }
+{
+    Parser { alloc, names }.after_word("if", Wanted::If, after_first(line.tokens()))
+}
+
+/// What a `select` or an `imply` line names, where it is defined, and the condition; or the first mistake where the
+/// line does not have its form.
+pub fn read_selection(
+    alloc: Global,
+    names: &Names,
+    line: &Line<'_>,
+) -> Result<(Option<SymId>, Option<Expr>), Unread>
+    ensures select { keyword_of line.now ≡ Some Keyword.Select → IsPartOf names.now line.now (λ part. Statement.Select part.0 part.1) result }
+    ensures imply { keyword_of line.now ≡ Some Keyword.Imply → IsPartOf names.now line.now (λ part. Statement.Imply part.0 part.1) result }
+{
+    Parser { alloc, names }.selection(after_first(line.tokens()))
+}
+
+/// What an `option` line sets, or the first mistake where the line does not have its form.
+pub fn read_option(line: &Line<'_>) -> Result<Setting, Unread>
+    requires { keyword_of line.now ≡ Some Keyword.Option }
+    ensures { (names : List (List ℕ)) → IsPartOf names line.now said_by_option result }
+{
+    setting(after_first(line.tokens()))
+}
+
+/// The mistake of a line whose keyword has no form: a `source` that was not followed, where the path may be as it is to
+/// be, or a word that is unsupported.
+pub fn without_form(line: &Line<'_>) -> Unread
+    ensures source { (names : List (List ℕ)) → keyword_of line.now ≡ Some Keyword.Source → HasNoForm names line.now }
+    ensures unsupported { (names : List (List ℕ)) → keyword_of line.now ≡ Some Keyword.Unsupported → HasNoForm names line.now }
+{
+    path_mistake(after_first(line.tokens()))
+}
+
+/// The mistake of the tokens after `source`.
+#[cold]
+#[inline(never)]
+fn path_mistake(tokens: &[Token<'_>]) -> Unread {
+    let Some((first, rest)) = tokens.split_first() else {
+        return wants(Wanted::Path, 0);
+    };
+    if quoted_text(first).is_some() {
+        wants(Wanted::Nothing, rest.len())
+    } else {
+        wants(Wanted::Path, tokens.len())
     }
 }
 
+/// What the tokens after `option` set.
+fn setting(tokens: &[Token<'_>]) -> Result<Setting, Unread>
+    ensures read { (names : List (List ℕ)) → IfOk result (λ set. HasFormAfter names Keyword.Option tokens.now (said_by_option set)) }
+    ensures mistake { (names : List (List ℕ)) → IfErr result (IsMistake (HasFormAfter names Keyword.Option tokens.now)) }
+{
+    let Some((first, rest)) = tokens.split_first() else {
+        return Err(wants(Wanted::Setting, 0));
+    };
+    if is_word(first, "modules") {
+        return last(rest, Setting::Modules);
+    }
+    if is_word(first, "allnoconfig_y") {
+        return last(rest, Setting::AllNoConfigYes);
+    }
+    Err(wants(Wanted::Setting, tokens.len()))
+}
+
+/// This setting, if no token is left.
+fn last(rest: &[Token<'_>], setting: Setting) -> Result<Setting, Unread>
+    ensures read { IfOk result (λ set. (set ≡ setting) × (rest.now ≡ [])) }
+    ensures mistake { IfErr result (λ _. rest.now ≡ [] → ⊥) }
+{
+    if !rest.is_empty() {
+        return Err(wants(Wanted::Nothing, rest.len()));
+    }
+    Ok(setting)
+}
+
 impl Parser<'_> {
-    /// What a keyword and the tokens after it say. Each part is read by a function of its own: a function clears the
-    /// room of all that it reads, so a line pays for no more than its own form.
-    fn read_form(
-        &self,
-        keyword: Keyword,
-        tokens: &[Token<'_>],
-        likely: usize,
-    ) -> Result<Statement, Unread>
-        ensures read { IfOk result (HasFormAfter self.now.names.now keyword tokens.now) }
-        ensures mistake { IfErr result (IsMistake (HasFormAfter self.now.names.now keyword tokens.now)) }
-    {
-        match keyword {
-            Keyword::Config => self.read_config(tokens, likely),
-            Keyword::Menu => self.read_title(tokens, Statement::Menu),
-            Keyword::Comment => self.read_title(tokens, Statement::Comment),
-            Keyword::MainMenu => self.read_title(tokens, main_menu),
-            Keyword::EndMenu if tokens.is_empty() => Ok(Statement::EndMenu),
-            Keyword::EndIf if tokens.is_empty() => Ok(Statement::EndIf),
-            Keyword::Choice if tokens.is_empty() => Ok(Statement::Choice),
-            Keyword::EndChoice if tokens.is_empty() => Ok(Statement::EndChoice),
-            Keyword::Optional if tokens.is_empty() => Ok(Statement::Optional),
-            Keyword::Modules if tokens.is_empty() => Ok(Statement::Modules),
-            Keyword::Help if tokens.is_empty() => Ok(Statement::Help),
-            Keyword::If => self.read_if(tokens),
-            Keyword::Bool => self.read_type(SymbolType::Bool, tokens),
-            Keyword::Tristate => self.read_type(SymbolType::Tristate, tokens),
-            Keyword::String => self.read_type(SymbolType::String, tokens),
-            Keyword::Int => self.read_type(SymbolType::Int, tokens),
-            Keyword::Hex => self.read_type(SymbolType::Hex, tokens),
-            Keyword::DefBool => self.read_typed_default(SymbolType::Bool, tokens),
-            Keyword::DefTristate => self.read_typed_default(SymbolType::Tristate, tokens),
-            Keyword::Prompt => self.read_prompt(tokens),
-            Keyword::Default => self.read_default(tokens),
-            Keyword::Range => self.read_range(tokens),
-            Keyword::Depends => self.read_after_word(
-                "on",
-                Wanted::On,
-                tokens,
-                Statement::DependsOn,
-            ),
-            Keyword::Visible => self.read_after_word(
-                "if",
-                Wanted::If,
-                tokens,
-                Statement::VisibleIf,
-            ),
-            Keyword::Select => self.read_selection(tokens, Statement::Select),
-            Keyword::Imply => self.read_selection(tokens, Statement::Imply),
-            Keyword::Option => read_option(tokens),
-            Keyword::Source => Err(path_mistake(tokens)),
-            Keyword::EndMenu
-            | Keyword::EndIf
-            | Keyword::Choice
-            | Keyword::EndChoice
-            | Keyword::Optional
-            | Keyword::Modules
-            | Keyword::Help
-            | Keyword::Unsupported => Err(wants(Wanted::Nothing, tokens.len())),
-        }
-    }
-
-    /// The condition of an `if`.
-    fn read_if(&self, tokens: &[Token<'_>]) -> Result<Statement, Unread>
-        ensures read { IfOk result (HasFormAfter self.now.names.now Keyword.If tokens.now) }
-        ensures mistake { IfErr result (IsMistake (HasFormAfter self.now.names.now Keyword.If tokens.now)) }
-    {
-        Ok(Statement::If(self.expression(ExprKind::Condition, tokens)?))
-    }
-
-    /// A prompt on a line of its own.
-    fn read_prompt(&self, tokens: &[Token<'_>]) -> Result<Statement, Unread>
-        ensures read { IfOk result (HasFormAfter self.now.names.now Keyword.Prompt tokens.now) }
-        ensures mistake { IfErr result (IsMistake (HasFormAfter self.now.names.now Keyword.Prompt tokens.now)) }
-    {
-        Ok(Statement::Prompt(self.prompt(tokens)?))
-    }
-
-    /// A default on a line of its own.
-    fn read_default(&self, tokens: &[Token<'_>]) -> Result<Statement, Unread>
-        ensures read { IfOk result (HasFormAfter self.now.names.now Keyword.Default tokens.now) }
-        ensures mistake { IfErr result (IsMistake (HasFormAfter self.now.names.now Keyword.Default tokens.now)) }
-    {
-        Ok(Statement::Default(self.default_value(tokens)?))
-    }
-
-    /// A range.
-    fn read_range(&self, tokens: &[Token<'_>]) -> Result<Statement, Unread>
-        ensures read { IfOk result (HasFormAfter self.now.names.now Keyword.Range tokens.now) }
-        ensures mistake { IfErr result (IsMistake (HasFormAfter self.now.names.now Keyword.Range tokens.now)) }
-    {
-        Ok(Statement::Range(self.range(tokens)?))
-    }
-
     /// The symbol that is defined, none where it is one more than a tree may have. It is likely to have the number
     /// `likely`.
-    pub(crate) fn definition(
-        &self,
-        tokens: &[Token<'_>],
-        likely: usize,
-    ) -> Result<Option<SymId>, Unread>
+    fn definition(&self, tokens: &[Token<'_>], likely: usize) -> Result<Option<SymId>, Unread>
         ensures read { IfOk result (λ symbol. HasFormAfter self.now.names.now Keyword.Config tokens.now (Statement.Config symbol)) }
         ensures mistake { IfErr result (IsMistake (λ symbol. HasFormAfter self.now.names.now Keyword.Config tokens.now (Statement.Config symbol))) }
     {
@@ -172,78 +225,5 @@ impl Parser<'_> {
             return Err(wants(Wanted::Nothing, rest.len()));
         }
         Ok(self.names.symbol_at(name.as_str(), likely))
-    }
-
-    /// A symbol's definition.
-    fn read_config(&self, tokens: &[Token<'_>], likely: usize) -> Result<Statement, Unread>
-        ensures read { IfOk result (HasFormAfter self.now.names.now Keyword.Config tokens.now) }
-        ensures mistake { IfErr result (IsMistake (HasFormAfter self.now.names.now Keyword.Config tokens.now)) }
-    {
-        Ok(Statement::Config(self.definition(tokens, likely)?))
-    }
-
-    /// A type, alone or with a prompt.
-    fn read_type(&self, kind: SymbolType, tokens: &[Token<'_>]) -> Result<Statement, Unread>
-        ensures read { IfOk result (HasFormAfter self.now.names.now (type_word kind) tokens.now) }
-        ensures mistake { IfErr result (IsMistake (HasFormAfter self.now.names.now (type_word kind) tokens.now)) }
-    {
-        if tokens.is_empty() {
-            return Ok(Statement::Type(kind));
-        }
-        Ok(Statement::TypeAndPrompt(kind, self.prompt(tokens)?))
-    }
-
-    /// A type with a default.
-    fn read_typed_default(
-        &self,
-        kind: SymbolType,
-        tokens: &[Token<'_>],
-    ) -> Result<Statement, Unread>
-        ensures read { (k : Keyword) → default_word kind ≡ Some k → IfOk result (HasFormAfter self.now.names.now k tokens.now) }
-        ensures mistake { (k : Keyword) → default_word kind ≡ Some k → IfErr result (IsMistake (HasFormAfter self.now.names.now k tokens.now)) }
-    {
-        Ok(Statement::TypeAndDefault(kind, self.default_value(tokens)?))
-    }
-}
-
-/// What a `mainmenu` says, whatever its title.
-fn main_menu(_title: Text) -> Statement
-    ensures { result ≡ Statement.MainMenu }
-{
-    Statement::MainMenu
-}
-
-/// What the tokens after `option` say.
-fn read_option(tokens: &[Token<'_>]) -> Result<Statement, Unread>
-    ensures read { (names : List (List ℕ)) → IfOk result (HasFormAfter names Keyword.Option tokens.now) }
-    ensures mistake { (names : List (List ℕ)) → IfErr result (IsMistake (HasFormAfter names Keyword.Option tokens.now)) }
-{
-    let Some((first, rest)) = tokens.split_first() else {
-        return Err(wants(Wanted::Setting, 0));
-    };
-    let statement = if is_word(first, "modules") {
-        Statement::Modules
-    } else if is_word(first, "allnoconfig_y") {
-        Statement::AllNoConfigYes
-    } else {
-        return Err(wants(Wanted::Setting, tokens.len()));
-    };
-    if !rest.is_empty() {
-        return Err(wants(Wanted::Nothing, rest.len()));
-    }
-    Ok(statement)
-}
-
-/// The mistake of the tokens after `source`: a line that is left of these has no form, also where nothing is wrong.
-#[cold]
-#[inline(never)]
-fn path_mistake(tokens: &[Token<'_>]) -> Unread {
-    let Some((first, rest)) = tokens.split_first() else {
-        return wants(Wanted::Path, 0);
-    };
-    if quoted_text(first).is_some() {
-        wants(Wanted::Nothing, rest.len())
-    } else {
-        wants(Wanted::Path, tokens.len())
     }
 }

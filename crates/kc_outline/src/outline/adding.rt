@@ -5,7 +5,7 @@ ghost use Rattle.std.specs.Option.{option_map_or};
 ghost use Rattle.kc_outline.specs.declared.block.BlockKind.TheVariants.{Menu, If, Choice as ChoiceBlock};
 ghost use Rattle.kc_outline.specs.declared.entry.Entry.TheVariants.{EndMenu};
 ghost use Rattle.kc_outline.specs.TreeOf.{choice_default, menu_entry, choice_entry, comment_entry};
-ghost use Rattle.kc_outline.specs.Adding.{with_reading, with_some, change_at};
+ghost use Rattle.kc_outline.specs.Adding.{with_some, change_at};
 ghost use Rattle.kc_outline.specs.Adding.{new_definition, definition_with_depends, definition_with_prompt, definition_with_default, definition_with_range, definition_with_select, definition_with_imply, change_definition, definition_entry};
 ghost use Rattle.kc_outline.specs.Adding.{symbol_with_type, symbol_with_modules, symbol_yes_in_allnoconfig, change_symbol, numbered, placed, selecting, selected, implied, selects_of, implies_of};
 ghost use Rattle.kc_outline.specs.Adding.{new_block, block_with_depends, block_with_visible, change_block, new_comment, comment_with_depends, change_comment};
@@ -20,55 +20,11 @@ use crate::entry::Entry;
 use crate::id::{BlockId, ChoiceId, CommentId};
 use crate::room::push_one;
 use crate::symbol::Reverse;
-use kc_statement::{DefaultValue, Expr, Prompt, Range, Statement, SymId, SymbolType};
+use kc_statement::{DefaultValue, Expr, Prompt, Range, SymId, SymbolType};
 use kc_text::Text;
 use std::alloc::{AllocError, Global};
 
 impl Outline {
-    /// Adds what a line says to each part that it changes. The functions that take a part of a statement are kept out of
-    /// line, since the statement would else be taken apart before its kind is known.
-    pub(super) fn add(
-        &mut self,
-        alloc: Global,
-        statement: Statement,
-        block: Option<BlockId>,
-        choice: Option<ChoiceId>,
-        owner: Option<Owner>,
-    ) -> Result<(), AllocError>
-        ensures { OnOk result (self.new ≡ with_reading self.old (record { statement = statement; block = block; choice = choice; owner = owner })) }
-    {
-        match statement {
-            Statement::Config(Some(symbol)) => {
-                self.add_definition(alloc, symbol, block, choice, owner)?;
-            }
-            Statement::Menu(title) => self.add_menu(alloc, title, block, owner)?,
-            Statement::EndMenu => {
-                if let Some(menu) = block {
-                    self.entries.push(Entry::EndMenu(menu))?;
-                }
-            }
-            Statement::If(condition) => self.add_if(alloc, condition, block)?,
-            Statement::Choice => self.add_choice(alloc, block, owner)?,
-            Statement::Comment(title) => self.add_comment(alloc, title, block, choice, owner)?,
-            Statement::Type(kind) => self.add_type(owner, kind)?,
-            Statement::TypeAndPrompt(kind, prompt) => self.add_typed_prompt(owner, kind, prompt)?,
-            Statement::TypeAndDefault(kind, value) => self.add_typed_default(owner, kind, value)?,
-            Statement::Prompt(prompt) => self.add_prompt(owner, prompt)?,
-            Statement::Default(value) => self.add_default(owner, value)?,
-            Statement::Range(range) => self.add_range(owner, range)?,
-            Statement::DependsOn(on) => self.add_depends(owner, on)?,
-            Statement::VisibleIf(condition) => self.add_visible(owner, condition)?,
-            Statement::Select(target, on) => self.add_select(owner, target, on)?,
-            Statement::Imply(target, on) => self.add_imply(owner, target, on)?,
-            Statement::Modules => self.add_modules(owner),
-            Statement::Optional => self.add_optional(owner),
-            Statement::AllNoConfigYes => self.add_yes_in_allnoconfig(owner),
-            Statement::Config(None) | Statement::EndOfFile | Statement::MainMenu => {}
-            Statement::EndIf | Statement::EndChoice | Statement::Help => {}
-        }
-        Ok(())
-    }
-
     /// The entry of one more definition of a symbol.
     fn definition_entry(&self, symbol: SymId) -> Entry
         ensures { result ≡ definition_entry self.now.symbols symbol }
@@ -87,7 +43,7 @@ impl Outline {
 
     /// Adds the definition that a `config` line makes.
     #[inline(never)]
-    pub(crate) fn add_definition(
+    pub(super) fn add_definition(
         &mut self,
         alloc: Global,
         symbol: SymId,
@@ -113,7 +69,7 @@ impl Outline {
 
     /// Adds a menu, which is its own owner.
     #[inline(never)]
-    fn add_menu(
+    pub(super) fn add_menu(
         &mut self,
         alloc: Global,
         title: Text,
@@ -134,9 +90,19 @@ impl Outline {
         Ok(())
     }
 
+    /// Adds the end of the menu that a line closes.
+    pub(super) fn add_end_menu(&mut self, block: Option<BlockId>) -> Result<(), AllocError>
+        ensures { OnOk result (self.new ≡ record self.old { entries = with_some self.old.entries (option_map EndMenu block) }) }
+    {
+        if let Some(menu) = block {
+            self.entries.push(Entry::EndMenu(menu))?;
+        }
+        Ok(())
+    }
+
     /// Adds an `if`, which has no entry.
     #[inline(never)]
-    fn add_if(
+    pub(super) fn add_if(
         &mut self,
         alloc: Global,
         condition: Expr,
@@ -155,7 +121,7 @@ impl Outline {
 
     /// Adds a choice, which is its own owner, with its block.
     #[inline(never)]
-    fn add_choice(
+    pub(super) fn add_choice(
         &mut self,
         alloc: Global,
         block: Option<BlockId>,
@@ -179,7 +145,7 @@ impl Outline {
 
     /// Adds a comment, which is its own owner.
     #[inline(never)]
-    fn add_comment(
+    pub(super) fn add_comment(
         &mut self,
         alloc: Global,
         title: Text,
@@ -288,7 +254,7 @@ impl Outline {
     }
 
     /// Adds an `optional` line to the choice that owns it.
-    fn add_optional(&mut self, owner: Option<Owner>)
+    pub(super) fn add_optional(&mut self, owner: Option<Owner>)
         ensures { self.new ≡ record self.old { choices = change_choice owner optional_choice self.old.choices } }
     {
         let Some(Owner::Choice(choice, _)) = owner else {
@@ -301,7 +267,7 @@ impl Outline {
     }
 
     /// Adds a `modules` line to the owner's symbol.
-    fn add_modules(&mut self, owner: Option<Owner>)
+    pub(super) fn add_modules(&mut self, owner: Option<Owner>)
         ensures { self.new ≡ record self.old { symbols = change_symbol owner symbol_with_modules self.old.symbols } }
     {
         let Some(Owner::Definition(symbol, _)) = owner else {
@@ -314,7 +280,7 @@ impl Outline {
     }
 
     /// Adds an `option allnoconfig_y` line to the owner's symbol.
-    fn add_yes_in_allnoconfig(&mut self, owner: Option<Owner>)
+    pub(super) fn add_yes_in_allnoconfig(&mut self, owner: Option<Owner>)
         ensures { self.new ≡ record self.old { symbols = change_symbol owner symbol_yes_in_allnoconfig self.old.symbols } }
     {
         let Some(Owner::Definition(symbol, _)) = owner else {
@@ -358,7 +324,11 @@ impl Outline {
 
     /// Adds a prompt to the definition or the choice that owns it.
     #[inline(never)]
-    fn add_prompt(&mut self, owner: Option<Owner>, prompt: Prompt) -> Result<(), AllocError>
+    pub(super) fn add_prompt(
+        &mut self,
+        owner: Option<Owner>,
+        prompt: Prompt,
+    ) -> Result<(), AllocError>
         ensures { OnOk result (self.new ≡ record self.old {
           definitions = change_definition owner (definition_with_prompt prompt) self.old.definitions;
           choices = change_choice owner (choice_with_prompt prompt) self.old.choices;
@@ -433,7 +403,7 @@ impl Outline {
 
     /// Adds a range to the definition that owns it.
     #[inline(never)]
-    fn add_range(&mut self, owner: Option<Owner>, range: Range) -> Result<(), AllocError>
+    pub(super) fn add_range(&mut self, owner: Option<Owner>, range: Range) -> Result<(), AllocError>
         ensures { OnOk result (self.new ≡ record self.old { definitions = change_definition owner (definition_with_range range) self.old.definitions }) }
     {
         let Some(Owner::Definition(_, number)) = owner else {
@@ -447,7 +417,11 @@ impl Outline {
 
     /// Adds a `visible if` line to the menu that owns it.
     #[inline(never)]
-    fn add_visible(&mut self, owner: Option<Owner>, condition: Expr) -> Result<(), AllocError>
+    pub(super) fn add_visible(
+        &mut self,
+        owner: Option<Owner>,
+        condition: Expr,
+    ) -> Result<(), AllocError>
         ensures { OnOk result (self.new ≡ record self.old { blocks = change_block owner (block_with_visible condition) self.old.blocks }) }
     {
         let Some(Owner::Menu(block) | Owner::Choice(_, block)) = owner else {

@@ -1,7 +1,6 @@
 //! Conditions, and what comes after a word of its own.
 
 ghost use Rattle.std.specs.Prelude.{IfOk, IfErr};
-ghost use Rattle.kc_statement.specs.Formula.{Formula};
 ghost use Rattle.kc_statement.specs.Mistakes.{IsMistake};
 ghost use Rattle.kc_statement.specs.Places.{IsPlaced};
 ghost use Rattle.kc_statement.specs.Statements.{IsCondition, IsWordAndCondition};
@@ -9,7 +8,6 @@ ghost use Rattle.kc_statement.specs.Statements.{IsCondition, IsWordAndCondition}
 use crate::expr::{Expr, ExprKind};
 use crate::mistake::{Unread, Wanted, wants};
 use crate::parser::Parser;
-use crate::statement::Statement;
 use crate::word::is_word;
 use kc_text::Token;
 
@@ -32,22 +30,6 @@ impl Parser<'_> {
             return Err(wants(wanted, tokens.len()));
         }
         self.expression(ExprKind::Condition, rest)
-    }
-
-    /// The condition after a word, as a statement says it.
-    pub(crate) fn read_after_word<F: FnOnce(Expr) -> Statement>(
-        &self,
-        word: &str,
-        wanted: Wanted,
-        tokens: &[Token<'_>],
-        says: F,
-    ) -> Result<Statement, Unread>
-        requires { F.IsAlwaysCallable says }
-        ensures read { IfOk result (λ s. (e : Formula) × IsWordAndCondition self.now.names.now word.now tokens.now e × F.post says e s) }
-        ensures mistake { IfErr result (IsMistake (IsWordAndCondition self.now.names.now word.now tokens.now)) }
-    {
-        let condition = self.after_word(word, wanted, tokens)?;
-        Ok(says(condition))
     }
 
     /// The expression after `if`, none where nothing is there. Where something else is there, the line is to end.

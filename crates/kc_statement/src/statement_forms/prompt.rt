@@ -1,6 +1,6 @@
 //! Titles and prompts.
 
-ghost use Rattle.std.specs.Prelude.{◌≡◌, ℕ, List, IfOk, IfErr};
+ghost use Rattle.std.specs.Prelude.{◌≡◌, IfOk, IfErr};
 ghost use Rattle.kc_statement.specs.Forms.{quoted_text};
 ghost use Rattle.kc_statement.specs.Mistakes.{IsMistake};
 ghost use Rattle.kc_statement.specs.Places.{IsPlaced};
@@ -9,7 +9,6 @@ ghost use Rattle.kc_statement.specs.Statements.{IsPrompt, IsQuoted};
 use crate::attribute::Prompt;
 use crate::mistake::{Unread, Wanted, wants};
 use crate::parser::Parser;
-use crate::statement::Statement;
 use kc_text::{Text, TextRef, Token};
 
 /// The text of a token in quotes.
@@ -25,14 +24,9 @@ pub(crate) fn quoted_text<'a>(token: &'a Token<'_>) -> Option<TextRef<'a>>
 }
 
 impl Parser<'_> {
-    /// A title in quotes, alone, as a statement says it.
-    pub(crate) fn read_title<F: FnOnce(Text) -> Statement>(
-        &self,
-        tokens: &[Token<'_>],
-        says: F,
-    ) -> Result<Statement, Unread>
-        requires { F.IsAlwaysCallable says }
-        ensures read { IfOk result (λ s. (title : List ℕ) × IsQuoted tokens.now title × F.post says title s) }
+    /// A title in quotes, alone.
+    pub(crate) fn title(&self, tokens: &[Token<'_>]) -> Result<Text, Unread>
+        ensures read { IfOk result (IsQuoted tokens.now) }
         ensures mistake { IfErr result (IsMistake (IsQuoted tokens.now)) }
         ensures place { IfErr result (IsPlaced (IsQuoted) tokens.now) }
     {
@@ -45,7 +39,7 @@ impl Parser<'_> {
         if !rest.is_empty() {
             return Err(wants(Wanted::Nothing, rest.len()));
         }
-        Ok(says(Text::copy_of(self.alloc, text.as_str())?))
+        Ok(Text::copy_of(self.alloc, text.as_str())?)
     }
 
     /// A text in quotes, and its condition.

@@ -11,7 +11,6 @@ use crate::id::SymId;
 use crate::mistake::{Unread, Wanted, wants};
 use crate::name::name_word;
 use crate::parser::Parser;
-use crate::statement::Statement;
 use kc_text::Token;
 
 impl Parser<'_> {
@@ -32,19 +31,5 @@ impl Parser<'_> {
         };
         let condition = self.condition(rest)?;
         Ok((self.names.symbol(name.as_str()), condition))
-    }
-
-    /// A name and its condition, as a statement says them.
-    pub(crate) fn read_selection<F: FnOnce(Option<SymId>, Option<Expr>) -> Statement>(
-        &self,
-        tokens: &[Token<'_>],
-        says: F,
-    ) -> Result<Statement, Unread>
-        requires { F.IsAlwaysCallable says }
-        ensures read { IfOk result (λ s. (x : Option SymId × Option Formula) × IsSelection self.now.names.now tokens.now x.0 x.1 × F.post says x.0 x.1 s) }
-        ensures mistake { IfErr result (IsMistake (λ (x : Option SymId × Option Formula). IsSelection self.now.names.now tokens.now x.0 x.1)) }
-    {
-        let (target, condition) = self.selection(tokens)?;
-        Ok(says(target, condition))
     }
 }

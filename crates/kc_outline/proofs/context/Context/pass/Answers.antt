@@ -4,8 +4,8 @@ use Rattle.kc_outline.proofs.FormLaws.{defined-form}
 use Rattle.kc_outline.proofs.ContextLaws.{IsContextAfter-statement, block_of}
 use Rattle.kc_outline.proofs.context.Context.pass.Goals as goal
 
-pub returns : goal.returns
-returns c = λ names earlier says known form is.
+pub returns-clause-known : goal.returns-clause-known
+returns-clause-known c = λ names earlier says known form is.
     let p = c.args.self.now in
     let word = c.in-Some.word in
     let counted = c.count.ensures in

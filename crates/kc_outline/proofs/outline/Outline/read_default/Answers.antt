@@ -1,4 +1,4 @@
-use Rattle.std.proofs.Common.{subst, List, ℕ, ◌≡◌, true, refl, sym, ap, ◌∙◌, inr}
+use Rattle.std.proofs.Common.{subst, List, ℕ, ◌≡◌, true, refl, sym, ap, ◌∙◌}
 use Rattle.kc_statement.specs.LineParts.{SaysOnly}
 use Rattle.kc_statement.specs.declared.statement.Statement.TheVariants as statement
 use Rattle.kc_outline.specs.LineFaults.{is_name_term, is_no_choice_default}
@@ -10,4 +10,4 @@ returns-then-not-is_name_term-clause-stop c =
     subst (λ (ns : List (List ℕ)). SaysOnly ns c.args.line.now (statement.Default c.in_ok-default.default)) (ap (λ t. t.names) c.self.view_is) (c.in_ok-default.ensures.part c.requires) in
     let refused : is_no_choice_default c.args.nearest (statement.Default c.in_ok-default.default) ≡ true =
     rw (sym c.is_of_choice.ensures ∙ c.if-is_of_choice.true, ap is_name_term (sym c.term_alone.ensures) ∙ sym c.is_name_term.ensures ∙ c.if-not-is_name_term.true) refl in
-    (refl, inr (statement.Default c.in_ok-default.default, says, refused))
+    ((refl, statement.Default c.in_ok-default.default, says, refused), refl)
