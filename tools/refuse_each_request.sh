@@ -20,7 +20,7 @@ readonly SECONDS_OF_A_RUN=20
 readonly ANSWERED=0
 readonly UNPREPARED=3
 readonly REFUSED=4
-readonly WORDS=(add from_pairs logical_lines parse empty node read_config read_config_lines new_session open set load merge
+readonly WORDS=(add from_pairs logical_lines lines_from parse empty node read_config read_config_lines new_session open set load merge
     list choices config header defconfig new run fill merged set_after_list set_after_nodes)
 
 root=$(cd "$(dirname "${BASH_SOURCE[0]}")/.." && pwd)

@@ -2,15 +2,16 @@
 //! error.
 
 use crate::explanations::Wording;
+use crate::files::Files;
 use crate::folder::Folder;
-use crate::opening::{Files, Kconfig};
+use crate::opening::Kconfig;
 use std::io::Write;
 
 /// Asks whether a Kconfig is a `.config`, where its files define variables and no symbol, and words are wanted. What can't
 /// be written, or for which memory is refused, changes nothing else.
 pub(crate) fn ask_of_exchange<F: Folder, E: Write>(
     symbols: usize,
-    files: &Files<'_, F>,
+    files: &Files<'_>,
     kconfig: &Kconfig<'_, F>,
     wording: Wording,
     errors: &mut E,

@@ -1,19 +1,19 @@
-//! What is said of a fault in words: these, and the lines that show it. The files are read again for that.
+//! What is said of a fault in words: these, and the lines that show it.
 
+use crate::files::Files;
 use crate::folder::Folder;
 use crate::messages::{Fault, Report};
 use crate::notes::Note;
-use crate::opening::{ConfigFile, Files, Kconfig};
+use crate::opening::{ConfigFile, Kconfig};
 use crate::sourcing::{
     explain_recursion, explain_unread, explain_untrue, why_unread, words_of_bytes,
 };
-use bumpalo::Bump;
 use kc_explain::{
     Explanation, Naming, WarnedFile, explain_choice, explain_line, explain_loop, explain_symbol,
     explain_text, explain_warnings, fault_meaning, warning_meaning,
 };
 use kc_files::Warning;
-use kc_text::{Line, Text, TextFault, TextProblem};
+use kc_text::{Text, TextFault, TextProblem};
 use kc_tree::TreeFault;
 use std::alloc::{AllocError, Global};
 
@@ -49,7 +49,7 @@ pub fn report_of<F: Folder>(
     alloc: Global,
     fault: Fault,
     wording: Wording,
-    files: &Files<'_, F>,
+    files: &Files<'_>,
     kconfig: &Kconfig<'_, F>,
 ) -> Report {
     let note = match wording {
@@ -154,11 +154,11 @@ pub fn report_of_long_config(alloc: Global, config: &ConfigFile, wording: Wordin
     }
 }
 
-/// What the files of a Kconfig say of its fault: nothing where they can't be read again, or memory is refused.
+/// What the files of a Kconfig say of its fault: nothing where memory is refused.
 fn note_of<F: Folder>(
     alloc: Global,
     fault: &Fault,
-    files: &Files<'_, F>,
+    files: &Files<'_>,
     kconfig: &Kconfig<'_, F>,
 ) -> Option<Note> {
     let explanation = explain_fault(alloc, fault, files, kconfig).ok()??;
@@ -169,7 +169,7 @@ fn note_of<F: Folder>(
 fn explain_fault<F: Folder>(
     alloc: Global,
     fault: &Fault,
-    files: &Files<'_, F>,
+    files: &Files<'_>,
     kconfig: &Kconfig<'_, F>,
 ) -> Result<Option<Explanation>, AllocError> {
     match fault {
@@ -179,8 +179,8 @@ fn explain_fault<F: Folder>(
             let words = words_of_long_config(alloc, kconfig.config)?;
             Ok(Some(Explanation::new(alloc, words)))
         }
-        Fault::Text(fault) | Fault::Full(fault) => explain_texts(alloc, fault, files, kconfig),
-        Fault::Tree(fault) => explain_tree(alloc, fault, files, kconfig),
+        Fault::Text(fault) => explain_texts(alloc, fault, files, kconfig),
+        Fault::Tree(fault) => explain_tree(alloc, fault, files),
         Fault::Stream(_) | Fault::NoMemory => Ok(None),
     }
 }
@@ -189,7 +189,7 @@ fn explain_fault<F: Folder>(
 fn explain_texts<F: Folder>(
     alloc: Global,
     fault: &TextFault,
-    files: &Files<'_, F>,
+    files: &Files<'_>,
     kconfig: &Kconfig<'_, F>,
 ) -> Result<Option<Explanation>, AllocError> {
     let TextFault::At(problem, path, line) = fault else {
@@ -199,45 +199,20 @@ fn explain_texts<F: Folder>(
     let explanation = match problem {
         TextProblem::RecursiveSource => explain_recursion(alloc, files, kconfig, path, *line)?,
         _ => {
-            let text = text_or_none(alloc, files, path)?;
-            explain_text(alloc, text.as_str(), problem, path, *line)?
+            let text = files.text(path).unwrap_or("");
+            explain_text(alloc, text, problem, path, *line)?
         }
     };
     Ok(Some(explanation))
 }
 
-/// The text of the file of a path, which is empty where it can't be read again.
-fn text_or_none<F: Folder>(
-    alloc: Global,
-    files: &Files<'_, F>,
-    path: &str,
-) -> Result<String, AllocError> {
-    match files.text(path)? {
-        Some(text) => Ok(text),
-        None => Ok(String::new(alloc)),
-    }
-}
-
 /// What the lines of a Kconfig say of a fault of its lines or of its tree.
-fn explain_tree<F: Folder>(
+fn explain_tree(
     alloc: Global,
     fault: &TreeFault,
-    files: &Files<'_, F>,
-    kconfig: &Kconfig<'_, F>,
+    files: &Files<'_>,
 ) -> Result<Option<Explanation>, AllocError> {
-    let arena = Bump::new(alloc);
-    match files.lines(&arena, kconfig) {
-        Ok(lines) => explain_lines(alloc, fault, files, lines.as_slice()),
-        Err(TextFault::NoMemory | TextFault::At(..)) => Ok(None),
-    }
-}
-
-fn explain_lines<F: Folder>(
-    alloc: Global,
-    fault: &TreeFault,
-    files: &Files<'_, F>,
-    lines: &[Line<'_>],
-) -> Result<Option<Explanation>, AllocError> {
+    let lines = files.lines();
     let explanation = match fault {
         TreeFault::NoMemory => return Ok(None),
         TreeFault::Line {
@@ -246,8 +221,8 @@ fn explain_lines<F: Folder>(
             line,
         } => {
             let path = path.as_str();
-            let text = text_or_none(alloc, files, path)?;
-            explain_line(alloc, lines, text.as_str(), *problem, path, *line)?
+            let text = files.text(path).unwrap_or("");
+            explain_line(alloc, lines, text, *problem, path, *line)?
         }
         TreeFault::Symbol { problem, name } => {
             explain_symbol(alloc, files.seed(), lines, *problem, name.as_str())?
@@ -274,19 +249,17 @@ fn words_of_long_config(alloc: Global, config: &ConfigFile) -> Result<String, Al
 pub fn words_of_warnings<F: Folder>(
     alloc: Global,
     wording: Wording,
-    files: &Files<'_, F>,
+    files: &Files<'_>,
     kconfig: &Kconfig<'_, F>,
     warnings: &[Warning],
 ) -> Option<Vec<String>> {
     if wording == Wording::Number || warnings.is_empty() {
         return None;
     }
-    let arena = Bump::new(alloc);
-    let lines = files.lines(&arena, kconfig).ok()?;
     let prefix = kconfig.prefix.as_str();
     let config = WarnedFile {
         bytes: kconfig.config.bytes(),
         warnings,
     };
-    explain_warnings(alloc, lines.as_slice(), prefix, &[config], Naming::Named).ok()
+    explain_warnings(alloc, files.lines(), prefix, &[config], Naming::Named).ok()
 }

@@ -3,8 +3,10 @@ ghost use Rattle.std.specs.Prelude.{◌≡◌};
 ghost use Rattle.kc_program.specs.Cuts.{IsCut};
 ghost use Rattle.kc_program.specs.FolderFaults.{is_missing, reason_of};
 
+use bumpalo::Bump;
+use bumpalo::collections::into_bump_slice;
 use kc_tree::Seed;
-use std::alloc::{AllocError, Global};
+use std::alloc::{AllocError, Allocator, Global};
 use std::fs;
 use std::io::{self, ErrorKind, Read};
 use std::random::RandomSource;
@@ -58,15 +60,23 @@ pub trait Folder {
         self.read_bytes(alloc, path)
     }
 
-    /// The same for a file that may never be wanted: `CannotRead` also where it has more than 16,777,216 bytes, and
-    /// where reading it might not end, or might take bytes from others, as from a pipe.
-    fn read_plain(&self, alloc: Global, path: &str) -> Result<Vec<u8>, FolderFault>;
-
-    /// What `read_plain` gives of a file that has no more bytes than there is room for. Of a longer one this is
-    /// `CannotRead`, or more bytes than there is room for, which may be the first of the file alone.
-    fn read_within(&self, alloc: Global, path: &str, _room: usize) -> Result<Vec<u8>, FolderFault> {
-        self.read_plain(alloc, path)
+    /// The same bytes, which an arena keeps.
+    fn read_kept<'a>(
+        &self,
+        alloc: Global,
+        arena: &'a Bump,
+        path: &str,
+    ) -> Result<&'a [u8], FolderFault> {
+        let bytes = self.read_bytes(alloc, path)?;
+        match arena.try_alloc_slice_copy(bytes.as_slice()) {
+            Ok(kept) => Ok(kept),
+            Err(_) => Err(FolderFault::NoMemory),
+        }
     }
+
+    /// The same for a file that is read again, for a message: `CannotRead` also where it has more than 16,777,216 bytes,
+    /// and where reading it might not end, or might take bytes from others, as from a pipe.
+    fn read_plain(&self, alloc: Global, path: &str) -> Result<Vec<u8>, FolderFault>;
 
     /// Why the file of a path can't be read, in a few words.
     ///
@@ -115,15 +125,14 @@ impl<R: Files> SystemFolder<'_, R> {
         }
     }
 
-    /// The bytes of the file of a path, which are expected to be of a number, and no more than a limit.
-    fn read_expected(
+    /// The bytes of the file of a path, which are expected to be of a number.
+    fn read_expected<A: Allocator>(
         &self,
-        alloc: Global,
+        alloc: A,
         path: &str,
         expected: u64,
-        limit: u64,
-    ) -> Result<Vec<u8>, FolderFault> {
-        let mut file = fs::open(self.rt, path)?.take(limit);
+    ) -> Result<Vec<u8, A>, FolderFault> {
+        let mut file = fs::open(self.rt, path)?.take(MOST_READ);
         let expected = expected.min(MOST_EXPECTED) as usize;
         let Ok(mut bytes) = vec![in alloc; 0u8; expected + 1] else {
             return Err(FolderFault::NoMemory);
@@ -138,23 +147,6 @@ impl<R: Files> SystemFolder<'_, R> {
             bytes.truncate(whole_characters(bytes.as_slice()));
         }
         Ok(bytes)
-    }
-
-    /// The same of a plain file that is to have at most as many bytes as is said. The system may give a length that is
-    /// too small, so the limit holds besides.
-    fn read_short(
-        &self,
-        alloc: Global,
-        path: &str,
-        most: u64,
-        limit: u64,
-    ) -> Result<Vec<u8>, FolderFault> {
-        let metadata = fs::metadata(self.rt, path)?;
-        if metadata.is_file() && metadata.len() <= most {
-            self.read_expected(alloc, path, metadata.len(), limit)
-        } else {
-            Err(FolderFault::CannotRead)
-        }
     }
 }
 
@@ -195,7 +187,18 @@ fn reason_of(kind: ErrorKind) -> &'static str
 impl<R: Files + RandomSource> Folder for SystemFolder<'_, R> {
     fn read_bytes(&self, alloc: Global, path: &str) -> Result<Vec<u8>, FolderFault> {
         let metadata = fs::metadata(self.rt, path)?;
-        self.read_expected(alloc, path, metadata.len(), MOST_READ)
+        self.read_expected(alloc, path, metadata.len())
+    }
+
+    fn read_kept<'a>(
+        &self,
+        _alloc: Global,
+        arena: &'a Bump,
+        path: &str,
+    ) -> Result<&'a [u8], FolderFault> {
+        let metadata = fs::metadata(self.rt, path)?;
+        let bytes = self.read_expected(arena, path, metadata.len())?;
+        Ok(into_bump_slice(bytes))
     }
 
     fn read_config(&self, alloc: Global, path: &str) -> Result<Vec<u8>, FolderFault> {
@@ -206,12 +209,12 @@ impl<R: Files + RandomSource> Folder for SystemFolder<'_, R> {
     }
 
     fn read_plain(&self, alloc: Global, path: &str) -> Result<Vec<u8>, FolderFault> {
-        self.read_short(alloc, path, MOST_EXPECTED, MOST_READ)
-    }
-
-    fn read_within(&self, alloc: Global, path: &str, room: usize) -> Result<Vec<u8>, FolderFault> {
-        let room = room as u64;
-        self.read_short(alloc, path, room, room.saturating_add(1))
+        let metadata = fs::metadata(self.rt, path)?;
+        if metadata.is_file() && metadata.len() <= MOST_EXPECTED {
+            self.read_expected(alloc, path, metadata.len())
+        } else {
+            Err(FolderFault::CannotRead)
+        }
     }
 
     fn why_unread(&self, alloc: Global, path: &str) -> Result<String, AllocError> {

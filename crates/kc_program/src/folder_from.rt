@@ -5,6 +5,7 @@ ghost use Rattle.std.specs.String.{string_bytes};
 ghost use Rattle.kc_program.specs.PathsFrom.{is_taken_as_it_is, joined};
 
 use crate::folder::{Folder, FolderFault};
+use bumpalo::Bump;
 use kc_tree::Seed;
 use std::alloc::{AllocError, Global};
 
@@ -53,12 +54,17 @@ impl<F: Folder> Folder for FolderFrom<'_, F> {
         }
     }
 
-    fn read_within(&self, alloc: Global, path: &str, room: usize) -> Result<Vec<u8>, FolderFault> {
+    fn read_kept<'a>(
+        &self,
+        alloc: Global,
+        arena: &'a Bump,
+        path: &str,
+    ) -> Result<&'a [u8], FolderFault> {
         if is_taken_as_it_is(self.base, path) {
-            return self.folder.read_within(alloc, path, room);
+            return self.folder.read_kept(alloc, arena, path);
         }
         match joined(alloc, self.base, path) {
-            Ok(joined) => self.folder.read_within(alloc, joined.as_str(), room),
+            Ok(joined) => self.folder.read_kept(alloc, arena, joined.as_str()),
             Err(AllocError) => Err(FolderFault::NoMemory),
         }
     }

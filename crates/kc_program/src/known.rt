@@ -1,13 +1,16 @@
-//! What is known of the texts of variables before the lines are read in their order: what was passed in, and what lines
-//! define. It serves the guess of `read_ahead` alone.
+//! What is known of the texts of variables without the order of the lines that define them, and the path that a `source`
+//! line names by it, for a message.
 
 use kc_tree::Seed;
 use memchr::{memchr, memchr_iter, memrchr};
 use std::alloc::{AllocError, Global};
 use std::collections::HashMap;
 
-/// The most bytes of a path that is guessed: the system opens none that is longer.
+/// The most bytes of a path: the system opens none that is longer.
 const MAX_PATH_BYTES: usize = 4_096;
+
+/// The word that a `source` line begins with.
+const SOURCE: &str = "source";
 
 /// The texts of variables by their names, the latest that was seen of each.
 #[derive(Drop)]
@@ -102,4 +105,19 @@ fn is_name(text: &str) -> bool {
 
 fn is_name_byte(byte: u8) -> bool {
     byte.is_ascii_alphanumeric() || byte == b'_' || byte == b'-'
+}
+
+/// What a `source` line has in its quotes.
+pub(crate) fn path_of_source(line: &str) -> Option<&str> {
+    let named = line.trim_start_matches([' ', '\t']).strip_prefix(SOURCE)?;
+    in_quotes(named.trim_start_matches([' ', '\t']))
+}
+
+/// What stands between the quotes of either kind with which a text begins, up to the first of its kind.
+fn in_quotes(text: &str) -> Option<&str> {
+    let (quote, quoted) = match text.strip_prefix('\'') {
+        Some(quoted) => (b'\'', quoted),
+        None => (b'"', text.strip_prefix('"')?),
+    };
+    quoted.get(..memchr(quote, quoted.as_bytes())?)
 }

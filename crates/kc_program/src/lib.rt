@@ -3,10 +3,12 @@
 #![tactic(auto)]
 
 mod arguments;
+mod asked_folder;
 mod commands_read;
 mod defined_names;
 mod exchanged;
 mod explanations;
+mod files;
 mod folder;
 mod folder_from;
 mod fragments;
@@ -18,7 +20,6 @@ mod messages;
 mod notes;
 mod opening;
 mod paths_read;
-mod read_ahead;
 mod refusals;
 mod report_texts;
 mod reports;

@@ -2,9 +2,10 @@
 
 use crate::exchanged::ask_of_exchange;
 use crate::explanations::{Wording, report_of};
+use crate::files::Files;
 use crate::folder::Folder;
 use crate::messages::{Fault, Report, Status};
-use crate::opening::{Files, Kconfig, open_kconfig};
+use crate::opening::{Kconfig, open_kconfig};
 use crate::paths_read::paths_read;
 use bumpalo::Bump;
 use kc_session::IoFault;
@@ -25,10 +26,8 @@ pub(crate) fn list_files<F: Folder, W: Write, E: Write>(
     output: &mut W,
     errors: &mut E,
 ) -> Result<Status, Report> {
-    let mut files = match Files::new(alloc, kconfig) {
-        Ok(files) => files,
-        Err(fault) => return Err(Report::of(fault, wording)),
-    };
+    let arena = Bump::new(alloc);
+    let mut files = Files::read(alloc, &arena, kconfig);
     match open_kconfig(&mut files, kconfig) {
         Ok((session, _)) => {
             let symbols = session.tree().symbols().len();
@@ -38,23 +37,16 @@ pub(crate) fn list_files<F: Folder, W: Write, E: Write>(
         }
         Err(fault) => return Err(report_of(alloc, fault, wording, &files, kconfig)),
     }
-    match write_paths(alloc, &files, kconfig, output) {
+    match write_paths(alloc, &files, output) {
         Ok(()) => Ok(Status::Done),
         Err(fault) => Err(Report::of(fault, wording)),
     }
 }
 
 /// Writes the paths of files without a fault.
-fn write_paths<F: Folder, W: Write>(
-    alloc: Global,
-    files: &Files<'_, F>,
-    kconfig: &Kconfig<'_, F>,
-    output: &mut W,
-) -> Result<(), Fault> {
-    let arena = Bump::new(alloc);
-    let lines = files.lines(&arena, kconfig)?;
+fn write_paths<W: Write>(alloc: Global, files: &Files<'_>, output: &mut W) -> Result<(), Fault> {
     let mut text = String::new(alloc);
-    for path in paths_read(alloc, lines.as_slice())? {
+    for path in paths_read(alloc, files.lines())? {
         text.push_str(path)?;
         text.push_str("\n")?;
     }

@@ -41,8 +41,6 @@ pub enum Fault {
     NotUtf8(Text),
     /// The `.config` of a path is too long, or a line of it.
     Limit(Text),
-    /// The limits on all files together have no room for a file beside those that were read ahead.
-    Full(TextFault),
     /// A fault of the variables or of the texts.
     Text(TextFault),
     /// A fault of the lines or of the tree.
@@ -194,7 +192,7 @@ fn write_fault<E: Write>(errors: &mut E, report: &Report) -> io::Result<()> {
         Fault::CannotRead(path) => write_file_fault(errors, path, "cannot read", report),
         Fault::NotUtf8(path) => write_file_fault(errors, path, "not UTF-8", report),
         Fault::Limit(path) => write_file_fault(errors, path, "limit", report),
-        Fault::Full(fault) | Fault::Text(fault) => write_text_fault(errors, fault, report),
+        Fault::Text(fault) => write_text_fault(errors, fault, report),
         Fault::Tree(fault) => write_tree_fault(errors, fault, report),
         Fault::Stream(IoFault::Read) => writeln!(errors, "kconf: cannot read"),
         Fault::Stream(IoFault::Write) => writeln!(errors, "kconf: cannot write"),

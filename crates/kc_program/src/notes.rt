@@ -1,7 +1,6 @@
 //! What is written of an explanation: its words, and below these a line for each that it names.
 
-use crate::folder::Folder;
-use crate::opening::Files;
+use crate::files::Files;
 use kc_explain::{Explanation, Place, Remark};
 use kc_facts::shown_line;
 use memchr::memchr_iter;
@@ -26,23 +25,23 @@ impl Note {
         }
     }
 
-    /// What is written of an explanation. The lines that it names are shown as they are in the files; of a file that
-    /// can't be read again the place alone is shown. Each file is read once, however many lines of it are named.
+    /// What is written of an explanation. The lines that it names are shown as they are in the files; of a file that was
+    /// not read the place alone is shown. Line ends are sought once in each file, however many lines of it are named.
     ///
     /// # Errors
     ///
     /// `AllocError` where memory is refused.
-    pub fn of<F: Folder>(
+    pub fn of(
         alloc: Global,
         explanation: &Explanation,
-        files: &Files<'_, F>,
+        files: &Files<'_>,
     ) -> Result<Note, AllocError> {
         let mut texts = BTreeMap::new(alloc);
         let mut lines = String::new(alloc);
         for remark in explanation.remarks.as_slice() {
             let path = remark.place.path.as_str();
             if !texts.contains_key(path) {
-                let text = LineTexts::of(alloc, files.text(path)?)?;
+                let text = LineTexts::of(alloc, files.text(path).unwrap_or(""))?;
                 texts.insert(String::from_str(alloc, path)?, text)?;
             }
             push_remark(&mut lines, remark, shown_in(&texts, &remark.place))?;
@@ -67,7 +66,7 @@ fn push_remark(lines: &mut String, remark: &Remark, shown: &str) -> Result<(), A
 }
 
 /// How the line of a place is shown, which is empty where it can't be read.
-fn shown_in<'t>(texts: &'t BTreeMap<String, LineTexts>, place: &Place) -> &'t str {
+fn shown_in<'t>(texts: &'t BTreeMap<String, LineTexts<'_>>, place: &Place) -> &'t str {
     match texts.get(place.path.as_str()) {
         Some(text) => shown_line(text.line(place.line)),
         None => "",
@@ -76,19 +75,15 @@ fn shown_in<'t>(texts: &'t BTreeMap<String, LineTexts>, place: &Place) -> &'t st
 
 /// The lines of a text, to be taken by their numbers.
 #[derive(Drop)]
-struct LineTexts {
-    text: String,
+struct LineTexts<'a> {
+    text: &'a str,
     /// Where the line ends are.
     ends: Vec<usize>,
 }
 
-impl LineTexts {
-    /// The lines of a text, or of none.
-    fn of(alloc: Global, text: Option<String>) -> Result<LineTexts, AllocError> {
-        let text = match text {
-            Some(text) => text,
-            None => String::new(alloc),
-        };
+impl<'a> LineTexts<'a> {
+    /// The lines of a text.
+    fn of(alloc: Global, text: &'a str) -> Result<LineTexts<'a>, AllocError> {
         let mut ends = Vec::new(alloc);
         for end in memchr_iter(b'\n', text.as_bytes()) {
             ends.push(end)?;
@@ -97,8 +92,8 @@ impl LineTexts {
     }
 
     /// The line of a number, counted from 1, which is empty where the text has no such line.
-    fn line(&self, number: usize) -> &str {
-        let text = self.text.as_str();
+    fn line(&self, number: usize) -> &'a str {
+        let text = self.text;
         let start = match number {
             0 | 1 => 0,
             _ => match self.ends.get(number - 2) {

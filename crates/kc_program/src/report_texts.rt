@@ -245,7 +245,10 @@ fn source_texts<'a>(
 ) -> Result<Vec<SourceText<'a>>, AllocError> {
     let mut texts = Vec::new(alloc);
     for path in paths_read(alloc, inputs.lines)? {
-        let text = inputs.sources.text(path).unwrap_or("");
+        let text = match inputs.sources.file(path) {
+            Some((_, text)) => text,
+            None => "",
+        };
         texts.push(SourceText { path, text })?;
     }
     Ok(texts)

@@ -2,15 +2,14 @@
 //! lines, which show where things are, and from the values of a session.
 
 use crate::arguments::Arguments;
+use crate::files::Files;
 use crate::messages::Status;
 use crate::opening::{ConfigFile, Kconfig, Opening};
 use crate::report_texts::{check_outcome, menu_outcome, merge_outcome, why_outcome};
 use crate::targets::Target;
-use bumpalo::Bump;
 use kc_files::Warning;
 use kc_session::{OpenFault, Session, open_lines};
-use kc_text::{Line, Sources, TextFault, logical_lines};
-use kc_tree::Seed;
+use kc_text::{Line, ReadFiles};
 use kc_value::Resolver;
 use std::alloc::{AllocError, Global};
 use std::mem;
@@ -55,7 +54,7 @@ pub(crate) struct ReportInputs<'a> {
     pub config: &'a ConfigFile,
     /// The names of the variables that are given.
     pub variables: &'a [(&'a str, &'a str)],
-    pub sources: &'a Sources,
+    pub sources: &'a ReadFiles<'a>,
     pub lines: &'a [Line<'a>],
 }
 
@@ -65,27 +64,21 @@ impl Opening for ReportOpening<'_> {
 
     fn open<F>(
         &self,
-        alloc: Global,
-        seed: Seed,
-        sources: &Sources,
+        files: &Files<'_>,
         kconfig: &Kconfig<'_, F>,
     ) -> Result<(Outcome, usize), OpenFault> {
-        let arena = Bump::new(alloc);
-        let lines = match logical_lines(alloc, &arena, sources, kconfig.vars, kconfig.top) {
-            Ok(lines) => lines,
-            Err(TextFault::NoMemory) => return Err(OpenFault::NoMemory),
-            Err(fault) => return Err(OpenFault::Text(fault)),
-        };
+        let alloc = files.alloc();
+        let lines = files.lines();
         let config = kconfig.config.bytes();
-        let opened = open_lines(alloc, seed, lines.as_slice(), kconfig.prefix, config);
+        let opened = open_lines(alloc, files.seed(), lines, kconfig.prefix, config);
         let (mut session, warnings) = opened?;
         let inputs = ReportInputs {
             arguments: self.arguments,
             fragments: self.fragments,
             config: kconfig.config,
             variables: kconfig.variables,
-            sources,
-            lines: lines.as_slice(),
+            sources: files.texts(),
+            lines,
         };
         let symbols = session.tree().symbols().len();
         let report = report_on(alloc, &inputs, &mut session, warnings);

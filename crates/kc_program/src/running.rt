@@ -7,17 +7,19 @@ use crate::arguments::{Arguments, BadWords};
 use crate::commands_read::{CommandLine, CommandsRead};
 use crate::exchanged::ask_of_exchange;
 use crate::explanations::{Input, Wording, report_of, report_of_inputs, words_of_warnings};
+use crate::files::Files;
 use crate::folder::Folder;
 use crate::folder_from::FolderFrom;
 use crate::fragments::read_fragments;
 use crate::listing::list_files;
 use crate::make_text::make_text;
 use crate::messages::{Fault, Report, Status, write_report_in_pieces, write_warnings};
-use crate::opening::{ConfigFile, Files, Kconfig, open_files, open_kconfig, read_config_file};
+use crate::opening::{ConfigFile, Kconfig, open_files, open_kconfig, read_config_file};
 use crate::refusals::ExplainedReplies;
 use crate::reports::{Outcome, ReportOpening};
 use crate::targets::Target;
 use crate::variables_file::{VariablesFileFault, read_variables, with_words};
+use bumpalo::Bump;
 use clap::Error;
 use clap::error::ErrorKind;
 use kc_explain::{RefusalWords, SymbolNames};
@@ -32,7 +34,7 @@ use std::convert::AsStr;
 use std::io::{self, BufReader, Read, Write};
 use std::mem;
 
-/// The most faults of a Kconfig that are shown with lines, as these are read again for each.
+/// The most faults of a Kconfig that are shown with lines.
 const MOST_EXPLAINED: usize = 16;
 
 /// What is said of a malformed line of a file of variables.
@@ -210,10 +212,8 @@ fn serve_report<F: Folder, W: Write, E: Write>(
 ) -> Result<Status, Report> {
     let wording = arguments.wording;
     let fragments = read_fragments(alloc, arguments, kconfig.folder)?;
-    let mut files = match Files::new(alloc, kconfig) {
-        Ok(files) => files,
-        Err(fault) => return Err(Report::of(fault, wording)),
-    };
+    let arena = Bump::new(alloc);
+    let mut files = Files::read(alloc, &arena, kconfig);
     let opening = ReportOpening {
         arguments: &*arguments,
         fragments: fragments.as_slice(),
@@ -259,11 +259,11 @@ fn report_all<F: Folder, E: Write>(
     alloc: Global,
     first: TreeFault,
     wording: Wording,
-    files: &Files<'_, F>,
+    files: &Files<'_>,
     kconfig: &Kconfig<'_, F>,
     errors: &mut E,
 ) -> Result<Status, Report> {
-    let Ok(faults) = files.faults(kconfig) else {
+    let Ok(faults) = files.faults() else {
         return Err(report_of(alloc, Fault::Tree(first), wording, files, kconfig));
     };
     for (index, fault) in faults.into_iter().enumerate() {
@@ -301,10 +301,8 @@ fn open_session<F: Folder, E: Write>(
     wording: Wording,
     errors: &mut E,
 ) -> Result<Session, Report> {
-    let mut files = match Files::new(alloc, kconfig) {
-        Ok(files) => files,
-        Err(fault) => return Err(Report::of(fault, wording)),
-    };
+    let arena = Bump::new(alloc);
+    let mut files = Files::read(alloc, &arena, kconfig);
     match open_kconfig(&mut files, kconfig) {
         Ok((session, warnings)) => {
             let symbols = session.tree().symbols().len();
@@ -319,7 +317,7 @@ fn open_session<F: Folder, E: Write>(
 /// Writes the warnings of CONFIG. One that cannot be written is no fault: the status says whether the output is there.
 fn warn<F: Folder, E: Write>(
     alloc: Global,
-    files: &Files<'_, F>,
+    files: &Files<'_>,
     kconfig: &Kconfig<'_, F>,
     wording: Wording,
     warnings: &[Warning],

@@ -1,8 +1,10 @@
 //! What is said of files that are wanted and can't be read, and of a file that sources itself.
 
+use crate::files::Files;
 use crate::folder::{Folder, FolderFault};
-use crate::opening::{Files, Kconfig};
-use crate::wants::{source_line_of, source_lines_to};
+use crate::known::{Known, path_of_source};
+use crate::opening::Kconfig;
+use crate::wants::source_lines_to;
 use kc_explain::{Explanation, line_of};
 use kc_facts::references_in;
 use std::alloc::{AllocError, Global};
@@ -16,7 +18,7 @@ use std::str::from_utf8;
 /// `AllocError` where memory is refused.
 pub fn explain_unread<F: Folder>(
     alloc: Global,
-    files: &Files<'_, F>,
+    files: &Files<'_>,
     kconfig: &Kconfig<'_, F>,
     path: &str,
 ) -> Result<Explanation, AllocError> {
@@ -67,7 +69,7 @@ fn push_pattern(words: &mut String, path: &str) -> Result<(), AllocError> {
 /// `AllocError` where memory is refused.
 pub fn explain_untrue<F: Folder>(
     alloc: Global,
-    files: &Files<'_, F>,
+    files: &Files<'_>,
     kconfig: &Kconfig<'_, F>,
     path: &str,
 ) -> Result<Explanation, AllocError> {
@@ -113,17 +115,17 @@ fn line_that_is_not_utf8<F: Folder>(
 /// Words, and the `source` line that wants the file of a path, with the variables in it that have no text.
 fn with_source<F: Folder>(
     alloc: Global,
-    files: &Files<'_, F>,
+    files: &Files<'_>,
     kconfig: &Kconfig<'_, F>,
     path: &str,
     words: String,
 ) -> Result<Explanation, AllocError> {
     let mut explanation = Explanation::new(alloc, words);
-    let Some(source) = source_line_of(alloc, files, kconfig, path)? else {
+    let Some(source) = files.unread_by(path) else {
         return Ok(explanation);
     };
-    let text = text_of_line(alloc, files, source.path.as_str(), source.line)?;
-    let unknown = unknown_variables(alloc, files, kconfig, text.as_str())?;
+    let text = text_of_line(files, source.path.as_str(), source.line);
+    let unknown = unknown_variables(alloc, files, kconfig, text)?;
     push_unknown(&mut explanation.words, unknown.as_slice())?;
     explanation.name_line(alloc, "", source.path.as_str(), source.line)?;
     Ok(explanation)
@@ -137,13 +139,13 @@ fn with_source<F: Folder>(
 /// `AllocError` where memory is refused.
 pub fn explain_recursion<F: Folder>(
     alloc: Global,
-    files: &Files<'_, F>,
+    files: &Files<'_>,
     kconfig: &Kconfig<'_, F>,
     path: &str,
     line: usize,
 ) -> Result<Explanation, AllocError> {
-    let text = text_of_line(alloc, files, path, line)?;
-    let words = recursion_words(alloc, files, kconfig, text.as_str())?;
+    let text = text_of_line(files, path, line);
+    let words = recursion_words(alloc, files, kconfig, text)?;
     let mut explanation = Explanation::new(alloc, words);
     for source in source_lines_to(alloc, files, kconfig, path)?.as_slice() {
         explanation.name_line(alloc, "", source.path.as_str(), source.line)?;
@@ -155,13 +157,13 @@ pub fn explain_recursion<F: Folder>(
 /// What is said of a `source` line that puts a file within itself.
 fn recursion_words<F: Folder>(
     alloc: Global,
-    files: &Files<'_, F>,
+    files: &Files<'_>,
     kconfig: &Kconfig<'_, F>,
     line: &str,
 ) -> Result<String, AllocError> {
     let unknown = unknown_variables(alloc, files, kconfig, line)?;
     if unknown.is_empty() {
-        if let Some(path) = files.path_in(line)? {
+        if let Some(path) = path_in(alloc, files, kconfig, line)? {
             return format!(in alloc; "the file {path} is being read already");
         }
     }
@@ -170,23 +172,32 @@ fn recursion_words<F: Folder>(
     Ok(words)
 }
 
-/// The line of a number in the file of a path, which is empty where it can't be read again.
-fn text_of_line<F: Folder>(
+/// The path that a `source` line of the plain form names.
+fn path_in<F>(
     alloc: Global,
-    files: &Files<'_, F>,
-    path: &str,
-    number: usize,
-) -> Result<String, AllocError> {
-    match files.text(path)? {
-        Some(text) => String::from_str(alloc, line_of(text.as_str(), number)),
-        None => Ok(String::new(alloc)),
+    files: &Files<'_>,
+    kconfig: &Kconfig<'_, F>,
+    line: &str,
+) -> Result<Option<String>, AllocError> {
+    let Some(path) = path_of_source(line) else {
+        return Ok(None);
+    };
+    let mut known = Known::new(alloc, files.seed(), kconfig.variables)?;
+    for (_, text) in files.texts().iter() {
+        known.note_definitions(text)?;
     }
+    known.expand(path)
+}
+
+/// The line of a number in the file of a path, which is empty where it was not read.
+fn text_of_line<'a>(files: &Files<'a>, path: &str, number: usize) -> &'a str {
+    line_of(files.text(path).unwrap_or(""), number)
 }
 
 /// The variables that a line refers to and that neither the command line nor a line of a file gives a text.
 fn unknown_variables<'t, F: Folder>(
     alloc: Global,
-    files: &Files<'_, F>,
+    files: &Files<'_>,
     kconfig: &Kconfig<'_, F>,
     line: &'t str,
 ) -> Result<Vec<&'t str>, AllocError> {

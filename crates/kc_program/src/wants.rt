@@ -1,9 +1,11 @@
-//! Which `source` lines want a file: found by reading the lines without it.
+//! Which `source` lines want a file.
 
-use crate::folder::Folder;
-use crate::opening::{Files, Kconfig};
+use crate::files::Files;
+use crate::opening::Kconfig;
 use bumpalo::Bump;
-use kc_text::{Sources, Text, TextFault, TextProblem, logical_lines};
+use kc_text::{
+    Library, LinesFault, NoFolder, ReadFiles, Text, TextFault, TextProblem, Texts, lines_from,
+};
 use std::alloc::{AllocError, Global};
 
 /// The most files that are open at once (docs/SECURITY.md).
@@ -22,9 +24,9 @@ pub struct SourceLine {
 /// # Errors
 ///
 /// `AllocError` where memory is refused.
-pub fn source_lines_to<F: Folder>(
+pub fn source_lines_to<F>(
     alloc: Global,
-    files: &Files<'_, F>,
+    files: &Files<'_>,
     kconfig: &Kconfig<'_, F>,
     path: &str,
 ) -> Result<Vec<SourceLine>, AllocError> {
@@ -46,22 +48,40 @@ pub fn source_lines_to<F: Folder>(
 
 /// The first `source` line that wants the file of a path, which is that at which the lines stop without this file. The
 /// top file has none.
-///
-/// # Errors
-///
-/// `AllocError` where memory is refused.
-pub fn source_line_of<F: Folder>(
+fn source_line_of<F>(
     alloc: Global,
-    files: &Files<'_, F>,
+    files: &Files<'_>,
     kconfig: &Kconfig<'_, F>,
     path: &str,
 ) -> Result<Option<SourceLine>, AllocError> {
-    let sources = files.sources_without(path)?;
     let arena = Bump::new(alloc);
-    match logical_lines(alloc, &arena, &sources, kconfig.vars, kconfig.top) {
+    let mut texts = Texts::Read(Library {
+        files: files_without(alloc, &arena, files.texts(), path)?,
+        folder: NoFolder,
+    });
+    match lines_from(alloc, &arena, &mut texts, kconfig.vars, kconfig.top) {
         Ok(_) => Ok(None),
-        Err(fault) => wanted_at(fault, path),
+        Err(LinesFault::Text(fault)) | Err(LinesFault::Stopped(_, fault)) => wanted_at(fault, path),
     }
+}
+
+/// Files but that of a path, with their texts lent.
+fn files_without<'a>(
+    alloc: Global,
+    arena: &'a Bump,
+    files: &ReadFiles<'a>,
+    path: &str,
+) -> Result<ReadFiles<'a>, AllocError> {
+    let mut others = ReadFiles::new(alloc, arena);
+    for (other, text) in files.iter() {
+        if *other == path || others.file(other).is_some() {
+            continue;
+        }
+        if others.add(other, text).is_err() {
+            return Err(AllocError);
+        }
+    }
+    Ok(others)
 }
 
 /// The line that wants a file, where a fault is that the file of a path is missing.

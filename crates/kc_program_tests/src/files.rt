@@ -1,15 +1,14 @@
-//! How often the files are read that a Kconfig sources, and those that it only names.
+//! How often the files of a Kconfig and its CONFIG are read, and the seed is asked for.
 use crate::running::{MemoryFolder, run_in};
 use kc_program::{Folder, FolderFault, Seed};
 use std::alloc::Global;
 use std::cell::Cell;
 use std::process::Abort;
 
-// Counts the reads of files in memory, and how often the seed is asked for. Reading ahead may be refused.
+// Counts the reads of files in memory, and how often the seed is asked for.
 #[derive(Drop)]
 struct CountingFolder<'a> {
     files: MemoryFolder<'a>,
-    refusal: Option<FolderFault>,
     reads: Cell<usize>,
     seeds: Cell<usize>,
 }
@@ -21,10 +20,7 @@ impl Folder for CountingFolder<'_> {
     }
 
     fn read_plain(&self, alloc: Global, path: &str) -> Result<Vec<u8>, FolderFault> {
-        match self.refusal {
-            None => self.read_bytes(alloc, path),
-            Some(fault) => Err(fault),
-        }
+        self.read_bytes(alloc, path)
     }
 
     fn seed(&self) -> Seed {
@@ -38,7 +34,6 @@ fn wants_reads<'a>(
     rt: &impl Abort,
     alloc: Global,
     texts: (&'a str, &'a str, &'a str),
-    refusal: Option<FolderFault>,
     want: usize,
 ) {
     let (top, b, c) = texts;
@@ -53,7 +48,6 @@ fn wants_reads<'a>(
         files: MemoryFolder {
             files: files.as_slice(),
         },
-        refusal,
         reads: Cell::new(0),
         seeds: Cell::new(0),
     };
@@ -61,52 +55,42 @@ fn wants_reads<'a>(
     let outcome = run_in(alloc, words.as_slice(), &folder, b"config\n");
     assert_eq!(rt; outcome.errors.as_slice(), b"".as_slice());
     assert_eq!(rt; outcome.output.as_slice(), b"CONFIG_A=y\nok\n".as_slice());
-    assert_eq!(rt; folder.reads.get(), want, "at {top:?}, {refusal:?}");
+    assert_eq!(rt; folder.reads.get(), want, "at {top:?}");
     assert_eq!(rt; folder.seeds.get(), 1);
 }
 
 #[test]
 fn each_file_is_read_as_it_is_wanted(rt: HostRuntime) {
-    // Each with the reads where all may be read ahead, where it can't be, and where its memory is refused, so that all
-    // starts again, with the texts that were wanted before. A path with a backslash is read as it is wanted alone.
     let rows = [
-        // A help text names d, and b is named twice.
+        // A help text names d, and b and c are named twice.
         (
             (
                 "config A\nbool \"a\"\nhelp\n source \"d\"\nsource \"$(NAME)b\"\nsource \"c\"\nsource \"b\"\n",
                 "source \"c\"\n",
                 "# source \"d\"\n",
             ),
-            [5, 4, 4],
+            4,
         ),
-        // In the second start b is wanted first, and in the third again.
+        // A file names a further one.
         (
             (
                 "config A\nbool \"a\"\nhelp\n source \"d\"\nsource \"\\b\"\n",
                 "source \"c\"\n",
                 "",
             ),
-            [5, 4, 4],
+            4,
         ),
-        // After it was wanted b is named.
+        // After it was wanted b is named again.
         (
             (
                 "config A\nbool \"a\"\nsource \"\\b\"\nsource \"\\c\"\n",
                 "",
                 "source \"b\"\n",
             ),
-            [4, 4, 4],
+            4,
         ),
     ];
-    for (texts, [all, unread, refused]) in rows {
-        wants_reads(&rt, rt.alloc(), texts, None, all);
-        wants_reads(
-            &rt,
-            rt.alloc(),
-            texts,
-            Some(FolderFault::CannotRead),
-            unread,
-        );
-        wants_reads(&rt, rt.alloc(), texts, Some(FolderFault::NoMemory), refused);
+    for (texts, want) in rows {
+        wants_reads(&rt, rt.alloc(), texts, want);
     }
 }

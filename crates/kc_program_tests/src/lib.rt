@@ -5,13 +5,13 @@
 #![tactic(auto)]
 
 #[cfg(test)]
-mod ahead;
-#[cfg(test)]
 mod failing;
 #[cfg(test)]
 mod files;
 #[cfg(test)]
 mod flushes;
+#[cfg(test)]
+mod once;
 #[cfg(test)]
 mod refusals;
 #[cfg(test)]

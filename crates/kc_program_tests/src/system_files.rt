@@ -77,7 +77,7 @@ fn a_file_without_end_is_cut(rt: HostRuntime) -> Result<(), Fail> {
 }
 
 #[test]
-fn only_plain_files_are_read_ahead(rt: HostRuntime) -> Result<(), Fail> {
+fn only_plain_files_are_read_again(rt: HostRuntime) -> Result<(), Fail> {
     let folder = SystemFolder::new(&rt);
     for path in ["/dev/null", "/dev/zero", "/", "/dev/null/nothing", ""] {
         let bytes = folder.read_plain(rt.alloc(), path);
@@ -90,27 +90,7 @@ fn only_plain_files_are_read_ahead(rt: HostRuntime) -> Result<(), Fail> {
 }
 
 #[test]
-fn no_more_is_read_ahead_than_there_is_room_for(rt: HostRuntime) -> Result<(), Fail> {
-    let alloc = rt.alloc();
-    let folder = SystemFolder::new(&rt);
-    // Its length is said to be 0.
-    let bytes = folder.read_within(alloc, "/proc/self/status", 10)?;
-    assert_eq!(rt; bytes.len(), 11);
-    let path = temporary_path(&rt, process::id(rt.process()), "room")?;
-    fs::create(&rt, path.as_str())?.set_len(100)?;
-    let fitting = folder.read_within(alloc, path.as_str(), 100);
-    let longer = folder.read_within(alloc, path.as_str(), 99);
-    fs::remove_file(&rt, path.as_str())?;
-    assert_eq!(rt; fitting.map(|bytes| bytes.len()), Ok(100));
-    assert_eq!(rt;
-        longer.map(|bytes| bytes.len()),
-        Err(FolderFault::CannotRead)
-    );
-    Ok(())
-}
-
-#[test]
-fn a_pipe_keeps_its_bytes_until_it_is_wanted(rt: HostRuntime) -> Result<(), Fail> {
+fn a_pipe_is_not_read_again(rt: HostRuntime) -> Result<(), Fail> {
     let folder = SystemFolder::new(&rt);
     let (reader, mut writer) = io::pipe(&rt)?;
     writer.write_all(b"config A\n")?;

@@ -2,7 +2,7 @@
 
 use crate::finding::{Call, Stop};
 use crate::sessions::{SessionCall, Word, check_session};
-use crate::tables::{ADDITIONS, LINE_READINGS, OPENINGS, PAIR_READINGS};
+use crate::tables::{ADDITIONS, ASKED_READINGS, LINE_READINGS, OPENINGS, PAIR_READINGS};
 use crate::text_calls::{TextCall, Texts, check_texts};
 use crate::tree_calls::{TreeCall, check_new, check_parse, check_tree};
 use std::alloc::Global;
@@ -22,10 +22,11 @@ enum Check {
 }
 
 /// All checks by their words, in the order of the layers that the calls belong to.
-const CHECKS: [(&str, Check); 24] = [
+const CHECKS: [(&str, Check); 25] = [
     ("add", Check::Texts(&ADDITIONS)),
     ("from_pairs", Check::Texts(&PAIR_READINGS)),
     ("logical_lines", Check::Texts(&LINE_READINGS)),
+    ("lines_from", Check::Texts(&ASKED_READINGS)),
     ("parse", Check::Parse),
     ("empty", Check::Tree(TreeCall::Empty)),
     ("node", Check::Tree(TreeCall::Node)),

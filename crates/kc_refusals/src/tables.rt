@@ -41,6 +41,13 @@ pub(crate) const LINE_READINGS: [(TextCall, &str); 2] = [
     (TextCall::LogicalLines("ring"), "9 ring:2 -"),
 ];
 
+/// The Kconfig, a file that sources itself, which is K09, and one that sources a file that is missing, which is K08.
+pub(crate) const ASKED_READINGS: [(TextCall, &str); 3] = [
+    (TextCall::LinesFrom("Kconfig"), LINES),
+    (TextCall::LinesFrom("ring"), "9 ring:2 -"),
+    (TextCall::LinesFrom("hole"), "8 hole:3 hole/Bus"),
+];
+
 /// The Kconfig, a file that sources one that is missing, which is K08, and a loop, which is K19.
 pub(crate) const OPENINGS: [(TextCall, &str); 3] = [
     (TextCall::Open("Kconfig", CONFIG), CONFIG_TEXT),

@@ -6,8 +6,11 @@ use crate::showing::lines_text;
 use crate::texts::{FILES, PAIRS};
 use bumpalo::Bump;
 use kc_files::Prefix;
-use kc_text::{Line, Sources, TextFault, TextProblem, Vars, logical_lines};
-use std::alloc::Global;
+use kc_text::{
+    FileFault, Folder, Library, Line, LinesFault, ReadFiles, Sources, TextFault, TextProblem, Vars,
+    lines_from, logical_lines,
+};
+use std::alloc::{AllocError, Global};
 
 /// What the calls are made on.
 #[derive(Drop)]
@@ -53,6 +56,8 @@ pub(crate) enum TextCall {
     FromPairs(&'static [(&'static str, &'static str)]),
     /// `logical_lines` of a top file.
     LogicalLines(&'static str),
+    /// `lines_from` of a top file, over a folder that is asked for its files.
+    LinesFrom(&'static str),
     /// `open` of a top file, with a `.config`.
     Open(&'static str, &'static str),
 }
@@ -85,6 +90,7 @@ fn make_text_call(texts: &mut Texts, call: TextCall, wanted: &str, time: Time) -
             Err(fault) => want_text_fault(texts.alloc, &fault, wanted),
         },
         TextCall::LogicalLines(top) => want_lines(texts, &texts.vars, top, wanted),
+        TextCall::LinesFrom(top) => want_lines_from(texts, top, wanted),
         TextCall::Open(top, config) => want_open(texts, top, config, wanted),
     }
 }
@@ -103,6 +109,63 @@ fn want_lines(texts: &Texts, vars: &Vars, top: &str, wanted: &str) -> Result<(),
     match logical_lines(texts.alloc, &arena, &texts.sources, vars, top) {
         Ok(lines) => want_shown(texts.alloc, lines.as_slice(), wanted),
         Err(fault) => want_text_fault(texts.alloc, &fault, wanted),
+    }
+}
+
+/// The files of the checks, which the arena keeps as they are asked for.
+#[derive(Drop)]
+struct AskedFiles;
+
+impl Folder for AskedFiles {
+    type Fault = AllocError;
+
+    ghost reads = { λ _ _ _ _. Unit {0} };
+
+    fn read<'a>(
+        &mut self,
+        arena: &'a Bump,
+        path: &str,
+        _room: usize,
+    ) -> Result<Option<&'a str>, AllocError> {
+        for (name, text) in FILES {
+            if name == path {
+                return Ok(Some(arena.try_alloc_str(text)?));
+            }
+        }
+        Ok(None)
+    }
+}
+
+/// Wants the lines or the fault of a top file whose files are asked for. Where memory is refused, the files that were read
+/// are there, and the same library gives the lines or the fault the next time.
+fn want_lines_from(texts: &Texts, top: &str, wanted: &str) -> Result<(), Stop> {
+    let arena = Bump::new(texts.alloc);
+    let mut library = kc_text::Texts::Read(Library {
+        files: ReadFiles::new(texts.alloc, &arena),
+        folder: AskedFiles,
+    });
+    let first = want_asked(texts, &arena, &mut library, top, wanted);
+    if let Err(Stop::Refused) = first {
+        own(want_asked(texts, &arena, &mut library, top, wanted))?;
+    }
+    first
+}
+
+/// Wants the lines or the fault of a top file over a library.
+fn want_asked<'a>(
+    texts: &'a Texts,
+    arena: &'a Bump,
+    library: &mut kc_text::Texts<'a, AskedFiles>,
+    top: &str,
+    wanted: &str,
+) -> Result<(), Stop> {
+    match lines_from(texts.alloc, arena, library, &texts.vars, top) {
+        Ok(lines) => want_shown(texts.alloc, lines.as_slice(), wanted),
+        Err(LinesFault::Text(fault)) => want_text_fault(texts.alloc, &fault, wanted),
+        Err(LinesFault::Stopped(FileFault::Files(fault), _)) => {
+            want_text_fault(texts.alloc, &fault, wanted)
+        }
+        Err(LinesFault::Stopped(FileFault::Folder(_), _)) => Err(Stop::Refused),
     }
 }
 
