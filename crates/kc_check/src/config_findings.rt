@@ -3,14 +3,14 @@
 use crate::finding::Finding;
 use crate::inputs::CheckInputs;
 use crate::meant_lines::{character_without_backslash, name_meant_unset};
-use crate::replaced::{Replaced, assign_at};
 use crate::selections::push_bracketed;
 use crate::shown_values::{has_no_value, push_asked, push_value};
 use kc_facts::{
-    Attribute, Family, FragmentLine, FragmentLines, Input, LineIndex, NamedLine, Outcome, Part,
-    View, name_in, outcomes_of, push_shortfall, read_fragments, shown_line,
+    Attribute, Family, FoundInLine, FragmentLine, Input, LineFact, LineIndex, NamedLine, Part,
+    View, assign_at, found_in_lines, name_in, outcomes_of, push_shortfall, read_fragments,
+    shown_line,
 };
-use kc_files::{Assign, LineSays, ReadFault};
+use kc_files::{Assign, ReadFault};
 use kc_tree::{ChoiceId, Node, SymId, SymbolType, Tree};
 use kc_value::{Reason, active_range, changed_value, reason_over, spelled};
 use std::alloc::{AllocError, Global};
@@ -32,63 +32,89 @@ pub(crate) fn config_findings(
 ) -> Result<(), ReadFault> {
     let tree = view.tree();
     let read = read_fragments(alloc, tree, inputs.prefix, &[config])?;
-    let outcomes = outcomes_of(alloc, tree, view.values(), read.lines.as_slice())?;
-    let replaced = Replaced::of(alloc, read.lines.as_slice(), outcomes.as_slice())?;
+    let lines = read.lines.as_slice();
+    let outcomes = outcomes_of(alloc, tree, view.values(), lines)?;
+    let facts = found_in_lines(alloc, lines, outcomes.as_slice())?;
     let report = Report {
         view,
         line_index: index,
         prefix: inputs.prefix.as_str(),
         path: config.path,
-        lines: read.lines.as_slice(),
-        outcomes: outcomes.as_slice(),
-        replaced,
+        lines,
+        facts: facts.as_slice(),
+        named: read.unusable.as_slice(),
+        unusable: inputs.unusable,
     };
-    report.add(alloc, config.bytes, &read, inputs.unusable, found)?;
+    report.add(alloc, config.bytes, found)?;
     Ok(())
 }
 
-/// The lines of a `.config`, and what became of them.
+/// The lines of a `.config`, and what is found in them.
 #[derive(Drop)]
-struct Report<'r, 's, 'l, 'a> {
+struct Report<'r, 's, 'l, 'a, 'c> {
     view: &'r View<'s>,
     line_index: &'r LineIndex<'l, 'a>,
     prefix: &'r str,
     path: &'r str,
     lines: &'r [FragmentLine],
-    outcomes: &'r [Outcome],
-    replaced: Replaced,
+    /// What is found in the lines, in their order.
+    facts: &'r [FoundInLine],
+    /// The names in the lines that can't be used, and what is said of these, in their order.
+    named: &'r [NamedLine<'c>],
+    unusable: &'r [String],
 }
 
-impl Report<'_, '_, '_, '_> {
+/// How many lines of a `.config`, facts of these, and lines that can't be used were passed.
+#[derive(Clone, Copy)]
+struct Passed {
+    lines: usize,
+    facts: usize,
+    unusable: usize,
+}
+
+impl Report<'_, '_, '_, '_, '_> {
     /// Adds what is found in each line of the bytes.
-    fn add(
-        &self,
-        alloc: Global,
-        bytes: &[u8],
-        read: &FragmentLines<'_>,
-        unusable: &[String],
-        found: &mut Vec<Finding>,
-    ) -> Result<(), AllocError> {
-        let mut left = read.unusable.iter().zip(unusable);
-        let mut index = 0usize;
+    fn add(&self, alloc: Global, bytes: &[u8], found: &mut Vec<Finding>) -> Result<(), AllocError> {
+        let mut passed = Passed {
+            lines: 0,
+            facts: 0,
+            unusable: 0,
+        };
         for (before, text) in bytes.split(|byte| *byte == b'\n').enumerate() {
             let number = before.saturating_add(1);
-            let Some(line) = self.line_at(index, number) else {
+            if self.line_at(passed.lines, number).is_none() {
                 self.add_comment(alloc, number, text, found)?;
                 continue;
-            };
-            match &line.line.says {
-                LineSays::Usable(assign) => {
-                    self.add_usable(alloc, index, number, assign, found)?;
-                    self.add_dropped(alloc, number, text, assign, found)?;
-                }
-                LineSays::Warned(_) => {
-                    if let Some((named, words)) = left.next() {
-                        self.add_unusable(alloc, number, named, words.as_str(), found)?;
-                    }
-                }
             }
-            index = index.saturating_add(1);
+            self.add_found(alloc, number, &mut passed, found)?;
+            if let Some(assign) = assign_at(self.lines, passed.lines) {
+                self.add_dropped(alloc, number, text, assign, found)?;
+            }
+            passed.lines = passed.lines.saturating_add(1);
+        }
+        Ok(())
+    }
+
+    /// Adds what is found in the next line, which has a number.
+    fn add_found(
+        &self,
+        alloc: Global,
+        number: usize,
+        passed: &mut Passed,
+        found: &mut Vec<Finding>,
+    ) -> Result<(), AllocError> {
+        let left = self.facts.get(passed.facts..).unwrap_or(&[]);
+        for next in left {
+            if next.line != passed.lines {
+                return Ok(());
+            }
+            passed.facts = passed.facts.saturating_add(1);
+            if next.fact == LineFact::Unusable {
+                self.add_unusable(alloc, number, passed.unusable, found)?;
+                passed.unusable = passed.unusable.saturating_add(1);
+            } else {
+                self.add_usable(alloc, number, next, found)?;
+            }
         }
         Ok(())
     }
@@ -150,45 +176,48 @@ impl Report<'_, '_, '_, '_> {
         Ok(())
     }
 
-    /// Adds that a line can't be used, but for the line that kconf writes for a number without a value.
+    /// Adds that a line can't be used, but for the line that kconf writes for a number without a value. It has a number among
+    /// those that can't be used.
     fn add_unusable(
         &self,
         alloc: Global,
         number: usize,
-        named: &NamedLine<'_>,
-        words: &str,
+        place: usize,
         found: &mut Vec<Finding>,
     ) -> Result<(), AllocError> {
-        if named.value == Some("") && is_number_without_value(self.view, named.name) {
-            return Ok(());
+        let mut name = "";
+        if let Some(named) = self.named.get(place) {
+            if named.value == Some("") && is_number_without_value(self.view, named.name) {
+                return Ok(());
+            }
+            name = named.name;
         }
-        let words = String::from_str(alloc, words)?;
-        found.push(Finding::in_line(alloc, self.path, number, named.name, words)?)?;
+        let words = match self.unusable.get(place) {
+            Some(words) => String::from_str(alloc, words.as_str())?,
+            None => String::new(alloc),
+        };
+        found.push(Finding::in_line(alloc, self.path, number, name, words)?)?;
         Ok(())
     }
 
-    /// Adds what is found in a line that can be used.
+    /// Adds what is found in a line that can be used, and has a number.
     fn add_usable(
         &self,
         alloc: Global,
-        index: usize,
         number: usize,
-        assign: &Assign,
+        next: &FoundInLine,
         found: &mut Vec<Finding>,
     ) -> Result<(), AllocError> {
+        let Some(assign) = assign_at(self.lines, next.line) else {
+            return Ok(());
+        };
+        let words = match next.fact {
+            LineFact::ReplacesLine(earlier) => self.replaced_words(alloc, earlier, assign)?,
+            LineFact::ReplacesMember(earlier) => self.member_words(alloc, earlier, assign)?,
+            LineFact::WithoutEffect | LineFact::Unusable => self.effect_words(alloc, assign)?,
+        };
         let name = self.view.tree().name(assign.symbol);
-        if let Some(earlier) = self.replaced.same(index) {
-            let words = self.replaced_words(alloc, earlier, assign)?;
-            found.push(Finding::in_line(alloc, self.path, number, name, words)?)?;
-        }
-        if let Some(earlier) = self.replaced.rival(index) {
-            let words = self.rival_words(alloc, earlier, assign)?;
-            found.push(Finding::in_line(alloc, self.path, number, name, words)?)?;
-        }
-        if self.outcomes.get(index) == Some(&Outcome::Other) {
-            let words = self.effect_words(alloc, assign)?;
-            found.push(Finding::in_line(alloc, self.path, number, name, words)?)?;
-        }
+        found.push(Finding::in_line(alloc, self.path, number, name, words)?)?;
         Ok(())
     }
 
@@ -220,7 +249,7 @@ impl Report<'_, '_, '_, '_> {
     }
 
     /// What is said of a member that takes the place of that of an earlier line.
-    fn rival_words(
+    fn member_words(
         &self,
         alloc: Global,
         earlier: usize,

@@ -1,11 +1,11 @@
 //! The lines of a report on fragments that were merged.
 
 use crate::earlier_effects::{EffectsBefore, UsableLine};
-use crate::replaced::{Replaced, assign_at};
 use crate::shown_values::{push_asked, push_value};
-use kc_facts::{FragmentLines, Input, MergeCounts, NamedLine, Outcome, View, push_shortfall};
-use kc_files::{Assign, LineSays};
-use kc_value::is_same_user_value;
+use kc_facts::{
+    FoundInLine, FragmentLines, Input, LineFact, MergeCounts, View, assign_at, push_shortfall,
+};
+use kc_files::Assign;
 use std::alloc::{AllocError, Global};
 
 /// What a report on fragments is written from.
@@ -16,51 +16,39 @@ pub(crate) struct MergeText<'r, 's, 'f> {
     pub read: &'r FragmentLines<'f>,
     /// What is said of each line that can't be used, in their order.
     pub unusable: &'r [String],
-    pub outcomes: &'r [Outcome],
-    pub replaced: &'r Replaced,
+    /// What is reported of the lines, in their order.
+    pub reported: &'r [FoundInLine],
+    /// By the number of a symbol, the line that gives it the value that it has.
+    pub giving: &'r [Option<usize>],
 }
 
 impl MergeText<'_, '_, '_> {
-    /// The lines of the report on each line of the fragments, in their order.
+    /// The lines of the report on the lines of the fragments: one for each thing that is reported.
     ///
     /// # Errors
     ///
     /// `AllocError` where memory is refused.
     pub fn written(&self, alloc: Global) -> Result<String, AllocError> {
-        let mut left = self.read.unusable.iter().zip(self.unusable);
-        let got = self.lines_that_got(alloc)?;
         let mut text = String::new(alloc);
-        for (index, line) in self.read.lines.iter().enumerate() {
-            match &line.line.says {
-                LineSays::Warned(_) => {
-                    if let Some((named, words)) = left.next() {
-                        self.push_unusable(&mut text, index, named, words.as_str())?;
-                    }
+        let mut unusable = 0usize;
+        for found in self.reported {
+            let line = found.line;
+            match found.fact {
+                LineFact::Unusable => {
+                    self.push_unusable(&mut text, line, unusable)?;
+                    unusable = unusable.saturating_add(1);
                 }
-                LineSays::Usable(assign) => {
-                    self.push_replaced(&mut text, index, assign)?;
-                    self.push_rival(&mut text, index, assign)?;
-                    self.push_other(alloc, &mut text, index, assign, got.as_slice())?;
-                }
+                LineFact::ReplacesLine(earlier) => self.push_replaced(&mut text, line, earlier)?,
+                LineFact::ReplacesMember(earlier) => self.push_member(&mut text, line, earlier)?,
+                LineFact::WithoutEffect => self.push_other(alloc, &mut text, line)?,
             }
         }
         Ok(text)
     }
 
-    /// By the number of a symbol, the line that gives it the value that it has.
-    fn lines_that_got(&self, alloc: Global) -> Result<Vec<Option<usize>>, AllocError> {
-        let mut got = vec![in alloc; None; self.view.tree().symbols().len()]?;
-        for (index, outcome) in self.outcomes.iter().enumerate() {
-            if *outcome != Outcome::Got {
-                continue;
-            }
-            if let Some(assign) = assign_at(self.read.lines.as_slice(), index) {
-                if let Some(slot) = got.get_mut(assign.symbol.0 as usize) {
-                    *slot = Some(index);
-                }
-            }
-        }
-        Ok(got)
+    /// What the line of an index gives, if it can be used.
+    fn assign(&self, index: usize) -> Option<&Assign> {
+        assign_at(self.read.lines.as_slice(), index)
     }
 
     /// Adds the place of the line of an index: `PATH:LINE`.
@@ -88,75 +76,64 @@ impl MergeText<'_, '_, '_> {
         write!(text, ": {name}: ")
     }
 
-    /// Adds why a line can't be used, in the words that were passed in.
+    /// Adds why a line can't be used, in the words that were passed in for the one of this number among those.
     fn push_unusable(
         &self,
         text: &mut String,
         index: usize,
-        named: &NamedLine<'_>,
-        words: &str,
+        number: usize,
     ) -> Result<(), AllocError> {
         self.push_at(text, index)?;
         text.push_str(": ")?;
-        if named.name != "" {
-            text.push_str(named.name)?;
-            text.push_str(": ")?;
+        if let Some(named) = self.read.unusable.get(number) {
+            if named.name != "" {
+                text.push_str(named.name)?;
+                text.push_str(": ")?;
+            }
         }
-        text.push_str(words)?;
+        if let Some(words) = self.unusable.get(number) {
+            text.push_str(words.as_str())?;
+        }
         text.push('\n')?;
         Ok(())
     }
 
-    /// Adds which line of its symbol a line takes the place of, where that gives another value.
+    /// Adds which line of its symbol a line takes the place of.
     fn push_replaced(
         &self,
         text: &mut String,
         index: usize,
-        assign: &Assign,
+        before: usize,
     ) -> Result<(), AllocError> {
-        let Some(before) = self.replaced.same(index) else {
-            return Ok(());
-        };
-        let Some(earlier) = assign_at(self.read.lines.as_slice(), before) else {
-            return Ok(());
-        };
-        if is_same_user_value(&earlier.value, &assign.value) {
-            return Ok(());
+        self.push_taken(text, index)?;
+        if let Some(earlier) = self.assign(before) {
+            push_asked(text, self.view, earlier.symbol, &earlier.value)?;
         }
-        self.push_taken(text, index, assign)?;
-        push_asked(text, self.view, assign.symbol, &earlier.value)?;
         self.push_bracketed_at(text, before)
     }
 
     /// Adds which other member of its choice a line takes the place of.
-    fn push_rival(
+    fn push_member(
         &self,
         text: &mut String,
         index: usize,
-        assign: &Assign,
+        before: usize,
     ) -> Result<(), AllocError> {
-        let Some(before) = self.replaced.rival(index) else {
-            return Ok(());
-        };
-        let Some(earlier) = assign_at(self.read.lines.as_slice(), before) else {
-            return Ok(());
-        };
-        self.push_taken(text, index, assign)?;
-        text.push_str(self.view.tree().name(earlier.symbol))?;
-        text.push('=')?;
-        push_asked(text, self.view, earlier.symbol, &earlier.value)?;
+        self.push_taken(text, index)?;
+        if let Some(earlier) = self.assign(before) {
+            text.push_str(self.view.tree().name(earlier.symbol))?;
+            text.push('=')?;
+            push_asked(text, self.view, earlier.symbol, &earlier.value)?;
+        }
         self.push_bracketed_at(text, before)
     }
 
     /// Adds that what a line gives takes the place of something.
-    fn push_taken(
-        &self,
-        text: &mut String,
-        index: usize,
-        assign: &Assign,
-    ) -> Result<(), AllocError> {
-        self.push_head(text, index, assign)?;
-        push_asked(text, self.view, assign.symbol, &assign.value)?;
+    fn push_taken(&self, text: &mut String, index: usize) -> Result<(), AllocError> {
+        if let Some(assign) = self.assign(index) {
+            self.push_head(text, index, assign)?;
+            push_asked(text, self.view, assign.symbol, &assign.value)?;
+        }
         text.push_str(" takes the place of ")
     }
 
@@ -169,24 +146,17 @@ impl MergeText<'_, '_, '_> {
 
     /// Adds that a symbol has another value than a line gives it, and why: where another line gives it that value, which
     /// chose it in its choice, that one.
-    fn push_other(
-        &self,
-        alloc: Global,
-        text: &mut String,
-        index: usize,
-        assign: &Assign,
-        got: &[Option<usize>],
-    ) -> Result<(), AllocError> {
-        if self.outcomes.get(index) != Some(&Outcome::Other) {
+    fn push_other(&self, alloc: Global, text: &mut String, index: usize) -> Result<(), AllocError> {
+        let Some(assign) = self.assign(index) else {
             return Ok(());
-        }
+        };
         self.push_head(text, index, assign)?;
         text.push_str("asked ")?;
         push_asked(text, self.view, assign.symbol, &assign.value)?;
         text.push_str(", got ")?;
         push_value(text, self.view, assign.symbol)?;
         text.push_str(": ")?;
-        match got.get(assign.symbol.0 as usize).copied().flatten() {
+        match self.giving.get(assign.symbol.0 as usize).copied().flatten() {
             Some(chooser) => {
                 self.push_at(text, chooser)?;
                 text.push_str(" chose it")?;

@@ -4,11 +4,14 @@ ghost use Rattle.std.specs.Prelude.{◌≡◌, ◌+◌, IfOk, count_by, length};
 ghost use Rattle.kc_value.specs.Assignment.{assignment_of};
 ghost use Rattle.kc_value.specs.Solution.{AreSolved};
 ghost use Rattle.kc_facts.specs.Outcomes.{fragment_lines, outcomes, is_got, is_other, is_unusable, is_replaced};
+ghost use Rattle.kc_facts.specs.LineFacts.{reported_of};
 
 use crate::earlier_effects::EffectsBefore;
 use crate::merge_lines::{MergeText, push_counts, push_lost};
-use crate::replaced::Replaced;
-use kc_facts::{Input, MergeCounts, Outcome, View, outcomes_of, read_fragments};
+use kc_facts::{
+    FoundInLine, Input, MergeCounts, Outcome, View, giving_lines, outcomes_of, read_fragments,
+    reported_of,
+};
 use kc_files::{Prefix, ReadFault};
 use std::alloc::Global;
 
@@ -21,12 +24,15 @@ pub struct MergeReport {
     pub counts: MergeCounts,
     /// What became of each line of the fragments that says something, in their order.
     pub outcomes: Vec<Outcome>,
+    /// What the lines of the text say of the lines of the fragments, in their order.
+    pub reported: Vec<FoundInLine>,
 }
 
 /// What became of the lines of fragments, over the values of the tree after all of them were merged into a `.config`
 /// (this project's own): of each line that says something, whether a later line of a fragment replaced it, it can't be
 /// used, its symbol has its value, or another one; and which lines of the `.config` have lost their effect, of symbols
-/// that no fragment names. What is said of each line that can't be used is passed in, in their order.
+/// that no fragment names. What is said of each line that can't be used is passed in, in their order; each such line is
+/// reported, also where there are fewer words than lines.
 ///
 /// # Errors
 ///
@@ -42,6 +48,8 @@ pub fn merge_report(
 ) -> Result<MergeReport, ReadFault>
     ensures outcomes { IfOk result (λ r. r.outcomes.items
         ≡ outcomes view.now.tree (assignment_of view.now.tree view.now.values) (fragment_lines view.now.tree prefix.now fragments.now)) }
+    ensures reported { IfOk result (λ r. r.reported.items
+        ≡ reported_of (fragment_lines view.now.tree prefix.now fragments.now) r.outcomes.items) }
     ensures asked { IfOk result (λ r. r.counts.asked ≡ length r.outcomes.items) }
     ensures got { IfOk result (λ r. r.counts.got ≡ count_by is_got r.outcomes.items) }
     ensures other { IfOk result (λ r. r.counts.other ≡ count_by is_other r.outcomes.items) }
@@ -54,7 +62,9 @@ pub fn merge_report(
     let values = view.values();
     let read = read_fragments(alloc, tree, prefix, fragments)?;
     let outcomes = outcomes_of(alloc, tree, values, read.lines.as_slice())?;
-    let replaced = Replaced::of(alloc, read.lines.as_slice(), outcomes.as_slice())?;
+    let reported = reported_of(alloc, read.lines.as_slice(), outcomes.as_slice())?;
+    let symbols = tree.symbols().len();
+    let giving = giving_lines(alloc, read.lines.as_slice(), outcomes.as_slice(), symbols)?;
     let lost = before.lost(alloc, tree, values, read.lines.as_slice())?;
     let counts = MergeCounts::of(outcomes.as_slice(), lost.len());
     let lines = MergeText {
@@ -62,8 +72,8 @@ pub fn merge_report(
         fragments,
         read: &read,
         unusable,
-        outcomes: outcomes.as_slice(),
-        replaced: &replaced,
+        reported: reported.as_slice(),
+        giving: giving.as_slice(),
     };
     let mut text = lines.written(alloc)?;
     push_lost(alloc, &mut text, view, before, lost.as_slice())?;
@@ -72,5 +82,6 @@ pub fn merge_report(
         text,
         counts,
         outcomes,
+        reported,
     })
 }

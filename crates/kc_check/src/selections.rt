@@ -4,13 +4,13 @@ use crate::finding::Finding;
 use crate::tokens::word_of;
 use crate::walk::Placed;
 use kc_facts::{
-    Attribute, FactorLines, Family, LineIndex, Part, View, is_above, is_beyond, is_if, push_expr,
-    push_place, shown_line,
+    Attribute, FactorLines, Family, Forced, LineIndex, Part, View, is_if, push_expr, push_place,
+    shown_line,
 };
 use kc_statement::Keyword;
 use kc_text::Line;
-use kc_tree::{Expr, Reverse, Symbol, Tree, Tri};
-use kc_value::{Factor, FactorPart, Origin, dependency_factors, dependency_tri, reverse_value};
+use kc_tree::{Expr, Reverse, Tree};
+use kc_value::{Factor, FactorPart, Origin, dependency_factors};
 use std::alloc::{AllocError, Global};
 
 /// Adds that a `select` or an `imply` names a member of a choice, which passes it over (docs/VALUES.md).
@@ -58,76 +58,37 @@ pub(crate) fn owner_name<'t>(tree: &'t Tree, placed: &Placed) -> &'t str {
 }
 
 /// Adds that a symbol is selected for more than its dependencies are worth, which a `select` passes over (docs/VALUES.md,
-/// "Select"). It is said where the symbol is defined first.
+/// "Select"), in the line that defines it first.
 ///
 /// # Errors
 ///
 /// `AllocError` where memory is refused.
-pub(crate) fn check_selected(
+pub(crate) fn add_forced(
     alloc: Global,
     view: &View<'_>,
     index: &LineIndex<'_, '_>,
     line: &Line<'_>,
-    number: usize,
+    forced: &Forced,
     found: &mut Vec<Finding>,
 ) -> Result<(), AllocError> {
     let tree = view.tree();
-    let Some(definition) = tree.definitions().get(number) else {
+    let Some(definition) = tree.definitions().get(forced.definition) else {
         return Ok(());
     };
     let id = definition.symbol();
     let Some(symbol) = tree.symbols().get(id.0 as usize) else {
         return Ok(());
     };
-    if symbol.definitions().first() != Some(&number) || !is_beyond(view, id) {
-        return Ok(());
-    }
-    let worth = nearest_worth(view, symbol);
-    let Some(place) = selection_above(view, symbol.selected(), worth.value) else {
-        return Ok(());
-    };
-    let Some(selection) = symbol.selected().get(place) else {
+    let Some(selection) = symbol.selected().get(forced.selection) else {
         return Ok(());
     };
     let name = tree.name(id);
     let mut words = String::from_str(alloc, "selected by ")?;
     push_selection(&mut words, tree, index, selection)?;
     words.push_str(", while ")?;
-    push_unmet(alloc, &mut words, view, index, worth)?;
+    push_unmet(alloc, &mut words, view, index, forced)?;
     found.push(Finding::in_line(alloc, line.path(), line.number(), name, words)?)?;
     Ok(())
-}
-
-/// What the dependencies of a definition are worth.
-#[derive(Clone, Copy)]
-struct Worth {
-    /// The number of the definition.
-    definition: usize,
-    value: Tri,
-}
-
-/// Of the definitions of a symbol the one whose dependencies are worth most, the first of several.
-fn nearest_worth(view: &View<'_>, symbol: &Symbol) -> Worth {
-    let definition = symbol.definitions().first().copied().unwrap_or(0);
-    let mut nearest = Worth {
-        definition,
-        value: Tri::No,
-    };
-    for number in symbol.definitions() {
-        let value = dependency_tri(view.known(), *number);
-        if is_above(value, nearest.value) {
-            nearest = Worth {
-                definition: *number,
-                value,
-            };
-        }
-    }
-    nearest
-}
-
-/// The place of the first of the `select` lines of a symbol that gives more than a value.
-fn selection_above(view: &View<'_>, selected: &[Reverse], value: Tri) -> Option<usize> {
-    selected.iter().position(|reverse| is_above(reverse_value(view.known(), reverse), value))
 }
 
 /// Adds which symbol selects another by a `select` line, and where: `U (Kconfig:26)`.
@@ -147,22 +108,22 @@ fn push_selection(
     push_bracketed(words, index.line(part))
 }
 
-/// Adds the first line by which the dependencies of a definition are worth no more, where it is, and its value:
+/// Adds the first line by which the dependencies of the nearest definition are worth no more, where it is, and its value:
 /// `` its `depends on A` (Kconfig:23) is n ``.
 fn push_unmet(
     alloc: Global,
     words: &mut String,
     view: &View<'_>,
     index: &LineIndex<'_, '_>,
-    worth: Worth,
+    forced: &Forced,
 ) -> Result<(), AllocError> {
-    let factors = dependency_factors(alloc, view.known(), worth.definition)?;
-    match factors.iter().find(|factor| factor.value == worth.value) {
-        Some(factor) => push_factor_line(alloc, words, view, index, worth.definition, factor)?,
+    let factors = dependency_factors(alloc, view.known(), forced.nearest)?;
+    match factors.iter().find(|factor| factor.value == forced.worth) {
+        Some(factor) => push_factor_line(alloc, words, view, index, forced.nearest, factor)?,
         None => words.push_str("what it depends on")?,
     }
     words.push_str(" is ")?;
-    words.push_str(worth.value.letter())
+    words.push_str(forced.worth.letter())
 }
 
 /// Adds a factor of the dependencies of a definition as its line, and where that is.

@@ -3,15 +3,13 @@
 use crate::finding::{Finding, Findings};
 use crate::inputs::{CheckInputs, Extent};
 use crate::missing_variables::MissingVariables;
-use crate::selections::{check_member, check_selected};
+use crate::tree_facts::TreeFacts;
 use crate::undefined_names::UndefinedNames;
-use crate::unset_symbols::{NeverModules, check_unset};
+use crate::unset_symbols::NeverModules;
 use crate::unused_defaults::UnusedDefaults;
-use crate::values::{check_default, check_range};
 use crate::variables::Variables;
-use crate::walk::{Part, Placed, Walk};
+use crate::walk::Walk;
 use kc_facts::{LineIndex, View};
-use kc_text::Line;
 use std::alloc::{AllocError, Global};
 use std::collections::BTreeSet;
 
@@ -36,42 +34,20 @@ pub(crate) fn tree_findings(
     let mut undefined = UndefinedNames::of(alloc, tree, inputs.lines, prefix, extent)?;
     let mut unused = UnusedDefaults::of(alloc, tree, index)?;
     let mut never = NeverModules::of(tree);
+    let mut facts = TreeFacts::of(alloc, view, extent)?;
     let mut walk = Walk::new();
     let mut all = Vec::new(alloc);
     for (number, line) in inputs.lines.iter().enumerate() {
         let placed = walk.place(line);
         missing.come_to(alloc, line, &mut all)?;
-        check_part(alloc, view, index, line, &placed, &mut all)?;
+        facts.come_to(alloc, view, index, line, &placed, &mut all)?;
         never.check(alloc, tree, line, &placed, &mut all)?;
-        if extent == Extent::All && placed.part == Part::Definition {
-            check_unset(alloc, tree, line, &placed, &mut all)?;
-        }
+        facts.add_unset(alloc, view, line, &placed, &mut all)?;
         unused.check(alloc, inputs.lines, number, &placed, &mut all)?;
         undefined.check(alloc, line, number, &placed, &mut all)?;
     }
     findings.unlisted = undefined.unlisted();
     add_once(alloc, all, &mut findings.of_tree)
-}
-
-/// Adds what is found in a line beside names that no line defines, and defaults that are never used.
-fn check_part(
-    alloc: Global,
-    view: &View<'_>,
-    index: &LineIndex<'_, '_>,
-    line: &Line<'_>,
-    placed: &Placed,
-    found: &mut Vec<Finding>,
-) -> Result<(), AllocError> {
-    let tree = view.tree();
-    let Some(definition) = placed.definition else {
-        return Ok(());
-    };
-    match placed.part {
-        Part::Definition => check_selected(alloc, view, index, line, definition, found),
-        Part::Default(number) => check_default(alloc, tree, line, definition, number, found),
-        Part::Range(number) => check_range(alloc, tree, line, definition, number, found),
-        Part::Other => check_member(alloc, tree, line, placed, found),
-    }
 }
 
 /// Adds findings without those that an earlier one says, word for word: the lines of a file that is put in place twice

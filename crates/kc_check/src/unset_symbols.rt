@@ -5,34 +5,27 @@ use crate::selections::owner_name;
 use crate::walk::Placed;
 use kc_statement::Keyword;
 use kc_text::Line;
-use kc_tree::{Node, SymId, Symbol, Tree};
+use kc_tree::{Node, SymId, Tree};
 use std::alloc::{AllocError, Global};
 
 /// Adds that a bool or a tristate is always n, since no line gives it a value, where something is computed from it. It
-/// is said where the symbol is defined first.
+/// is said in the line of its first definition, which has a number.
 ///
 /// # Errors
 ///
 /// `AllocError` where memory is refused.
-pub(crate) fn check_unset(
+pub(crate) fn add_unset(
     alloc: Global,
     tree: &Tree,
     line: &Line<'_>,
-    placed: &Placed,
+    definition: usize,
     found: &mut Vec<Finding>,
 ) -> Result<(), AllocError> {
-    let Some(number) = placed.definition else {
-        return Ok(());
-    };
-    let Some(definition) = tree.definitions().get(number) else {
+    let Some(definition) = tree.definitions().get(definition) else {
         return Ok(());
     };
     let id = definition.symbol();
-    let Some(symbol) = tree.symbols().get(id.0 as usize) else {
-        return Ok(());
-    };
-    let is_first = symbol.definitions().first() == Some(&number);
-    if !is_first || !is_never_set(tree, id, symbol) || !is_used(tree, id) {
+    if !is_used(tree, id) {
         return Ok(());
     }
     let words = String::from_str(
@@ -41,26 +34,6 @@ pub(crate) fn check_unset(
     )?;
     found.push(Finding::in_line(alloc, line.path(), line.number(), tree.name(id), words)?)?;
     Ok(())
-}
-
-/// Whether a symbol is a bool or a tristate in no choice, to which no line gives a value.
-fn is_never_set(tree: &Tree, id: SymId, symbol: &Symbol) -> bool {
-    tree.symbol_type(id).is_tri()
-        && symbol.choice().is_none()
-        && symbol.selected().is_empty()
-        && symbol.implied().is_empty()
-        && symbol
-            .definitions()
-            .iter()
-            .all(|number| !has_value(tree, *number))
-}
-
-/// Whether the definition of a number has a prompt or a default.
-fn has_value(tree: &Tree, number: usize) -> bool {
-    match tree.definitions().get(number) {
-        Some(definition) => definition.prompt().is_some() || !definition.defaults().is_empty(),
-        None => false,
-    }
 }
 
 /// Whether another symbol or a choice is computed from the value of a symbol.

@@ -1,11 +1,12 @@
 -- What `select` lines give at most, and what dependencies are worth at most.
 use Rattle.std.proofs.Common.{◌≡◌, ℕ, Bool, true, false, List, [], ◌∷◌, Option, Some, None, map, filter_map, refl, sym, ap, ◌∙◌, ◌&&◌, ◌||◌, slice_get}
 use Rattle.std.specs.List.{cons_option, list_any}
+use Rattle.std.specs.Option.{option_map_or}
 use Rattle.kc_statement.specs.declared.tri.Tri.{Tri}
 use Rattle.kc_statement.specs.declared.tri.Tri.TheVariants.{No, Module, Yes}
 use Rattle.kc_statement.specs.Tristate.{greatest, greatest_of}
 use Rattle.kc_outline.specs.declared.symbol.Reverse.{Reverse}
-use Rattle.kc_outline.specs.TreeValue.{TreeValue, SymbolValue}
+use Rattle.kc_outline.specs.TreeValue.{TreeValue, DefinitionValue, SymbolValue}
 use Rattle.kc_tree.specs.ConditionTable.{dependencies_in}
 use Rattle.kc_value.specs.Assignment.{Assignment}
 use Rattle.kc_value.specs.Conditions.{condition_value, dependency}
@@ -67,3 +68,8 @@ module _ (t : TreeValue) (a : Assignment) where
   not_selected x none =
       above_no (reverse_values t a x.selected) (direct t a x)
       ∙ ap (λ b. b && is_above (reverse_values t a x.selected) (direct t a x)) (sym (some_above t a No x.selected) ∙ none)
+
+-- what the dependencies of a definition are worth, if it is there
+pub worth_given : (t : TreeValue) (a : Assignment) (o : Option DefinitionValue) → option_map_or (dependency t a) o No ≡ condition_value t a (dependencies_in o)
+worth_given t a None = refl
+worth_given t a (Some d) = refl

@@ -4,9 +4,11 @@ pub mod CulpritLaws
 pub mod ForcedLaws
 pub mod FragmentLaws
 pub mod HelpLaws
+pub mod LineFactLaws
 pub mod NthLaws
 pub mod OutcomeSearch
 pub mod PartLaws
+pub mod RangeLaws
 pub mod RowLemmas
 pub mod StartLaws
 pub mod WhyLaws

@@ -2,7 +2,9 @@ pub mod Attributes
 pub mod Culprits
 pub mod Defaults
 pub mod FactorPlaces
+pub mod FaultyDefaults
 pub mod Forced
+pub mod LineFacts
 pub mod LineIndex
 pub mod MenuTree
 pub mod Named
@@ -11,4 +13,5 @@ pub mod Outcomes
 pub mod Ranges
 pub mod RowSteps
 pub mod Shown
+pub mod Unset
 pub mod WhyRows

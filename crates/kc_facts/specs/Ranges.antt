@@ -1,14 +1,16 @@
 -- Ranges and defaults that can't be meant as they are written: kconfig-language.rst, "numerical ranges", and this
 -- project's own.
-use Rattle.std.specs.Prelude.{ℕ, ◌==◌, Bool, false, ◌||◌, ◌&&◌, List, Option, Some, None, is_none, is_some, if◌then◌else◌, length, option_and_then, position, slice_get, ℤ, int_lt}
-use Rattle.std.specs.List.{list_all}
+use Rattle.std.specs.Prelude.{ℕ, ◌==◌, Bool, false, ◌||◌, ◌&&◌, List, [], ◌∷◌, Option, Some, None, is_none, is_some, if◌then◌else◌, flat_map, length, option_and_then, position, slice_get, ℤ, int_lt}
+use Rattle.std.specs.List.{list_all, range_with_len}
 use Rattle.std.specs.Option.{option_map_or}
-use Rattle.kc_outline.specs.TreeValue.{TreeValue, BlockValue, blocks_around}
+use Rattle.kc_outline.specs.TreeValue.{TreeValue, BlockValue, DefinitionValue, blocks_around}
 use Rattle.kc_statement.specs.declared.attribute.Range.{Range}
 use Rattle.kc_statement.specs.declared.expr.Term.{Term}
 use Rattle.kc_statement.specs.declared.expr.Term.TheVariants.{Tri, Text, Symbol, Undefined}
 use Rattle.kc_statement.specs.declared.symbol_type.SymbolType.{SymbolType}
 use Rattle.kc_statement.specs.Numerals.{numeral_in}
+use Rattle.kc_tree.specs.Fits.{type_of}
+use Rattle.kc_value.specs.declared.places.RangePlace.{RangePlace}
 
 -- the number of a term that is a numeral of a type, whatever the values of symbols are
 abbrev pub constant_number : SymbolType → Term → Option ℤ
@@ -67,3 +69,20 @@ if_certain t giving n = option_and_then (λ r. if is_certain t giving n r then S
 
 abbrev pub certain_range : TreeValue → List ℕ → ℕ → Option Range
 certain_range t numbers giving = option_and_then (if_certain t giving) (first_with_range t numbers)
+
+-- ---- the ranges with exchanged sides, in the order of their lines
+abbrev pub exchanged_at : ℕ → ℕ → Bool → List RangePlace
+exchanged_at n p is = if is then record { definition = n; range = p } ∷ [] else []
+
+abbrev pub exchanged_in : TreeValue → ℕ → DefinitionValue → ℕ → List RangePlace
+exchanged_in t n d p = exchanged_at n p (option_map_or (has_exchanged_sides (type_of t d.symbol)) (slice_get d.ranges p) false)
+
+abbrev pub exchanged_of : TreeValue → ℕ → DefinitionValue → List RangePlace
+exchanged_of t n d = flat_map (exchanged_in t n d) (range_with_len 0 (length d.ranges))
+
+-- those of the definition of a number
+abbrev pub exchanged_by_number : TreeValue → ℕ → List RangePlace
+exchanged_by_number t n = option_map_or (exchanged_of t n) (slice_get t.definitions n) []
+
+abbrev pub exchanged_ranges : TreeValue → List RangePlace
+exchanged_ranges t = flat_map (exchanged_by_number t) (range_with_len 0 (length t.definitions))

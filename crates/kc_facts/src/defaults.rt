@@ -1,7 +1,7 @@
 //! Defaults that can't be meant as they are written.
 
 ghost use Rattle.std.specs.Prelude.{◌≡◌, position, take};
-ghost use Rattle.kc_facts.specs.Defaults.{is_constant, is_free, is_unread_text};
+ghost use Rattle.kc_facts.specs.Defaults.{is_constant, is_free, is_unread_text, meant_tri};
 
 use kc_statement::{DefaultValue, SymbolType, Term};
 use kc_tree::Tri;
@@ -25,7 +25,7 @@ fn is_constant(text: &str) -> bool
 }
 
 /// Whether the default of a bool or a tristate is a text in quotes other than n, m and y, which counts n.
-pub fn is_unread_text(kind: SymbolType, term: &Term) -> bool
+pub(crate) fn is_unread_text(kind: SymbolType, term: &Term) -> bool
     ensures { result ≡ is_unread_text kind term.now }
 {
     match (kind, term) {
@@ -35,7 +35,9 @@ pub fn is_unread_text(kind: SymbolType, term: &Term) -> bool
 }
 
 /// The tristate value that a word other than the constants n, m and y may be meant as.
-pub fn meant_tri(word: &str) -> Option<Tri> {
+pub fn meant_tri(word: &str) -> Option<Tri>
+    ensures { result ≡ meant_tri word.now }
+{
     match word {
         "Y" | "yes" | "Yes" | "YES" | "true" | "True" | "TRUE" | "1" => Some(Tri::Yes),
         "N" | "no" | "No" | "NO" | "false" | "False" | "FALSE" | "0" => Some(Tri::No),

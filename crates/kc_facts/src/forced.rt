@@ -3,19 +3,16 @@
 ghost use Rattle.std.specs.Prelude.{◌≡◌, map};
 ghost use Rattle.std.specs.List.{list_any};
 ghost use Rattle.kc_statement.specs.Tristate.{greatest_of};
-ghost use Rattle.kc_value.specs.Assignment.{assignment_of};
 ghost use Rattle.kc_value.specs.Known.{given};
 ghost use Rattle.kc_value.specs.Rule.{direct, reverse_value, reverse_values};
-ghost use Rattle.kc_value.specs.Solution.{AreSolved};
-ghost use Rattle.kc_facts.specs.Forced.{is_above, is_beyond, is_beyond_symbol, worth};
+ghost use Rattle.kc_facts.specs.Forced.{is_above, is_beyond, worth};
 
-use crate::view::View;
 use kc_outline::{Reverse, Symbol};
-use kc_tree::{SymId, Tri};
+use kc_tree::Tri;
 use kc_value::{Known, dependency_tri, reverse_value};
 
 /// Whether a value is more than another.
-pub fn is_above(value: Tri, other: Tri) -> bool
+pub(crate) fn is_above(value: Tri, other: Tri) -> bool
     ensures { result ≡ is_above value other }
 {
     match (value, other) {
@@ -25,7 +22,7 @@ pub fn is_above(value: Tri, other: Tri) -> bool
 }
 
 /// What the dependencies of the definitions of these numbers are worth at most.
-fn most_worth(known: &Known<'_>, numbers: &[usize]) -> Tri
+pub(crate) fn most_worth(known: &Known<'_>, numbers: &[usize]) -> Tri
     ensures { result ≡ greatest_of (map (worth known.now.tree (given known.now)) numbers.now) }
 {
     let mut most = Tri::No;
@@ -57,22 +54,10 @@ fn is_selected_beyond(known: &Known<'_>, symbol: &Symbol) -> bool
     has_above(known, symbol.selected(), most)
 }
 
-/// Whether a symbol is no member of a choice, and selected for more than its dependencies are worth.
-fn is_beyond_in(known: &Known<'_>, symbol: &Symbol) -> bool
+/// Whether a symbol is selected for more than its dependencies are worth, of several definitions the greatest: a `select`
+/// passes over them (kconfig-language.rst, "reverse dependencies"). No `select` gives a member of a choice a value.
+pub(crate) fn is_beyond(known: &Known<'_>, symbol: &Symbol) -> bool
     ensures { result ≡ is_beyond known.now.tree (given known.now) symbol.now }
 {
     symbol.choice().is_none() && is_selected_beyond(known, symbol)
-}
-
-/// Whether a symbol is selected for more than its dependencies are worth, of several definitions the greatest: a `select`
-/// passes over them (kconfig-language.rst, "reverse dependencies"). No `select` gives a member of a choice a value.
-pub fn is_beyond(view: &View<'_>, id: SymId) -> bool
-    ensures beyond { result
-        ≡ is_beyond_symbol view.now.tree (assignment_of view.now.tree view.now.values) id }
-    ensures solved { AreSolved view.now.tree view.now.user view.now.values }
-{
-    match view.tree().symbols().get(id.0 as usize) {
-        Some(symbol) => is_beyond_in(view.known(), symbol),
-        None => false,
-    }
 }

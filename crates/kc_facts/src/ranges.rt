@@ -35,7 +35,7 @@ fn is_above(number: Option<i128>, other: Option<i128>) -> bool
 
 /// Whether the low bound of a range is above its high bound, so that no value is inside (kconfig-language.rst, "numerical
 /// ranges"). It is not where a bound is a symbol.
-pub fn has_exchanged_sides(kind: SymbolType, range: &Range) -> bool
+pub(crate) fn has_exchanged_sides(kind: SymbolType, range: &Range) -> bool
     ensures { result ≡ has_exchanged_sides kind range.now }
 {
     is_above(
@@ -46,7 +46,7 @@ pub fn has_exchanged_sides(kind: SymbolType, range: &Range) -> bool
 
 /// Whether a term is a number outside a range (kconfig-language.rst, "numerical ranges"). It is not where the term or the
 /// bound that it is past is a symbol.
-pub fn is_outside(kind: SymbolType, range: &Range, term: &Term) -> bool
+pub(crate) fn is_outside(kind: SymbolType, range: &Range, term: &Term) -> bool
     ensures { result ≡ is_outside kind range.now term.now }
 {
     let number = constant_number(kind, term);
@@ -142,7 +142,11 @@ fn first_with_range(tree: &Tree, numbers: &[usize]) -> Option<usize>
 /// The range that bounds the values that a definition of a symbol gives whenever it gives one: the first range of the
 /// symbol, which has definitions of these numbers (kconfig-language.rst, "numerical ranges"). There is none where that
 /// range has a condition, or where it is in another definition, which depends on something.
-pub fn certain_range<'a>(tree: &'a Tree, numbers: &[usize], giving: usize) -> Option<&'a Range>
+pub(crate) fn certain_range<'a>(
+    tree: &'a Tree,
+    numbers: &[usize],
+    giving: usize,
+) -> Option<&'a Range>
     ensures { option_copied result ≡ certain_range tree.now numbers.now giving }
 {
     let number = first_with_range(tree, numbers)?;
