@@ -128,7 +128,10 @@ fn no_file_is_read_that_no_line_wants(rt: HostRuntime) {
 #[test]
 fn nothing_is_read_after_a_fault(rt: HostRuntime) {
     let (outcome, reads) = run_many(rt.alloc(), "source \"a\"\n?\nsource \"b\"\n", "");
-    assert_eq!(rt; outcome.errors.as_slice(), b"kconf: Kconfig:2: K02\n".as_slice());
+    assert_eq!(rt;
+        outcome.errors.as_slice(),
+        b"kconf: Kconfig:2: K02\n".as_slice()
+    );
     assert_eq!(rt; reads, 2);
 }
 
