@@ -36,7 +36,11 @@ pub struct Files<'a> {
 
 impl<'a> Files<'a> {
     /// The files of a Kconfig, whose texts and tokens the arena keeps.
-    pub fn read<F: Folder>(alloc: Global, arena: &'a Bump, kconfig: &Kconfig<'a, F>) -> Files<'a> {
+    pub fn read<'k: 'a, F: Folder>(
+        alloc: Global,
+        arena: &'a Bump,
+        kconfig: &Kconfig<'k, F>,
+    ) -> Files<'a> {
         let mut texts = Texts::Read(Library {
             files: ReadFiles::new(alloc, arena),
             folder: AskedFolder::new(alloc, kconfig.folder),
@@ -69,8 +73,7 @@ impl<'a> Files<'a> {
     ) -> Files<'a> {
         let (fault, unread) = match fault {
             LinesFault::Text(fault) => (Fault::from(fault), None),
-            LinesFault::Stopped(FileFault::Files(fault), _) => (Fault::from(fault), None),
-            LinesFault::Stopped(FileFault::Folder(why), missing) => unread(alloc, why, missing),
+            LinesFault::Stopped(why, missing) => stopped(alloc, why, missing),
         };
         Files {
             alloc,
@@ -144,10 +147,25 @@ impl<'a> Files<'a> {
     }
 }
 
+/// The fault of a file whose text is not there, and its `source` line with its path where the folder does not give it.
+fn stopped(
+    alloc: Global,
+    why: FileFault<Unread>,
+    missing: TextFault,
+) -> (Fault, Option<(SourceLine, String)>) {
+    match why {
+        FileFault::Files(fault) => (Fault::from(fault), None),
+        FileFault::Folder(why) => unread(alloc, why, missing),
+    }
+}
+
 /// The fault of a file that can't be read, and its `source` line with its path, where it is not the top file: by the fault
 /// that it is missing.
 fn unread(alloc: Global, why: Unread, missing: TextFault) -> (Fault, Option<(SourceLine, String)>) {
-    let TextFault::At(TextProblem::MissingSource(wanted), path, line) = missing else {
+    let TextFault::At(problem, path, line) = missing else {
+        return (Fault::NoMemory, None);
+    };
+    let TextProblem::MissingSource(wanted) = problem else {
         return (Fault::NoMemory, None);
     };
     let unread = match String::from_str(alloc, wanted.as_str()) {

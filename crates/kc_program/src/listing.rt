@@ -27,7 +27,19 @@ pub(crate) fn list_files<F: Folder, W: Write, E: Write>(
     errors: &mut E,
 ) -> Result<Status, Report> {
     let arena = Bump::new(alloc);
-    let mut files = Files::read(alloc, &arena, kconfig);
+    list_those_read(alloc, &arena, kconfig, wording, output, errors)
+}
+
+/// Reads the files of a Kconfig, which the arena keeps, and writes their paths.
+fn list_those_read<'a, 'k: 'a, F: Folder, W: Write, E: Write>(
+    alloc: Global,
+    arena: &'a Bump,
+    kconfig: &Kconfig<'k, F>,
+    wording: Wording,
+    output: &mut W,
+    errors: &mut E,
+) -> Result<Status, Report> {
+    let mut files = Files::read(alloc, arena, kconfig);
     match open_kconfig(&mut files, kconfig) {
         Ok((session, _)) => {
             let symbols = session.tree().symbols().len();

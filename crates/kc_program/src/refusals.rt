@@ -19,9 +19,9 @@ const REFUSAL_LEN: usize = 10;
 ///
 /// A reply ends where it is flushed, as the serving of a session flushes after each.
 #[derive(Drop)]
-pub struct ExplainedReplies<'w, W, E> {
+pub struct ExplainedReplies<'w, 'r, 'n, W, E> {
     alloc: Global,
-    words: &'w RefusalWords<'w>,
+    words: &'r RefusalWords<'n>,
     output: &'w mut W,
     errors: &'w mut E,
     /// The line of the command, as far as it was read.
@@ -33,15 +33,15 @@ pub struct ExplainedReplies<'w, W, E> {
     first: [u8; REFUSAL_LEN],
 }
 
-impl<'w, W: Write, E: Write> ExplainedReplies<'w, W, E> {
+impl<'w, 'r, 'n, W: Write, E: Write> ExplainedReplies<'w, 'r, 'n, W, E> {
     /// An output to which nothing is written yet.
     pub fn new(
         alloc: Global,
-        words: &'w RefusalWords<'w>,
+        words: &'r RefusalWords<'n>,
         output: &'w mut W,
         errors: &'w mut E,
         line: &'w Cell<CommandLine>,
-    ) -> ExplainedReplies<'w, W, E> {
+    ) -> ExplainedReplies<'w, 'r, 'n, W, E> {
         ExplainedReplies {
             alloc,
             words,
@@ -117,7 +117,7 @@ fn refusal_of(first: [u8; REFUSAL_LEN], len: usize) -> Option<u8>
     }
 }
 
-impl<W: Write, E: Write> Write for ExplainedReplies<'_, W, E> {
+impl<W: Write, E: Write> Write for ExplainedReplies<'_, '_, '_, W, E> {
     fn write(&mut self, bytes: &[u8]) -> io::Result<usize> {
         let count = self.output.write(bytes)?;
         self.note(bytes.get(..count).unwrap_or(bytes));

@@ -21,7 +21,7 @@ const NO_SYMBOL: &str = "no such symbol";
 /// The report of `why`: of each symbol that is named. Where a name is no symbol's, that is reported, and nothing else.
 pub(crate) fn why_outcome(
     alloc: Global,
-    inputs: &ReportInputs<'_>,
+    inputs: &ReportInputs<'_, '_>,
     session: &mut Session,
     warnings: Vec<Warning>,
 ) -> Result<Outcome, AllocError> {
@@ -46,7 +46,7 @@ pub(crate) fn why_outcome(
 /// The texts of the symbols that are named, with an empty line between two.
 fn why_texts(
     alloc: Global,
-    inputs: &ReportInputs<'_>,
+    inputs: &ReportInputs<'_, '_>,
     view: &View<'_>,
     index: &LineIndex<'_, '_>,
 ) -> Result<String, AllocError> {
@@ -105,7 +105,7 @@ fn unknown_names(
 /// The report of `check`: the findings, also those of the lines of CONFIG that others warn of.
 pub(crate) fn check_outcome(
     alloc: Global,
-    inputs: &ReportInputs<'_>,
+    inputs: &ReportInputs<'_, '_>,
     session: &mut Session,
     warnings: &[Warning],
 ) -> Result<Outcome, AllocError> {
@@ -147,7 +147,7 @@ pub(crate) fn check_outcome(
 /// What is said of each line of CONFIG that can't be used, in their order.
 fn unusable_words(
     alloc: Global,
-    inputs: &ReportInputs<'_>,
+    inputs: &ReportInputs<'_, '_>,
     warnings: &[Warning],
 ) -> Result<Vec<String>, AllocError> {
     let unusable: Vec<Warning> = warnings
@@ -166,7 +166,7 @@ fn unusable_words(
 /// What is said of each line of the fragments that can't be used, in their order.
 fn unusable_words_of_fragments(
     alloc: Global,
-    inputs: &ReportInputs<'_>,
+    inputs: &ReportInputs<'_, '_>,
     tree: &Tree,
 ) -> Result<Vec<String>, AllocError> {
     let prefix = &inputs.arguments.prefix;
@@ -241,7 +241,7 @@ fn names_of<'a>(
 /// The texts of the files that the lines were read from.
 fn source_texts<'a>(
     alloc: Global,
-    inputs: &ReportInputs<'a>,
+    inputs: &ReportInputs<'a, '_>,
 ) -> Result<Vec<SourceText<'a>>, AllocError> {
     let mut texts = Vec::new(alloc);
     for path in paths_read(alloc, inputs.lines)? {
@@ -257,7 +257,7 @@ fn source_texts<'a>(
 /// The report of `merge`: the `.config` of CONFIG and the fragments, and what became of their lines.
 pub(crate) fn merge_outcome(
     alloc: Global,
-    inputs: &ReportInputs<'_>,
+    inputs: &ReportInputs<'_, '_>,
     session: &mut Session,
 ) -> Result<Outcome, AllocError> {
     let prefix = &inputs.arguments.prefix;
@@ -294,7 +294,7 @@ fn inputs_of<'a>(alloc: Global, files: &'a [ConfigFile]) -> Result<Vec<Input<'a>
 /// The report of `menu`: an object for each entry of the menu tree.
 pub(crate) fn menu_outcome(
     alloc: Global,
-    inputs: &ReportInputs<'_>,
+    inputs: &ReportInputs<'_, '_>,
     session: &mut Session,
     warnings: Vec<Warning>,
 ) -> Result<Outcome, AllocError> {

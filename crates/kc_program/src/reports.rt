@@ -48,14 +48,14 @@ pub(crate) struct ReportOpening<'a> {
 
 /// What a report is made from.
 #[derive(Drop)]
-pub(crate) struct ReportInputs<'a> {
+pub(crate) struct ReportInputs<'a, 'f> {
     pub arguments: &'a Arguments<'a>,
     pub fragments: &'a [ConfigFile],
     pub config: &'a ConfigFile,
     /// The names of the variables that are given.
     pub variables: &'a [(&'a str, &'a str)],
-    pub sources: &'a ReadFiles<'a>,
-    pub lines: &'a [Line<'a>],
+    pub sources: &'a ReadFiles<'f>,
+    pub lines: &'a [Line<'f>],
 }
 
 impl Opening for ReportOpening<'_> {
@@ -72,11 +72,15 @@ impl Opening for ReportOpening<'_> {
         let config = kconfig.config.bytes();
         let opened = open_lines(alloc, files.seed(), lines, kconfig.prefix, config);
         let (mut session, warnings) = opened?;
+        // A list of this call's own, so that all that the report is lent is lent for this call.
+        let Ok(variables) = kconfig.variables.to_vec(alloc) else {
+            return Err(OpenFault::NoMemory);
+        };
         let inputs = ReportInputs {
             arguments: self.arguments,
             fragments: self.fragments,
             config: kconfig.config,
-            variables: kconfig.variables,
+            variables: variables.as_slice(),
             sources: files.texts(),
             lines,
         };
@@ -91,7 +95,7 @@ impl Opening for ReportOpening<'_> {
 /// The report of a target on a session.
 fn report_on(
     alloc: Global,
-    inputs: &ReportInputs<'_>,
+    inputs: &ReportInputs<'_, '_>,
     session: &mut Session,
     warnings: Vec<Warning>,
 ) -> Result<Outcome, OpenFault> {

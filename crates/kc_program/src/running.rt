@@ -193,12 +193,24 @@ fn serve_explained<R: Read, W: Write, E: Write>(
 ) -> Result<(), Fault> {
     let names = SymbolNames::of(alloc, session.tree())?;
     let words = RefusalWords::of(alloc, &names, prefix)?;
+    serve_with_words(alloc, &words, session, input, output, errors)
+}
+
+/// Serves a session whose refusals these words explain.
+fn serve_with_words<R: Read, W: Write, E: Write>(
+    alloc: Global,
+    words: &RefusalWords<'_>,
+    session: &mut Session,
+    input: &mut R,
+    output: &mut W,
+    errors: &mut E,
+) -> Result<(), Fault> {
     let line = Cell::new(CommandLine::unread());
     let Ok(input) = BufReader::new(alloc, &mut *input) else {
         return Err(Fault::NoMemory);
     };
     let mut commands = CommandsRead { input, line: &line };
-    let mut replies = ExplainedReplies::new(alloc, &words, output, errors, &line);
+    let mut replies = ExplainedReplies::new(alloc, words, output, errors, &line);
     write_target(alloc, Target::Session, session, &mut commands, &mut replies)
 }
 
@@ -210,25 +222,37 @@ fn serve_report<F: Folder, W: Write, E: Write>(
     output: &mut W,
     errors: &mut E,
 ) -> Result<Status, Report> {
-    let wording = arguments.wording;
     let fragments = read_fragments(alloc, arguments, kconfig.folder)?;
-    let arena = Bump::new(alloc);
-    let mut files = Files::read(alloc, &arena, kconfig);
     let opening = ReportOpening {
         arguments: &*arguments,
         fragments: fragments.as_slice(),
     };
-    match open_files(&mut files, kconfig, &opening) {
+    let arena = Bump::new(alloc);
+    report_on_files(alloc, &arena, &opening, kconfig, output, errors)
+}
+
+/// Writes a report on the files of a Kconfig, which the arena keeps, and its values.
+fn report_on_files<'a, 'k: 'a, F: Folder, W: Write, E: Write>(
+    alloc: Global,
+    arena: &'a Bump,
+    opening: &ReportOpening<'_>,
+    kconfig: &Kconfig<'k, F>,
+    output: &mut W,
+    errors: &mut E,
+) -> Result<Status, Report> {
+    let (target, wording) = (opening.arguments.target, opening.arguments.wording);
+    let mut files = Files::read(alloc, arena, kconfig);
+    match open_files(&mut files, kconfig, opening) {
         Ok((outcome, symbols)) => {
             // `check` has it among its findings.
-            if arguments.target != Target::Check {
+            if target != Target::Check {
                 ask_of_exchange(symbols, &files, kconfig, wording, errors);
             }
             let warnings = outcome.warnings.as_slice();
             warn(alloc, &files, kconfig, wording, warnings, errors);
             write_outcome(&outcome, wording, output, errors)
         }
-        Err(Fault::Tree(fault)) if arguments.target == Target::Check => {
+        Err(Fault::Tree(fault)) if target == Target::Check => {
             report_all(alloc, fault, wording, &files, kconfig, errors)
         }
         Err(fault) => Err(report_of(alloc, fault, wording, &files, kconfig)),
@@ -302,7 +326,18 @@ fn open_session<F: Folder, E: Write>(
     errors: &mut E,
 ) -> Result<Session, Report> {
     let arena = Bump::new(alloc);
-    let mut files = Files::read(alloc, &arena, kconfig);
+    session_of_files(alloc, &arena, kconfig, wording, errors)
+}
+
+/// The session of the files of a Kconfig, which the arena keeps. The warnings of the lines of CONFIG are written.
+fn session_of_files<'a, 'k: 'a, F: Folder, E: Write>(
+    alloc: Global,
+    arena: &'a Bump,
+    kconfig: &Kconfig<'k, F>,
+    wording: Wording,
+    errors: &mut E,
+) -> Result<Session, Report> {
+    let mut files = Files::read(alloc, arena, kconfig);
     match open_kconfig(&mut files, kconfig) {
         Ok((session, warnings)) => {
             let symbols = session.tree().symbols().len();

@@ -60,8 +60,16 @@ fn source_line_of<F>(
         folder: NoFolder,
     });
     match lines_from(alloc, &arena, &mut texts, kconfig.vars, kconfig.top) {
-        Ok(_) => Ok(None),
-        Err(LinesFault::Text(fault)) | Err(LinesFault::Stopped(_, fault)) => wanted_at(fault, path),
+        Ok(_lines) => Ok(None),
+        Err(fault) => wanted_at(first_fault(fault), path),
+    }
+}
+
+/// The fault that the lines have where no other file can be read.
+fn first_fault(fault: LinesFault<()>) -> TextFault {
+    match fault {
+        LinesFault::Text(fault) => fault,
+        LinesFault::Stopped(_why, missing) => missing,
     }
 }
 
@@ -69,7 +77,7 @@ fn source_line_of<F>(
 fn files_without<'a>(
     alloc: Global,
     arena: &'a Bump,
-    files: &ReadFiles<'a>,
+    files: &'a ReadFiles<'_>,
     path: &str,
 ) -> Result<ReadFiles<'a>, AllocError> {
     let mut others = ReadFiles::new(alloc, arena);
