@@ -161,11 +161,20 @@ fn want_asked<'a>(
 ) -> Result<(), Stop> {
     match lines_from(texts.alloc, arena, library, &texts.vars, top) {
         Ok(lines) => want_shown(texts.alloc, lines.as_slice(), wanted),
-        Err(LinesFault::Text(fault)) => want_text_fault(texts.alloc, &fault, wanted),
-        Err(LinesFault::Stopped(FileFault::Files(fault), _)) => {
-            want_text_fault(texts.alloc, &fault, wanted)
-        }
-        Err(LinesFault::Stopped(FileFault::Folder(_), _)) => Err(Stop::Refused),
+        Err(fault) => want_lines_fault(texts.alloc, &fault, wanted),
+    }
+}
+
+/// Wants the fault that lines have whose files are asked for. What the folder refuses is memory.
+fn want_lines_fault(
+    alloc: Global,
+    fault: &LinesFault<AllocError>,
+    wanted: &str,
+) -> Result<(), Stop> {
+    match fault {
+        LinesFault::Text(fault) => want_text_fault(alloc, fault, wanted),
+        LinesFault::Stopped(FileFault::Files(fault), _) => want_text_fault(alloc, fault, wanted),
+        LinesFault::Stopped(FileFault::Folder(_), _) => Err(Stop::Refused),
     }
 }
 
