@@ -177,7 +177,7 @@ fn unknown_words(alloc: Global, word: &str) -> Result<String, AllocError> {
     Ok(words)
 }
 
-/// What is said of a count of lines that is none, or that the input has fewer lines than.
+/// What is said of a count of lines that is not a number, or is greater than the number of lines that the input has.
 fn count_words(alloc: Global, count: &str) -> Result<String, AllocError> {
     let is_count = !count.is_empty()
         && count.len() <= MOST_DIGITS

@@ -39,7 +39,7 @@ fn is_same_symbol(lines: &[FragmentLine], index: usize, other: usize) -> bool
     }
 }
 
-/// Whether the lines of two indices, of which the second takes the place of the first, have this in common.
+/// Whether two lines have this in common, by their indices: the second takes the place of the first.
 fn have_common(lines: &[FragmentLine], common: Common, index: usize, other: usize) -> bool
     ensures { result ≡ have_common lines.now common index other }
 {
@@ -108,7 +108,7 @@ pub(crate) fn taken_lines(
     Ok(last)
 }
 
-/// By the number of a symbol, of which there are so many, the last line that gives it the value that it has.
+/// For each of this number of symbols, the last line that gives it the value that it has.
 ///
 /// # Errors
 ///
