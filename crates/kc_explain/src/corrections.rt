@@ -118,7 +118,7 @@ fn is_bound(suspect: &Suspect<'_, '_, '_>, text: &str) -> bool {
     let definition = statements.definition(suspect.at);
     let typed = definition.and_then(|definition| statements.first_type(&definition));
     let is_numeral = match typed {
-        Some((_, kind @ (SymbolType::Int | SymbolType::Hex))) => numeral(kind, text).is_some(),
+        Some(kind @ (SymbolType::Int | SymbolType::Hex)) => numeral(kind, text).is_some(),
         Some(_) => false,
         None => {
             numeral(SymbolType::Int, text).is_some() && numeral(SymbolType::Hex, text).is_some()

@@ -3,7 +3,6 @@
 #![tactic(auto)]
 
 mod blocks;
-mod causes;
 mod characters;
 mod choice_words;
 mod corrections;
@@ -29,13 +28,11 @@ mod said;
 mod sought_names;
 mod spelling;
 mod statements;
-mod steps;
 mod strays;
 mod symbol_words;
 mod texts;
 mod unknown;
 mod unsupported;
-mod used_names;
 mod variables;
 mod warnings;
 

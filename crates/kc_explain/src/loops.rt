@@ -4,101 +4,140 @@ ghost use Rattle.std.specs.Prelude.{IfOk};
 ghost use Rattle.kc_facts.specs.declared.shown.Fault.TheVariants.{Loop};
 ghost use Rattle.kc_facts.specs.Named.{AreRemarksOf};
 
-use crate::causes::{Cause, Way, causes_of};
 use crate::meanings::fault_meaning;
 use crate::messages::{node_pieces, way_pieces};
+use crate::outlines::{name_of, outline_of, owner_of};
 use crate::piece::{texts, words_of};
 use crate::spelling::repeated;
-use crate::statements::Statements;
-use crate::steps::Steps;
-use kc_facts::{Explanation, Fault, Finding, Mention};
-use kc_statement::Keyword;
+use kc_facts::{
+    Explanation, Family, Fault, LineIndex, Part, Step, Way, WordedPart, explain_worded_parts,
+    step_between,
+};
+use kc_outline::{BlockKind, Outline};
+use kc_statement::Seed;
 use kc_text::Line;
 use kc_tree::NamedNode;
 use std::alloc::{AllocError, Global};
 
 /// What is said of a loop of nodes, each of which uses the next and the last the first, by the lines of its Kconfig:
 /// for each step the line that makes it, and for a `select` or an `imply` the symbol in which it is (this project's own
-/// words).
+/// words). Names are kept under the hash of a seed.
 ///
 /// # Errors
 ///
 /// `AllocError` where memory is refused.
-pub fn explain_loop<'l>(
+pub fn explain_loop(
     alloc: Global,
-    lines: &'l [Line<'_>],
-    nodes: &'l [NamedNode],
+    seed: Seed,
+    lines: &[Line<'_>],
+    nodes: &[NamedNode],
 ) -> Result<Explanation, AllocError>
     ensures { IfOk result (λ e. AreRemarksOf Loop lines.now e.remarks.items) }
 {
-    let statements = Statements::read(alloc, lines)?;
-    let steps = Steps::read(&statements, nodes)?;
-    let causes = causes_of(&statements, &steps)?;
+    let index = LineIndex::of(alloc, lines)?;
+    let parts = match outline_of(alloc, seed, lines)? {
+        Some(outline) => parts_of(alloc, &index, &outline, nodes)?,
+        None => Vec::new(alloc),
+    };
     let words = String::from_str(alloc, fault_meaning(19).unwrap_or(""))?;
-    let mut finding = Finding::of_lines(alloc, words, &[])?;
-    add_steps(&mut finding.mentions, &statements, nodes, causes.as_slice())?;
-    finding.explain(alloc, Fault::Loop, lines)
+    explain_worded_parts(alloc, Fault::Loop, words, &index, parts.as_slice())
 }
 
-/// Adds the lines that make the steps of a loop.
-fn add_steps(
-    mentions: &mut Vec<Mention>,
-    statements: &Statements<'_, '_>,
+/// The parts that make the steps of a loop.
+fn parts_of(
+    alloc: Global,
+    index: &LineIndex<'_, '_>,
+    outline: &Outline,
     nodes: &[NamedNode],
-    causes: &[Option<Cause>],
-) -> Result<(), AllocError> {
-    for (node, cause) in nodes.iter().zip(causes) {
-        if let Some(cause) = cause {
-            add_step(mentions, statements, node, cause)?;
+) -> Result<Vec<WordedPart>, AllocError> {
+    let mut parts = Vec::new(alloc);
+    for (place, node) in nodes.iter().enumerate() {
+        let Some(next) = nodes.get(place + 1).or(nodes.first()) else {
+            break;
+        };
+        if let Some(step) = step_between(index, outline, node.node, next.node) {
+            add_step(alloc, &mut parts, outline, node, step)?;
         }
     }
-    Ok(())
+    Ok(parts)
 }
 
-/// Adds the line by which a node uses the next, after the line that selects or implies its symbol, if it is by that.
+/// Adds the part by which a node uses the next, after the line that selects or implies its symbol, if it is by that.
 fn add_step(
-    mentions: &mut Vec<Mention>,
-    statements: &Statements<'_, '_>,
+    alloc: Global,
+    parts: &mut Vec<WordedPart>,
+    outline: &Outline,
     node: &NamedNode,
-    cause: &Cause,
+    step: Step,
 ) -> Result<(), AllocError> {
-    if let Way::OfSelecting(line) | Way::AroundSelecting(line) = cause.way {
-        let way = Way::Selected;
-        let words = cause_words(statements, node, &Cause { line, way })?;
-        mentions.push(Mention { words, line })?;
-    }
-    let words = cause_words(statements, node, cause)?;
-    let line = cause.line;
-    mentions.push(Mention { words, line })?;
+    let Step { part, way } = step;
+    let words = match way {
+        Way::OfSelecting(selecting) | Way::AroundSelecting(selecting) => {
+            add_selecting(alloc, parts, outline, node, selecting)?;
+            way_words(alloc, outline, node, step)?
+        }
+        _ => node_words(alloc, outline, node, step)?,
+    };
+    parts.push(WordedPart { words, part })?;
     Ok(())
 }
 
-/// The words before the line by which a node uses the next: what the node has, and by what, where no line before it says
-/// that.
-fn cause_words(
-    statements: &Statements<'_, '_>,
+/// Adds the line that selects or implies the symbol of a node.
+fn add_selecting(
+    alloc: Global,
+    parts: &mut Vec<WordedPart>,
+    outline: &Outline,
     node: &NamedNode,
-    cause: &Cause,
-) -> Result<String, AllocError> {
-    let (selecting, is_later) = match cause.way {
-        Way::OfSelecting(line) | Way::AroundSelecting(line) => (line, true),
-        _ => (cause.line, false),
-    };
-    let block = block_words(statements, cause.line);
-    let texts = texts!(kind: block, other: statements.symbol(selecting));
-    let by = words_of(statements.alloc, way_pieces(cause.way, node.node), &texts)?;
-    if is_later {
-        return Ok(by);
-    }
-    let texts = texts!(name: repeated(node.name.as_str()), text: by.as_str());
-    words_of(statements.alloc, node_pieces(node.node), &texts)
+    part: Part,
+) -> Result<(), AllocError> {
+    let way = Way::Selected;
+    let words = node_words(alloc, outline, node, Step { part, way })?;
+    parts.push(WordedPart { words, part })?;
+    Ok(())
 }
 
-/// The word for the block that a line belongs to.
-fn block_words(statements: &Statements<'_, '_>, line: usize) -> &'static str {
-    match statements.keyword(statements.owner(line)) {
-        Some(Keyword::Menu) => "menu",
-        Some(Keyword::Choice) => "choice",
-        _ => "`if`",
+/// The words before the part by which a node uses the next: what the node has, and by what.
+fn node_words(
+    alloc: Global,
+    outline: &Outline,
+    node: &NamedNode,
+    step: Step,
+) -> Result<String, AllocError> {
+    let by = way_words(alloc, outline, node, step)?;
+    let texts = texts!(name: repeated(node.name.as_str()), text: by.as_str());
+    words_of(alloc, node_pieces(node.node), &texts)
+}
+
+/// The words for by what a node uses the next.
+fn way_words(
+    alloc: Global,
+    outline: &Outline,
+    node: &NamedNode,
+    step: Step,
+) -> Result<String, AllocError> {
+    let selecting = match step.way {
+        Way::OfSelecting(part) | Way::AroundSelecting(part) => part,
+        _ => step.part,
+    };
+    let other = match owner_of(outline, selecting) {
+        Ok(symbol) => name_of(outline, symbol),
+        Err(_) => "",
+    };
+    let texts = texts!(kind: block_word(outline, step.part), other: other);
+    words_of(alloc, way_pieces(step.way, node.node), &texts)
+}
+
+/// The word for the block that a part is, or belongs to.
+fn block_word(outline: &Outline, part: Part) -> &'static str {
+    let (Part::Owner(Family::Block, number) | Part::Said(Family::Block, number, _, _)) = part else {
+        return "block";
+    };
+    match outline.blocks().get(number) {
+        Some(block) => match block.kind() {
+            BlockKind::Menu(_) => "menu",
+            BlockKind::Choice => "choice",
+            BlockKind::If => "`if`",
+        },
+        None => "block",
     }
 }

@@ -3,8 +3,8 @@
 ghost use Rattle.std.specs.Prelude.{◌≡◌, option_map};
 ghost use Rattle.kc_statement.specs.Names.{token_word};
 
-use crate::said::{Said, Unsaid};
-use kc_facts::{Attribute, Family, Finding, LineIndex, is_attribute, says};
+use crate::said::Unsaid;
+use kc_facts::{Family, LineIndex, is_attribute};
 use kc_statement::{Keyword, SymbolType, read_keyword};
 use kc_text::{Line, LineKind, Token};
 use std::alloc::{AllocError, Global};
@@ -51,17 +51,6 @@ impl<'l, 'a> Statements<'l, 'a> {
         })
     }
 
-    /// Words, and the lines that show them.
-    pub fn say(&self, words: &str, lines: &[usize]) -> Said {
-        let words = String::from_str(self.alloc, words)?;
-        Ok(Finding::of_lines(self.alloc, words, lines)?)
-    }
-
-    /// The lines that begin choices.
-    pub fn choices(&self) -> &[usize] {
-        self.index.starts(Family::Choice)
-    }
-
     /// The line of a number.
     pub fn get(&self, line: usize) -> Result<&'l Line<'a>, Unsaid> {
         self.lines.get(line).ok_or(Unsaid::Nothing)
@@ -72,51 +61,16 @@ impl<'l, 'a> Statements<'l, 'a> {
         read_keyword(self.lines.get(line)?)
     }
 
-    /// The tokens of a line.
-    pub fn tokens(&self, line: usize) -> Option<&'l [Token<'a>]> {
-        let line = self.lines.get(line)?;
-        Some(line.tokens())
-    }
-
-    /// The second word of a line.
-    pub fn second_word(&self, line: usize) -> Option<&'l str> {
-        second_word_of(self.lines.get(line)?)
-    }
-
-    /// The symbol that a line selects or implies.
-    pub fn selected(&self, line: usize) -> Option<&'l str> {
-        match self.keyword(line)? {
-            Keyword::Select | Keyword::Imply => self.second_word(line),
-            _ => None,
-        }
-    }
-
     /// The type that a line gives its symbol or its choice.
-    pub fn kind(&self, line: usize) -> Option<SymbolType> {
+    fn kind(&self, line: usize) -> Option<SymbolType> {
         type_of(self.keyword(line)?)
     }
 
-    /// Whether a line gives what it belongs to a prompt.
-    pub fn has_prompt(&self, line: usize) -> bool {
-        match self.lines.get(line) {
-            Some(line) => says(Attribute::Prompt, line),
-            None => false,
-        }
-    }
-
-    /// Whether a line is an attribute.
-    fn is_attribute(&self, line: usize) -> bool {
-        match self.lines.get(line) {
-            Some(line) => is_attribute(line),
-            None => false,
-        }
-    }
-
-    /// The first line of a definition that gives its symbol a type, and the type.
-    pub fn first_type(&self, definition: &Definition<'_>) -> Option<(usize, SymbolType)> {
+    /// The first type that a line of a definition gives its symbol.
+    pub fn first_type(&self, definition: &Definition<'_>) -> Option<SymbolType> {
         for line in definition.line..=definition.end {
             if let Some(kind) = self.kind(line) {
-                return Some((line, kind));
+                return Some(kind);
             }
         }
         None
@@ -131,52 +85,19 @@ impl<'l, 'a> Statements<'l, 'a> {
         (line <= definition.end).then_some(*definition)
     }
 
-    /// The symbol whose definition a line belongs to, which is empty where it belongs to none.
-    pub fn symbol(&self, line: usize) -> &'l str {
-        match self.definition(line) {
-            Some(definition) => definition.name,
-            None => "",
-        }
-    }
-
-    /// The line that begins what a line belongs to: its own, if it is no attribute. It is asked of lines without faults.
-    pub fn owner(&self, line: usize) -> usize {
-        let mut owner = 0;
-        if !self.is_attribute(line) {
-            return line;
-        }
-        for family in [Family::Definition, Family::Block, Family::Comment] {
-            owner = last_up_to(self.index.starts(family), line)
-                .unwrap_or(0)
-                .max(owner);
-        }
-        owner
-    }
-
     /// The nearest line before a line that is no attribute, which may be the end of a file.
     pub fn statement_before(&self, line: usize) -> Option<usize> {
         let before = self.lines.get(..line)?;
         before.iter().rposition(|line| !is_attribute(line))
     }
 
-    /// The last line of what a line begins: of a block the one that closes it, of a definition its last attribute.
-    pub fn end(&self, line: usize) -> usize {
-        match self.index.starts(Family::Block).binary_search(&line) {
-            Ok(block) => match self.blocks.get(block) {
-                Some(block) => block.end.unwrap_or(self.lines.len()),
-                None => line,
-            },
-            Err(_) => match self.definition(line) {
-                Some(definition) => definition.end,
-                None => line,
-            },
-        }
-    }
-
     /// The line of the choice around a line.
     pub fn choice(&self, line: usize) -> Option<usize> {
-        let choice = last_up_to(self.choices(), line.checked_sub(1)?)?;
-        (line < self.end(choice)).then_some(choice)
+        let choices = self.index.starts(Family::Choice);
+        let choice = last_up_to(choices, line.checked_sub(1)?)?;
+        let block = self.index.starts(Family::Block).binary_search(&choice);
+        let end = self.blocks.get(block.ok()?)?.end;
+        end.is_none_or(|end| line < end).then_some(choice)
     }
 
     /// The lines of the blocks that are open before a line, the innermost first.
@@ -277,7 +198,7 @@ pub(crate) fn second_word_of<'l>(line: &'l Line<'_>) -> Option<&'l str> {
 }
 
 /// The word that a token is, also one that holds a reference.
-pub(crate) fn word_of<'t>(token: &'t Token<'_>) -> Option<&'t str>
+fn word_of<'t>(token: &'t Token<'_>) -> Option<&'t str>
     ensures { option_map (λ word. word.now) result ≡ token_word token.now }
 {
     match token {

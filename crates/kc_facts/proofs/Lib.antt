@@ -6,6 +6,7 @@ pub mod FragmentLaws
 pub mod HelpLaws
 pub mod LineFactLaws
 pub mod NthLaws
+pub mod LoopLaws
 pub mod OutcomeSearch
 pub mod PartLaws
 pub mod RangeLaws

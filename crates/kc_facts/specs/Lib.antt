@@ -7,6 +7,7 @@ pub mod Forced
 pub mod LineFacts
 pub mod LineIndex
 pub mod MenuTree
+pub mod LoopSteps
 pub mod Named
 pub mod NearName
 pub mod Outcomes

@@ -16,7 +16,7 @@ use std::alloc::{AllocError, Global};
 use std::marker::Model;
 
 /// Whether a block of a kind is an `if`.
-fn is_if_kind(kind: &BlockKind) -> bool
+pub(crate) fn is_if_kind(kind: &BlockKind) -> bool
     ensures { result ≡ is_if_kind kind.now }
 {
     match kind {
@@ -36,7 +36,7 @@ pub fn is_if(tree: &Tree, block: BlockId) -> bool
 }
 
 /// The part that says what all inside a block depends on, by the place of an expression among those of the block.
-fn block_part(is_if: bool, block: BlockId, place: usize) -> Part
+pub(crate) fn block_part(is_if: bool, block: BlockId, place: usize) -> Part
     ensures { result ≡ block_part is_if block place }
 {
     if is_if {

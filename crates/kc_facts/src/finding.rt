@@ -110,6 +110,13 @@ fn line_remark(alloc: Global, words: &str, line: &Line<'_>) -> Result<Remark, Al
     Ok(Remark { words, place })
 }
 
+/// A part of a tree whose line is to be named after some words.
+#[derive(Drop)]
+pub struct WordedPart {
+    pub words: String,
+    pub part: Part,
+}
+
 /// What is said of a fault: words, and the lines of the parts that make it. A part without a line, or whose line does not
 /// show such a fault, is not named.
 ///
@@ -125,6 +132,30 @@ pub fn explain_parts(
 ) -> Result<Explanation, AllocError>
     ensures { IfOk result (λ e. AreRemarksOf fault index.now e.remarks.items) }
 {
+    let mut worded = Vec::with_capacity(alloc, parts.len())?;
+    for part in parts {
+        worded.push(WordedPart {
+            words: String::new(alloc),
+            part: *part,
+        })?;
+    }
+    explain_worded_parts(alloc, fault, words, index, worded.as_slice())
+}
+
+/// The same, with words before each line.
+///
+/// # Errors
+///
+/// `AllocError` where memory is refused.
+pub fn explain_worded_parts(
+    alloc: Global,
+    fault: Fault,
+    words: String,
+    index: &LineIndex<'_, '_>,
+    parts: &[WordedPart],
+) -> Result<Explanation, AllocError>
+    ensures { IfOk result (λ e. AreRemarksOf fault index.now e.remarks.items) }
+{
     let remarks = part_remarks(alloc, fault, index, parts)?;
     Ok(Explanation { words, remarks })
 }
@@ -134,13 +165,13 @@ fn part_remarks(
     alloc: Global,
     fault: Fault,
     index: &LineIndex<'_, '_>,
-    parts: &[Part],
+    parts: &[WordedPart],
 ) -> Result<Vec<Remark>, AllocError>
     ensures { IfOk result (λ remarks. AreRemarksOf fault index.now remarks.items) }
 {
     let mut remarks = Vec::new(alloc);
     for part in parts {
-        add_remark(&mut remarks, part_remark(alloc, fault, index, *part)?)?;
+        add_remark(&mut remarks, part_remark(alloc, fault, index, part)?)?;
     }
     Ok(remarks)
 }
@@ -161,15 +192,15 @@ fn part_remark(
     alloc: Global,
     fault: Fault,
     index: &LineIndex<'_, '_>,
-    part: Part,
+    part: &WordedPart,
 ) -> Result<Option<Remark>, AllocError>
     ensures { IfOk result (λ found. IfSome found (IsRemarkOf fault index.now)) }
 {
-    let Some(line) = index.line(part) else {
+    let Some(line) = index.line(part.part) else {
         return Ok(None);
     };
     if !shows(fault, line) {
         return Ok(None);
     }
-    Ok(Some(line_remark(alloc, "", line)?))
+    Ok(Some(line_remark(alloc, part.words.as_str(), line)?))
 }
