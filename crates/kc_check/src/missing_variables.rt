@@ -5,7 +5,9 @@ use crate::finding::Finding;
 use crate::inputs::CheckInputs;
 use crate::sourced_files::{SourceLine, SourcedFiles};
 use crate::variables::Variables;
+use kc_facts::repeated_files;
 use kc_text::{Line, LineKind};
+use kc_tree::Tree;
 use std::alloc::{AllocError, Global};
 use std::collections::{BTreeMap, BTreeSet};
 
@@ -34,9 +36,11 @@ impl<'v> MissingVariables<'v> {
     /// `AllocError` where memory is refused.
     pub fn new(
         alloc: Global,
+        tree: &Tree,
         variables: &'v Variables,
         inputs: &CheckInputs<'_, '_>,
     ) -> Result<MissingVariables<'v>, AllocError> {
+        let repeated = repeated_files(alloc, inputs.lines, tree)?;
         Ok(MissingVariables {
             variables,
             passed_names: owned_names(alloc, inputs.given)?,
@@ -44,7 +48,7 @@ impl<'v> MissingVariables<'v> {
             passed_marks: Vec::new(alloc),
             open: Vec::new(alloc),
             begun: 0,
-            sourced: SourcedFiles::new(alloc),
+            sourced: SourcedFiles::new(alloc, repeated),
         })
     }
 
@@ -63,7 +67,6 @@ impl<'v> MissingVariables<'v> {
         for run in self.begun..line.run().saturating_add(1) {
             self.begin(alloc, run, found)?;
         }
-        self.sourced.pass(alloc, line)?;
         let Some(file) = self.open.last().copied() else {
             return Ok(());
         };
@@ -82,12 +85,12 @@ impl<'v> MissingVariables<'v> {
         run: usize,
         found: &mut Vec<Finding>,
     ) -> Result<(), AllocError> {
-        let file = self.files_by_run.get(&run).copied().unwrap_or(0);
+        let file = self.file_of(run);
         if let Some(outer) = self.open.last().copied() {
             let count = self.marks_up_to_source(outer);
             self.pass(alloc, outer, count, found)?;
             if count > 0 {
-                self.note_source(alloc, file, outer, found)?;
+                self.note_source(alloc, run, outer, found)?;
             }
         }
         self.open.push(file)?;
@@ -99,11 +102,12 @@ impl<'v> MissingVariables<'v> {
     fn note_source(
         &mut self,
         alloc: Global,
-        file: usize,
+        run: usize,
         outer: usize,
         found: &mut Vec<Finding>,
     ) -> Result<(), AllocError> {
         let files = self.variables.files();
+        let file = self.file_of(run);
         let (Some(inner), Some(outer_file)) = (files.get(file), files.get(outer)) else {
             return Ok(());
         };
@@ -115,7 +119,13 @@ impl<'v> MissingVariables<'v> {
             path: outer_file.path.as_str(),
             line: mark.line,
         };
-        self.sourced.source(alloc, inner.path.as_str(), line, found)
+        self.sourced
+            .source(alloc, run, inner.path.as_str(), line, found)
+    }
+
+    /// Which file is put in place the time of a number.
+    fn file_of(&self, run: usize) -> usize {
+        self.files_by_run.get(&run).copied().unwrap_or(0)
     }
 
     /// How many marks of a file were passed.

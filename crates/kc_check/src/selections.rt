@@ -1,58 +1,57 @@
 //! Selects that have no effect, and symbols that are selected for more than their dependencies are worth.
 
 use crate::finding::Finding;
-use crate::tokens::word_of;
 use crate::walk::Placed;
 use kc_facts::{
     Attribute, FactorLines, Family, Forced, LineIndex, Part, View, is_if, push_expr, push_place,
-    shown_line,
+    shown_line, token_word,
 };
-use kc_statement::Keyword;
+use kc_statement::{Keyword, read_keyword};
 use kc_text::Line;
 use kc_tree::{Expr, Reverse, Tree};
 use kc_value::{Factor, FactorPart, Origin, dependency_factors};
 use std::alloc::{AllocError, Global};
 
-/// Adds that a `select` or an `imply` names a member of a choice, which passes it over (docs/VALUES.md).
+/// Adds that a `select` or an `imply` of the definition of a number names a member of a choice, which passes it over
+/// (docs/VALUES.md).
 ///
 /// # Errors
 ///
 /// `AllocError` where memory is refused.
-pub(crate) fn check_member(
+pub(crate) fn add_member(
     alloc: Global,
     tree: &Tree,
     line: &Line<'_>,
-    placed: &Placed,
+    definition: usize,
     found: &mut Vec<Finding>,
 ) -> Result<(), AllocError> {
-    let verb = match placed.keyword {
+    let verb = match read_keyword(line) {
         Some(Keyword::Select) => "select",
-        Some(Keyword::Imply) => "imply",
-        _ => return Ok(()),
+        _ => "imply",
     };
-    let Some(name) = line.tokens().get(1).and_then(|token| word_of(token)) else {
-        return Ok(());
-    };
-    let Some(symbol) = tree.find(name) else {
-        return Ok(());
-    };
-    if tree.choice_of(symbol).is_some() {
-        let words = format!(in alloc;
-            "{verb} {name} has no effect: {name} is a member of a choice"
-        )?;
-        let owner = owner_name(tree, placed);
-        found.push(Finding::in_line(alloc, line.path(), line.number(), owner, words)?)?;
-    }
+    let name = line
+        .tokens()
+        .get(1)
+        .and_then(|token| token_word(token))
+        .unwrap_or("");
+    let words = format!(in alloc; "{verb} {name} has no effect: {name} is a member of a choice")?;
+    let owner = name_at(tree, definition);
+    found.push(Finding::in_line(alloc, line.path(), line.number(), owner, words)?)?;
     Ok(())
+}
+
+/// The name of the symbol that the definition of a number defines.
+pub(crate) fn name_at(tree: &Tree, definition: usize) -> &str {
+    match tree.definitions().get(definition) {
+        Some(definition) => tree.name(definition.symbol()),
+        None => "",
+    }
 }
 
 /// The name of the symbol that a line belongs to, empty for other lines.
 pub(crate) fn owner_name<'t>(tree: &'t Tree, placed: &Placed) -> &'t str {
-    match placed
-        .definition
-        .and_then(|number| tree.definitions().get(number))
-    {
-        Some(definition) => tree.name(definition.symbol()),
+    match placed.definition {
+        Some(definition) => name_at(tree, definition),
         None => "",
     }
 }

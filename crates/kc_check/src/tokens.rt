@@ -4,15 +4,6 @@ use crate::walk::{Part, Placed};
 use kc_statement::{Keyword, is_word};
 use kc_text::{Operator, Token};
 
-/// The word that a token is, also one that holds a reference.
-pub(crate) fn word_of<'l>(token: &'l Token<'_>) -> Option<&'l str> {
-    match token {
-        Token::Word(word) => Some(word.as_str()),
-        Token::Expanded(word) => Some(word.as_str()),
-        Token::Quoted(_) | Token::Operator(_) => None,
-    }
-}
-
 /// The place of the first token of a line that can be the name of a symbol that it uses, if it can have one.
 pub(crate) fn names_start(placed: &Placed) -> Option<usize> {
     match placed.keyword? {

@@ -3,10 +3,8 @@
 use crate::finding::{Finding, Findings};
 use crate::inputs::{CheckInputs, Extent};
 use crate::missing_variables::MissingVariables;
-use crate::tree_facts::TreeFacts;
+use crate::tree_facts::{Here, TreeFacts};
 use crate::undefined_names::UndefinedNames;
-use crate::unset_symbols::NeverModules;
-use crate::unused_defaults::UnusedDefaults;
 use crate::variables::Variables;
 use crate::walk::Walk;
 use kc_facts::{LineIndex, View};
@@ -30,20 +28,16 @@ pub(crate) fn tree_findings(
 ) -> Result<(), AllocError> {
     let tree = view.tree();
     let prefix = inputs.prefix.as_str();
-    let mut missing = MissingVariables::new(alloc, variables, inputs)?;
+    let mut missing = MissingVariables::new(alloc, tree, variables, inputs)?;
     let mut undefined = UndefinedNames::of(alloc, tree, inputs.lines, prefix, extent)?;
-    let mut unused = UnusedDefaults::of(alloc, tree, index)?;
-    let mut never = NeverModules::of(tree);
-    let mut facts = TreeFacts::of(alloc, view, extent)?;
+    let mut facts = TreeFacts::of(alloc, view, index, extent)?;
     let mut walk = Walk::new();
     let mut all = Vec::new(alloc);
     for (number, line) in inputs.lines.iter().enumerate() {
         let placed = walk.place(line);
         missing.come_to(alloc, line, &mut all)?;
-        facts.come_to(alloc, view, index, line, &placed, &mut all)?;
-        never.check(alloc, tree, line, &placed, &mut all)?;
-        facts.add_unset(alloc, view, line, &placed, &mut all)?;
-        unused.check(alloc, inputs.lines, number, &placed, &mut all)?;
+        let here = Here { view, index, line };
+        facts.come_to(alloc, &here, &placed, &mut all)?;
         undefined.check(alloc, line, number, &placed, &mut all)?;
     }
     findings.unlisted = undefined.unlisted();

@@ -4,9 +4,9 @@ use crate::finding::Finding;
 use crate::inputs::Extent;
 use crate::long_words::differ_in_long_word;
 use crate::selections::owner_name;
-use crate::tokens::{is_compared, lone_value, names_start, word_of};
+use crate::tokens::{is_compared, lone_value, names_start};
 use crate::walk::{Part, Placed, Walk};
-use kc_facts::{NearNames, meant_tri, push_meant, symbol_names, type_words};
+use kc_facts::{NearNames, meant_tri, push_meant, symbol_names, token_word, type_words};
 use kc_statement::{Keyword, SymbolType, is_name, numeral};
 use kc_text::{Line, Token};
 use kc_tree::{SymId, Tree};
@@ -115,7 +115,7 @@ impl<'i, 't> UndefinedNames<'i, 't> {
         };
         let value = lone_value(tokens, placed);
         for place in start..tokens.len() {
-            let Some(name) = tokens.get(place).and_then(|token| word_of(token)) else {
+            let Some(name) = tokens.get(place).and_then(|token| token_word(token)) else {
                 continue;
             };
             let reading = reading_at(self.tree, tokens, place, value, placed);
@@ -324,7 +324,7 @@ fn is_meant_constant(
         return false;
     };
     matches!(kind, Some(SymbolType::Bool | SymbolType::Tristate))
-        && tokens.get(value).and_then(|token| word_of(token)) == Some(word)
+        && tokens.get(value).and_then(|token| token_word(token)) == Some(word)
         && meant_tri(word).is_some()
 }
 

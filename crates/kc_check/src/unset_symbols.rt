@@ -1,9 +1,7 @@
 //! Symbols that nothing makes other than n, and tristates that are never m.
 
 use crate::finding::Finding;
-use crate::selections::owner_name;
-use crate::walk::Placed;
-use kc_statement::Keyword;
+use crate::selections::name_at;
 use kc_text::Line;
 use kc_tree::{Node, SymId, Tree};
 use std::alloc::{AllocError, Global};
@@ -47,44 +45,21 @@ fn is_used(tree: &Tree, id: SymId) -> bool {
     })
 }
 
-/// Whether a tree has a line that makes a symbol a tristate, which is never m, and this was said.
-#[derive(Clone, Copy)]
-pub(crate) struct NeverModules {
-    is_done: bool,
-}
-
-impl NeverModules {
-    /// Before the first line of a tree: there is nothing to say where MODULES is defined.
-    pub fn of(tree: &Tree) -> NeverModules {
-        NeverModules {
-            is_done: tree.modules().is_some(),
-        }
-    }
-
-    /// Comes to the next line: adds that a tristate is never m, of the first that is one.
-    ///
-    /// # Errors
-    ///
-    /// `AllocError` where memory is refused.
-    pub fn check(
-        &mut self,
-        alloc: Global,
-        tree: &Tree,
-        line: &Line<'_>,
-        placed: &Placed,
-        found: &mut Vec<Finding>,
-    ) -> Result<(), AllocError> {
-        let is_tristate = matches!(
-            placed.keyword,
-            Some(Keyword::Tristate | Keyword::DefTristate)
-        );
-        if self.is_done || !is_tristate || placed.definition.is_none() {
-            return Ok(());
-        }
-        self.is_done = true;
-        let name = owner_name(tree, placed);
-        let words = String::from_str(alloc, "a tristate is never m: no line defines MODULES")?;
-        found.push(Finding::in_line(alloc, line.path(), line.number(), name, words)?)?;
-        Ok(())
-    }
+/// Adds that a tristate is never m, since no line defines MODULES (docs/VALUES.md, "The type and MODULES"), in a line of
+/// the definition of a number.
+///
+/// # Errors
+///
+/// `AllocError` where memory is refused.
+pub(crate) fn add_never_modules(
+    alloc: Global,
+    tree: &Tree,
+    line: &Line<'_>,
+    definition: usize,
+    found: &mut Vec<Finding>,
+) -> Result<(), AllocError> {
+    let name = name_at(tree, definition);
+    let words = String::from_str(alloc, "a tristate is never m: no line defines MODULES")?;
+    found.push(Finding::in_line(alloc, line.path(), line.number(), name, words)?)?;
+    Ok(())
 }

@@ -21,8 +21,10 @@ pub(crate) struct Placed {
     pub keyword: Option<Keyword>,
     /// The definition that it belongs to, by number.
     pub definition: Option<usize>,
-    /// Whether it belongs to a choice.
-    pub is_of_choice: bool,
+    /// The choice that it belongs to, by number.
+    pub choice: Option<usize>,
+    /// How many attributes of its statement are before it.
+    pub attribute: usize,
     pub part: Part,
 }
 
@@ -32,7 +34,10 @@ pub(crate) struct Walk {
     /// How many definitions have begun.
     definitions: usize,
     definition: Option<usize>,
-    is_in_choice: bool,
+    /// How many choices have begun.
+    choices: usize,
+    choice: Option<usize>,
+    attributes: usize,
     defaults: usize,
     ranges: usize,
 }
@@ -43,7 +48,9 @@ impl Walk {
         Walk {
             definitions: 0,
             definition: None,
-            is_in_choice: false,
+            choices: 0,
+            choice: None,
+            attributes: 0,
             defaults: 0,
             ranges: 0,
         }
@@ -52,6 +59,7 @@ impl Walk {
     /// The next line.
     pub fn place(&mut self, line: &Line<'_>) -> Placed {
         let keyword = read_keyword(line);
+        let attribute = self.attributes;
         let part = match keyword {
             Some(word) if word.is_attribute() => self.attribute(word),
             Some(word) => self.statement(word),
@@ -60,13 +68,15 @@ impl Walk {
         Placed {
             keyword,
             definition: self.definition,
-            is_of_choice: self.is_in_choice,
+            choice: self.choice,
+            attribute,
             part,
         }
     }
 
     /// An attribute of this first word.
     fn attribute(&mut self, word: Keyword) -> Part {
+        self.attributes = self.attributes.saturating_add(1);
         match word {
             Keyword::Default | Keyword::DefBool | Keyword::DefTristate => {
                 let number = self.defaults;
@@ -84,16 +94,23 @@ impl Walk {
 
     /// A statement of this first word.
     fn statement(&mut self, word: Keyword) -> Part {
+        self.attributes = 0;
         self.defaults = 0;
         self.ranges = 0;
-        self.is_in_choice = word == Keyword::Choice;
-        if word == Keyword::Config {
-            self.definition = Some(self.definitions);
-            self.definitions = self.definitions.saturating_add(1);
-            Part::Definition
-        } else {
-            self.definition = None;
-            Part::Other
+        self.definition = None;
+        self.choice = None;
+        match word {
+            Keyword::Config => {
+                self.definition = Some(self.definitions);
+                self.definitions = self.definitions.saturating_add(1);
+                Part::Definition
+            }
+            Keyword::Choice => {
+                self.choice = Some(self.choices);
+                self.choices = self.choices.saturating_add(1);
+                Part::Other
+            }
+            _ => Part::Other,
         }
     }
 }

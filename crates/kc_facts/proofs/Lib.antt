@@ -4,6 +4,7 @@ pub mod CulpritLaws
 pub mod ForcedLaws
 pub mod FragmentLaws
 pub mod HelpLaws
+pub mod HiddenLaws
 pub mod LineFactLaws
 pub mod NthLaws
 pub mod LoopLaws
@@ -11,5 +12,7 @@ pub mod OutcomeSearch
 pub mod PartLaws
 pub mod RangeLaws
 pub mod RowLemmas
+pub mod SourcedLaws
 pub mod StartLaws
+pub mod UnusedLaws
 pub mod WhyLaws

@@ -16,7 +16,7 @@ use Rattle.kc_facts.specs.LineFacts.{found_at, found_of_line, is_number, last_be
 pub last_more : (test : ℕ → Bool) (n : ℕ) → last_below test (n + 1) ≡ (if test n then Some n else last_below test n)
 last_more test n = ap (last_below test) (add-one n)
 
-slot_set : {X : Type 0} (slots : List (Option X)) (s k : ℕ) (x r : Option X) → s < length slots → get_or slots k None ≡ r
+pub slot_set : {X : Type 0} (slots : List (Option X)) (s k : ℕ) (x r : Option X) → s < length slots → get_or slots k None ≡ r
     → get_or (slice_set slots s x) k None ≡ (if s == k then x else r)
 slot_set slots s k x r inside e =
     ⊎_elim

@@ -103,6 +103,13 @@ impl<'l, 'a> LineIndex<'l, 'a> {
         attributes_at(self.lines, self.starts(family), number)
     }
 
+    /// The lines.
+    pub fn lines(&self) -> &'l [Line<'a>]
+        ensures { result.now ≡ self.now }
+    {
+        self.lines
+    }
+
     /// The numbers of the lines, among all lines from 0, that begin those of a family.
     pub fn starts(&self, family: Family) -> &[usize]
         ensures { AreStarts (begins family) self.now result.now }

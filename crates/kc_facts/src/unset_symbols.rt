@@ -55,7 +55,11 @@ fn is_unset_at(tree: &Tree, number: usize) -> bool
 }
 
 /// Adds a number, if it is one of them.
-fn add_number(numbers: &mut Vec<usize>, number: usize, is_one: bool) -> Result<(), AllocError>
+pub(crate) fn add_number(
+    numbers: &mut Vec<usize>,
+    number: usize,
+    is_one: bool,
+) -> Result<(), AllocError>
     ensures { OnOk result (numbers.new.items ≡ numbers.old.items ++ number_if is_one number) }
 {
     if is_one {
