@@ -66,7 +66,7 @@ kconf 1.2.0
 status 0
 END
 wants shell 'kconf --help | grep -c "^  [a-z]"' <<'END'
-15
+16
 status 0
 END
 wants shell 'kconf session --help | sed -n "s/^  \([1-7a-z][a-z]*\) .*/\1/p" | tr "\n" " "' <<'END'

@@ -3,12 +3,12 @@
 
 _kconf() {
     local word=${COMP_WORDS[COMP_CWORD]} before=${COMP_WORDS[COMP_CWORD - 1]}
-    local targets="olddefconfig savedefconfig listnewconfig genheader genmake allnoconfig allyesconfig files why check merge menu session"
+    local targets="olddefconfig savedefconfig listnewconfig genheader genmake allnoconfig allyesconfig files why check merge how menu session"
     local options="--variables -C --prefix --explain --help"
     case ${COMP_WORDS[1]} in
         why) options+=" --all" ;;
         check) options+=" --undefined --strict --tree" ;;
-        merge) options+=" --strict" ;;
+        merge | how) options+=" --strict" ;;
         menu) options+=" --no-help" ;;
     esac
     COMPREPLY=()

@@ -30,6 +30,7 @@ set -l targets \
     why\t'say why symbols have their values' \
     check\t'list what is doubtful' \
     merge\t'write the .config of CONFIG and fragments, and report on their lines' \
+    how\t'write a fragment that gives symbols wanted values' \
     menu\t'write the menu tree as JSON' \
     session\t'answer commands from standard input'
 set -l named (string replace -r '\t.*' '' $targets)
@@ -52,4 +53,5 @@ complete -c kconf -n '__kconf_target check' -l undefined -d 'list all undefined 
 complete -c kconf -n '__kconf_target check' -l strict -d 'make the status 1 where there is a finding of CONFIG'
 complete -c kconf -n '__kconf_target check' -l tree -d 'judge the Kconfig, too'
 complete -c kconf -n '__kconf_target merge' -l strict -d 'make the status 1 where a line has no effect'
+complete -c kconf -n '__kconf_target how' -l strict -d 'make the status 1 where a line of CONFIG is lost'
 complete -c kconf -n '__kconf_target menu' -l no-help -d 'write no help texts'

@@ -6,6 +6,7 @@ mod config_findings;
 mod earlier_effects;
 mod entry_faults;
 mod finding;
+mod how_lines;
 mod inputs;
 mod long_words;
 mod meant_lines;
@@ -29,5 +30,8 @@ pub use checking::check;
 pub use earlier_effects::{EffectsBefore, effects_before};
 pub use entry_faults::without_strays;
 pub use finding::{Finding, Findings, FoundAt, Judged};
+pub use how_lines::{
+    HowCosts, how_costs, push_how_counts, push_needed_line, push_not_found, push_unusable_lines,
+};
 pub use inputs::{CheckInputs, Extent, SourceText};
 pub use merging::{MergeReport, merge_report};

@@ -6,8 +6,8 @@ pub mod FragmentLaws
 pub mod HelpLaws
 pub mod HiddenLaws
 pub mod LineFactLaws
-pub mod NthLaws
 pub mod LoopLaws
+pub mod NthLaws
 pub mod OutcomeSearch
 pub mod PartLaws
 pub mod RangeLaws

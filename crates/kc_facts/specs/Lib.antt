@@ -7,8 +7,8 @@ pub mod Forced
 pub mod HiddenChoices
 pub mod LineFacts
 pub mod LineIndex
-pub mod MenuTree
 pub mod LoopSteps
+pub mod MenuTree
 pub mod Named
 pub mod NearName
 pub mod NeverModules

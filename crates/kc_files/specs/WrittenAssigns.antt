@@ -1,4 +1,4 @@
--- Steps: the text of assignments, each as the line that gives it: this project's own.
+-- The text of assignments, each as the line that gives it: this project's own.
 use Rattle.std.specs.Prelude.{◌≡◌, ◌<◌, true, false, ℕ, List, [], ◌∷◌, length}
 use Rattle.std.specs.List.{flat_map, list_any}
 use Rattle.kc_outline.specs.TreeValue.{TreeValue, name_of}

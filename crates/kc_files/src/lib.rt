@@ -24,6 +24,7 @@ mod titles;
 mod unquoting;
 mod value_form;
 mod warning;
+mod written_assigns;
 
 pub use assign::Assign;
 pub use config_file::{config_text, config_text_over};
@@ -37,3 +38,4 @@ pub use numbered_lines::{ConfigLine, ConfigLines, Fate, LineSays, read_config_li
 pub use prefix::{Prefix, PrefixFault};
 pub use quoting::{push_quoted, push_text_in};
 pub use warning::{Warning, WarningKind};
+pub use written_assigns::assigns_text;

@@ -3,7 +3,7 @@ use Rattle.std.specs.Prelude.{ℕ, ◌-◌, ◌^◌, Bool, true, false, Option, 
 use Rattle.kc_session.specs.declared.command.Command.{Command}
 use Rattle.kc_session.specs.declared.command.Command.TheVariants.{AllNo, AllYes, Config, Header, Defconfig, New}
 use Rattle.kc_program.specs.declared.targets.Target.{Target}
-use Rattle.kc_program.specs.declared.targets.Target.TheVariants.{Olddefconfig, Savedefconfig, Listnewconfig, Genheader, Genmake, Allnoconfig, Allyesconfig, Files, Why, Check, Merge, Menu, Session}
+use Rattle.kc_program.specs.declared.targets.Target.TheVariants.{Olddefconfig, Savedefconfig, Listnewconfig, Genheader, Genmake, Allnoconfig, Allyesconfig, Files, Why, Check, Merge, How, Menu, Session}
 use Rattle.kc_program.specs.declared.targets.Operands.{Operands}
 use Rattle.kc_program.specs.declared.targets.Operands.TheVariants as operands
 
@@ -27,6 +27,7 @@ query_of Files = None
 query_of Why = None
 query_of Check = None
 query_of Merge = None
+query_of How = None
 query_of Menu = None
 query_of Session = None
 
@@ -43,6 +44,7 @@ is_explained Files = true
 is_explained Why = true
 is_explained Check = true
 is_explained Merge = true
+is_explained How = true
 is_explained Menu = true
 is_explained Session = false
 
@@ -53,11 +55,14 @@ begins_with_config operands.PerhapsConfig = false
 begins_with_config operands.Config = true
 begins_with_config operands.ConfigAndSymbols = true
 begins_with_config operands.ConfigAndFragments = true
+begins_with_config operands.ConfigAndWanted = true
 
--- the fewest and the most words after them that are no NAME=VALUE: as many as there can be, of symbols and fragments
+-- the fewest and the most words after them that are no NAME=VALUE: as many as there can be, of symbols, of fragments,
+-- and of wanted values, which may all be NAME=VALUE
 abbrev pub word_counts : Operands → ℕ × ℕ
 word_counts operands.Nothing = (0, 0)
 word_counts operands.Config = (0, 0)
 word_counts operands.PerhapsConfig = (0, 1)
 word_counts operands.ConfigAndSymbols = (1, 2 ^ 64 - 1)
 word_counts operands.ConfigAndFragments = (1, 2 ^ 64 - 1)
+word_counts operands.ConfigAndWanted = (0, 2 ^ 64 - 1)

@@ -1,5 +1,5 @@
 //! The command line: `kconf TARGET KCONFIG CONFIG [NAME=VALUE]...` with its options. `allnoconfig`, `allyesconfig` and
-//! `files` take no CONFIG, `check` takes one or none, and `why` and `merge` take names or paths besides.
+//! `files` take no CONFIG, `check` takes one or none, and `why`, `merge` and `how` take names, paths or wanted values besides.
 //!
 //! A word that begins with `-` is an option, but `-` alone is a value, and so is each word after `--`.
 
@@ -36,8 +36,10 @@ pub struct Arguments<'a> {
     pub variables_file: Option<&'a str>,
     /// The variables of the words, each as its name and its text, in their order.
     pub variables: Vec<(&'a str, &'a str)>,
-    /// The names of symbols of `why`, or the paths of the fragments of `merge`, in their order.
+    /// The names of symbols of `why`, or the paths of the fragments of `merge` and `how`, in their order.
     pub operands: Vec<&'a str>,
+    /// The lines of a `.config` that are wanted of `how`, in their order.
+    pub wanted: Vec<&'a str>,
     /// Whether all is shown, of lists that are shortened otherwise.
     pub is_all: bool,
     /// Whether a finding makes the status 1.
@@ -151,6 +153,10 @@ const MISSING_NAME: &str = "the name of a symbol is missing";
 /// What is said of words that lack a fragment.
 const MISSING_FRAGMENT: &str = "the path of a FRAGMENT is missing";
 
+/// What is said of words that lack a wanted value.
+const MISSING_WANTED: &str =
+    "what is wanted is missing: a line of a .config, as CONFIG_NET=y, or the path of a FRAGMENT";
+
 /// What is said of a malformed prefix.
 const MALFORMED_PREFIX: &str =
     "the value of '--prefix <P>' has more than 64 bytes, or one that is no ASCII letter, digit or '_'";
@@ -177,7 +183,12 @@ fn read_matches<'a>(
         return Err(WordFault::BadValue(MISSING_ARGUMENT));
     };
     let prefix = read_prefix(alloc, found.get_str("prefix").unwrap_or("CONFIG_"))?;
-    let words = read_words(alloc, row, found.get_strs("words").unwrap_or(&[]))?;
+    let words = found.get_strs("words").unwrap_or(&[]);
+    let (wanted, words) = without_wanted(alloc, row, prefix.as_str(), words)?;
+    let words = read_words(alloc, row, words.as_slice())?;
+    if row.operands == Operands::ConfigAndWanted && wanted.is_empty() && words.others.is_empty() {
+        return Err(WordFault::BadValue(MISSING_WANTED));
+    }
     let wording = if row.target.is_explained() || found.get_flag("explain") {
         Wording::Explained
     } else {
@@ -197,6 +208,7 @@ fn read_matches<'a>(
         variables_file: found.get_str("variables"),
         variables: words.variables,
         operands: words.others,
+        wanted,
         is_all: found.get_flag("all"),
         is_strict: found.get_flag("strict"),
         judges_tree: found.get_flag("tree"),
@@ -209,6 +221,34 @@ fn read_prefix<'a>(alloc: Global, text: &str) -> Result<Prefix, WordFault<'a>> {
         Ok(prefix) => Ok(prefix),
         Err(PrefixFault::NoMemory) => Err(WordFault::NoMemory),
         Err(PrefixFault::Malformed) => Err(WordFault::BadValue(MALFORMED_PREFIX)),
+    }
+}
+
+/// The words that are wanted values, each a line of a `.config` with the prefix, and the others. Only `how` takes any.
+fn without_wanted<'a>(
+    alloc: Global,
+    row: &Subcommand,
+    prefix: &str,
+    words: &[&'a str],
+) -> Result<(Vec<&'a str>, Vec<&'a str>), AllocError> {
+    let takes = row.operands == Operands::ConfigAndWanted;
+    let mut wanted = Vec::new(alloc);
+    let mut others = Vec::new(alloc);
+    for word in words {
+        if takes && is_wanted(prefix, word) {
+            wanted.push(*word)?;
+        } else {
+            others.push(*word)?;
+        }
+    }
+    Ok((wanted, others))
+}
+
+/// Whether a word is a line of a `.config`, by its beginning: the prefix, and `=` somewhere after it.
+fn is_wanted(prefix: &str, word: &str) -> bool {
+    match word.strip_prefix(prefix) {
+        Some(rest) => rest.as_bytes().contains(&b'='),
+        None => false,
     }
 }
 
@@ -308,6 +348,10 @@ fn with_own_options<'a>(
             alloc,
             "Makes the status 1 where a line of a FRAGMENT has no effect",
         )),
+        Target::How => command.arg(strict_option(
+            alloc,
+            "Makes the status 1 where a line of CONFIG is lost",
+        )),
         Target::Menu => command.arg(no_help_option(alloc)),
         _ => Ok(command),
     }
@@ -373,6 +417,7 @@ fn words_argument<'a>(alloc: Global, operands: Operands) -> Arg<'a> {
         Operands::PerhapsConfig => ("CONFIG or NAME=VALUE", PERHAPS_CONFIG_HELP),
         Operands::ConfigAndSymbols => ("NAME or NAME=VALUE", SYMBOLS_HELP),
         Operands::ConfigAndFragments => ("FRAGMENT or NAME=VALUE", FRAGMENTS_HELP),
+        Operands::ConfigAndWanted => ("WANTED or NAME=VALUE", WANTED_HELP),
     };
     Arg::new(alloc, "words")
         .value_name(name)
@@ -392,6 +437,9 @@ const SYMBOLS_HELP: &str =
 
 const FRAGMENTS_HELP: &str =
     "The paths of the fragments, and variables of the Kconfig: NAME=VALUE gives $(NAME) the text VALUE";
+
+const WANTED_HELP: &str =
+    "What is wanted, as CONFIG_NET=y or the path of a fragment, and variables of the Kconfig: NAME=VALUE gives $(NAME) the text VALUE";
 
 fn variables_option<'a>(alloc: Global) -> Arg<'a> {
     Arg::new(alloc, "variables")

@@ -232,7 +232,7 @@ fn explain_tree(
             path,
             line,
         } => explain_choice(alloc, files.seed(), lines, *problem, path.as_str(), *line)?,
-        TreeFault::Loop(nodes) => explain_loop(alloc, lines, nodes.as_slice())?,
+        TreeFault::Loop(nodes) => explain_loop(alloc, files.seed(), lines, nodes.as_slice())?,
     };
     Ok(Some(explanation))
 }

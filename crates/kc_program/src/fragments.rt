@@ -1,4 +1,4 @@
-//! The fragments of `merge`.
+//! The fragments of `merge` and `how`.
 
 use crate::arguments::Arguments;
 use crate::explanations::{Input, report_of_inputs, report_of_long_config};
@@ -15,7 +15,7 @@ pub(crate) fn read_fragments<F: Folder>(
     folder: &F,
 ) -> Result<Vec<ConfigFile>, Report> {
     let mut fragments = Vec::new(alloc);
-    if arguments.target != Target::Merge {
+    if !matches!(arguments.target, Target::Merge | Target::How) {
         return Ok(fragments);
     }
     for path in arguments.operands.as_slice() {

@@ -13,6 +13,7 @@ mod folder;
 mod folder_from;
 mod fragments;
 mod hints;
+mod how;
 mod known;
 mod listing;
 mod make_text;

@@ -164,21 +164,22 @@ fn unusable_words(
 }
 
 /// What is said of each line of the fragments that can't be used, in their order.
-fn unusable_words_of_fragments(
+pub(crate) fn unusable_words_of_files(
     alloc: Global,
     inputs: &ReportInputs<'_, '_>,
     tree: &Tree,
+    fragments: &[Input<'_>],
 ) -> Result<Vec<String>, AllocError> {
     let prefix = &inputs.arguments.prefix;
     let mut warnings = Vec::new(alloc);
-    for fragment in inputs.fragments {
-        let lines = read_again(read_config_lines(alloc, tree, prefix, fragment.bytes()))?;
+    for fragment in fragments {
+        let lines = read_again(read_config_lines(alloc, tree, prefix, fragment.bytes))?;
         warnings.push(warnings_of(alloc, lines.as_slice())?)?;
     }
     let mut files = Vec::new(alloc);
-    for (fragment, warnings) in inputs.fragments.iter().zip(warnings.as_slice()) {
+    for (fragment, warnings) in fragments.iter().zip(warnings.as_slice()) {
         files.push(WarnedFile {
-            bytes: fragment.bytes(),
+            bytes: fragment.bytes,
             warnings: warnings.as_slice(),
         })?;
     }
@@ -207,7 +208,7 @@ fn warnings_of(alloc: Global, lines: &[ConfigLine]) -> Result<Vec<Warning>, Allo
 }
 
 /// The status of a report, by whether what it found makes it 1.
-fn status_of(is_at_fault: bool) -> Status {
+pub(crate) fn status_of(is_at_fault: bool) -> Status {
     if is_at_fault {
         Status::Fault
     } else {
@@ -216,14 +217,14 @@ fn status_of(is_at_fault: bool) -> Status {
 }
 
 /// What reading a `.config` or a fragment again gives: both were found short enough before, so only memory can be refused.
-fn read_again<T>(read: Result<T, ReadFault>) -> Result<T, AllocError> {
+pub(crate) fn read_again<T>(read: Result<T, ReadFault>) -> Result<T, AllocError> {
     match read {
         Ok(found) => Ok(found),
         Err(ReadFault::Limit | ReadFault::NoMemory) => Err(AllocError),
     }
 }
 
-fn input_of(config: &ConfigFile) -> Input<'_> {
+pub(crate) fn input_of(config: &ConfigFile) -> Input<'_> {
     Input {
         path: config.path(),
         bytes: config.bytes(),
@@ -269,7 +270,7 @@ pub(crate) fn merge_outcome(
     session.fill_all()?;
     let view = View::new(session.solved());
     let fragments = inputs_of(alloc, inputs.fragments)?;
-    let unusable = unusable_words_of_fragments(alloc, inputs, view.tree())?;
+    let unusable = unusable_words_of_files(alloc, inputs, view.tree(), fragments.as_slice())?;
     let report = read_again(merge_report(
         alloc,
         &view,

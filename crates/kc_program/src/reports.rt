@@ -1,8 +1,9 @@
-//! The targets that report on a Kconfig and its values: `why`, `check`, `merge` and `menu`. Their texts are made from the
+//! The targets that report on a Kconfig and its values: `why`, `check`, `merge`, `how` and `menu`. Their texts are made from the
 //! lines, which show where things are, and from the values of a session.
 
 use crate::arguments::Arguments;
 use crate::files::Files;
+use crate::how::how_outcome;
 use crate::messages::Status;
 use crate::opening::{ConfigFile, Kconfig, Opening};
 use crate::report_texts::{check_outcome, menu_outcome, merge_outcome, why_outcome};
@@ -42,7 +43,7 @@ impl Outcome {
 #[derive(Drop)]
 pub(crate) struct ReportOpening<'a> {
     pub arguments: &'a Arguments<'a>,
-    /// The fragments of `merge`, in their order.
+    /// The fragments of `merge` and `how`, in their order.
     pub fragments: &'a [ConfigFile],
 }
 
@@ -103,6 +104,7 @@ fn report_on(
         Target::Why => why_outcome(alloc, inputs, session, warnings),
         Target::Check => check_outcome(alloc, inputs, session, warnings.as_slice()),
         Target::Merge => merge_outcome(alloc, inputs, session),
+        Target::How => how_outcome(alloc, inputs, session),
         _ => menu_outcome(alloc, inputs, session, warnings),
     };
     match report {

@@ -149,7 +149,7 @@ fn serve<F: Folder, R: Read, W: Write, E: Write>(
     };
     match arguments.target {
         Target::Files => list_files(alloc, &kconfig, wording, output, errors),
-        Target::Why | Target::Check | Target::Merge | Target::Menu => {
+        Target::Why | Target::Check | Target::Merge | Target::How | Target::Menu => {
             serve_report(alloc, arguments, &kconfig, output, errors)
         }
         target => serve_session(alloc, target, &kconfig, wording, input, output, errors),

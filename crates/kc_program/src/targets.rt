@@ -29,6 +29,8 @@ pub enum Target {
     Check,
     /// The `.config` text of CONFIG and fragments.
     Merge,
+    /// The lines that give symbols wanted values.
+    How,
     /// The menu tree.
     Menu,
     /// The replies to the commands of standard input.
@@ -48,6 +50,8 @@ pub enum Operands {
     ConfigAndSymbols,
     /// CONFIG, and the paths of fragments.
     ConfigAndFragments,
+    /// CONFIG, and wanted values: lines of a `.config`, and the paths of fragments.
+    ConfigAndWanted,
 }
 
 impl Operands {
@@ -57,7 +61,8 @@ impl Operands {
     {
         match self {
             Operands::Nothing | Operands::PerhapsConfig => false,
-            Operands::Config | Operands::ConfigAndSymbols | Operands::ConfigAndFragments => true,
+            Operands::Config | Operands::ConfigAndSymbols => true,
+            Operands::ConfigAndFragments | Operands::ConfigAndWanted => true,
         }
     }
 
@@ -69,6 +74,8 @@ impl Operands {
             Operands::Nothing | Operands::Config => (0, 0),
             Operands::PerhapsConfig => (0, 1),
             Operands::ConfigAndSymbols | Operands::ConfigAndFragments => (1, usize::MAX),
+            // A wanted value counts as a word that is `NAME=VALUE`.
+            Operands::ConfigAndWanted => (0, usize::MAX),
         }
     }
 }
@@ -87,7 +94,7 @@ pub struct Subcommand {
 }
 
 /// All subcommands, in the order of the help.
-pub static SUBCOMMANDS: [Subcommand; 13] = [
+pub static SUBCOMMANDS: [Subcommand; 14] = [
     Subcommand {
         name: "olddefconfig",
         target: Target::Olddefconfig,
@@ -235,6 +242,25 @@ Example:
   kconf merge Kconfig x86_64_defconfig net.config debug.config > .config",
     },
     Subcommand {
+        name: "how",
+        target: Target::How,
+        operands: Operands::ConfigAndWanted,
+        about: "Says what to set so that symbols have wanted values: a fragment for merge",
+        notes: "WANTED is a line of a .config, with the prefix, as CONFIG_NET=y (CONFIG_NET=n for
+'is not set'), or the path of a FRAGMENT, all of whose lines are wanted; write ./A=B
+for a path A=B. Standard output is a fragment: merged into CONFIG, it gives each wanted
+value, and none of its lines can be left out. Where all are there already, it is empty.
+Standard error has a line for each line of CONFIG that the fragment costs, then one for
+each line of the fragment, with what it is needed for, and counts.
+
+The status is 0, also where lines of CONFIG are lost, which --strict makes 1; 1 where
+nothing is found, which is no proof that there is nothing, or after an error; 2 after a
+usage error.
+
+Example:
+  kconf how Kconfig .config CONFIG_WIREGUARD=y > wireguard.config",
+    },
+    Subcommand {
         name: "menu",
         target: Target::Menu,
         operands: Operands::Config,
@@ -314,7 +340,7 @@ impl Target {
             Target::Savedefconfig => Some(Command::Defconfig),
             Target::Listnewconfig => Some(Command::New),
             Target::Genheader => Some(Command::Header),
-            Target::Why | Target::Check | Target::Merge | Target::Menu => None,
+            Target::Why | Target::Check | Target::Merge | Target::How | Target::Menu => None,
             Target::Files | Target::Session => None,
         }
     }
@@ -325,7 +351,7 @@ impl Target {
     {
         match self {
             Target::Genmake | Target::Files | Target::Why | Target::Check => true,
-            Target::Merge | Target::Menu => true,
+            Target::Merge | Target::How | Target::Menu => true,
             Target::Olddefconfig | Target::Savedefconfig | Target::Listnewconfig => false,
             Target::Genheader | Target::Allnoconfig | Target::Allyesconfig => false,
             Target::Session => false,

@@ -1,0 +1,7 @@
+pub mod AnswerLaws
+pub mod ApartLaws
+pub mod FewestLaws
+pub mod FragmentLaws
+pub mod LackingLaws
+pub mod NeededLaws
+pub mod TakenLists

@@ -1,0 +1,4 @@
+pub mod Answer
+pub mod Apart
+pub mod Needed
+pub mod Question

@@ -1,0 +1,17 @@
+//! The search for lines of a `.config` that give symbols wanted values: what is to be tried, and in which order.
+#![tactic(auto)]
+
+mod costs;
+mod finder;
+mod goals;
+mod prices;
+mod run;
+mod search;
+mod trial;
+mod ways_compare;
+mod ways_down;
+mod ways_expr;
+mod ways_text;
+mod ways_up;
+
+pub use search::{Search, candidates};

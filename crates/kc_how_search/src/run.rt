@@ -1,0 +1,321 @@
+//! One run of the search: from the given user values on, each goal is taken apart by one of its ways, the cheapest but
+//! for the turns of the run.
+
+use crate::costs::plus;
+use crate::finder::Finder;
+use crate::goals::{Deed, Goal, Task, Way};
+use crate::prices::{MEMBER_LINE, TEXT_LINE};
+use kc_files::Assign;
+use kc_tree::{ExprNode, SymId, Tri, UserVal};
+use std::alloc::AllocError;
+
+/// How many steps a run has at most.
+const MOST_STEPS: usize = 2000;
+/// How often what is wanted is looked at again.
+const MOST_ROUNDS: usize = 3;
+/// How often a goal is tried.
+const MOST_TRIES: u32 = 2;
+/// How many ways to a goal are looked at.
+const MOST_WAYS: usize = 10;
+
+/// How many lines that are looked at for ways count as a step.
+const WEIGHT: usize = 32;
+
+/// What a symbol costs that no longer has what the user gave it.
+const LOST: u32 = 100;
+
+/// A way that is taken in place of the cheapest one: at which goal of the run, and which.
+#[derive(Clone, Copy, Debug)]
+pub(crate) struct Turn {
+    pub point: usize,
+    pub way: usize,
+}
+
+/// A turn that could be taken, and what it costs more.
+#[derive(Clone, Copy, Debug)]
+pub(crate) struct Branch {
+    pub turn: Turn,
+    pub more: u32,
+}
+
+/// How the run goes on.
+#[derive(Drop)]
+pub(crate) struct Course {
+    /// The turns that are taken, by their points.
+    pub turns: Vec<Turn>,
+    /// How many goals were taken apart.
+    pub points: usize,
+    /// The turns that could be taken after these.
+    pub branches: Vec<Branch>,
+    pub steps: usize,
+    /// Whether it ended since it had too many steps.
+    pub is_spent: bool,
+}
+
+impl Course {
+    /// The way that is taken at the next goal.
+    fn next_way(&self) -> usize {
+        for turn in self.turns.as_slice() {
+            if turn.point == self.points {
+                return turn.way;
+            }
+        }
+        0
+    }
+
+    /// Whether all turns were taken.
+    fn is_past_turns(&self) -> bool {
+        match self.turns.as_slice().last() {
+            Some(turn) => turn.point < self.points,
+            None => true,
+        }
+    }
+
+    /// Lists the turns that could be taken at the next goal. The error comes where memory is refused.
+    fn add_branches(&mut self, ways: &[Way<'_>]) -> Result<(), AllocError> {
+        let Some(first) = ways.first() else {
+            return Ok(());
+        };
+        for (number, way) in ways.iter().take(MOST_WAYS).enumerate().skip(1) {
+            let turn = Turn {
+                point: self.points,
+                way: number,
+            };
+            let more = way.cost.saturating_sub(first.cost);
+            self.branches.push(Branch { turn, more })?;
+        }
+        Ok(())
+    }
+
+    /// The way that is taken of some, by their costs; none where there are too few. The error comes where memory is
+    /// refused.
+    fn take<'t>(&mut self, mut ways: Vec<Way<'t>>) -> Result<Option<Way<'t>>, AllocError> {
+        ways.sort_by_key(|way| way.cost)?;
+        let number = self.next_way();
+        if self.is_past_turns() {
+            self.add_branches(ways.as_slice())?;
+        }
+        self.points = self.points.saturating_add(1);
+        let mut taken = None;
+        for (place, way) in ways.into_iter().enumerate() {
+            if place == number {
+                taken = Some(way);
+            }
+        }
+        Ok(taken)
+    }
+}
+
+impl<'t> Finder<'t> {
+    /// The ways to a goal. The error comes where memory is refused.
+    fn ways(&mut self, goal: Goal<'t>) -> Result<Vec<Way<'t>>, AllocError> {
+        match goal {
+            Goal::AtLeast(symbol, bound) => self.ways_up(symbol, bound),
+            Goal::AtMost(symbol, bound) => self.ways_down(symbol, bound),
+            Goal::Text(symbol, place) => self.ways_text(symbol, place),
+            Goal::ExprAtLeast(expr, bound) => self.ways_expr(expr, true, bound),
+            Goal::ExprAtMost(expr, bound) => self.ways_expr(expr, false, bound),
+            Goal::Open(choice) => self.ways_open(choice),
+            Goal::Closed(choice) => self.ways_closed(choice),
+            Goal::ReverseAtMost(reverse, bound) => self.ways_reverse(reverse, bound),
+        }
+    }
+
+    /// How many lines are looked at for the ways to a goal.
+    fn weight_of(&self, goal: Goal<'t>) -> usize {
+        match goal {
+            Goal::AtLeast(id, _) | Goal::AtMost(id, _) => match self.symbol(id) {
+                Some(symbol) => symbol.selected().len().max(symbol.implied().len()),
+                None => 0,
+            },
+            Goal::ExprAtLeast(expr, _) | Goal::ExprAtMost(expr, _) => match expr.node() {
+                ExprNode::All(parts) => parts.len(),
+                ExprNode::Any(parts) => parts.len(),
+                _ => 0,
+            },
+            _ => 0,
+        }
+    }
+
+    /// Takes a goal apart, unless it holds; false where it can't be. The error comes where memory is refused.
+    fn take_apart(
+        &mut self,
+        course: &mut Course,
+        goal: Goal<'t>,
+        tries: u32,
+    ) -> Result<bool, AllocError> {
+        if self.holds(goal)? {
+            return Ok(true);
+        }
+        if tries >= MOST_TRIES || !self.pin(goal)? {
+            return Ok(false);
+        }
+        let ways = self.ways(goal)?;
+        course.steps = course.steps.saturating_add(self.weight_of(goal) / WEIGHT);
+        let Some(way) = course.take(ways)? else {
+            return Ok(false);
+        };
+        self.agenda.push(Task::Goal(goal, tries.saturating_add(1)))?;
+        if !matches!(&way.deed, Deed::Nothing) {
+            self.agenda.push(Task::Deed(way.deed, goal))?;
+        }
+        for first in way.goals.iter().rev() {
+            self.agenda.push(Task::Goal(*first, 0))?;
+        }
+        Ok(true)
+    }
+
+    /// Does a deed, unless its goal holds; false where it is against what is pinned. The error comes where memory is
+    /// refused.
+    fn make_for(&mut self, deed: Deed, goal: Goal<'t>) -> Result<bool, AllocError> {
+        if self.holds(goal)? {
+            return Ok(true);
+        }
+        self.make(deed)
+    }
+
+    /// Does all that is to be done; false where it can't be. The error comes where memory is refused.
+    fn work_off(&mut self, course: &mut Course) -> Result<bool, AllocError> {
+        for _ in 0..MOST_STEPS {
+            let Some(task) = self.agenda.pop() else {
+                return Ok(true);
+            };
+            course.steps = course.steps.saturating_add(1);
+            let is_done = match task {
+                Task::Goal(goal, tries) => self.take_apart(course, goal, tries)?,
+                Task::Deed(deed, goal) => self.make_for(deed, goal)?,
+            };
+            if !is_done {
+                return Ok(false);
+            }
+        }
+        course.is_spent = true;
+        Ok(false)
+    }
+
+    /// Adds the goals that what is wanted holds, of what does not, the first on top; the place of the first that does
+    /// not. The error comes where memory is refused.
+    fn add_wanted(&mut self, wanted: &[Assign]) -> Result<Option<usize>, AllocError> {
+        let mut missed = Vec::new(self.alloc);
+        let mut first = None;
+        for (place, assign) in wanted.iter().enumerate() {
+            for goal in self.goals_of(assign)? {
+                if !self.holds(goal)? {
+                    missed.push(goal)?;
+                    first = first.or(Some(place));
+                }
+            }
+        }
+        for goal in missed.iter().rev() {
+            self.agenda.push(Task::Goal(*goal, 0))?;
+        }
+        Ok(first)
+    }
+
+    /// Pins what is wanted; false where some of it is against other. The error comes where memory is refused.
+    fn pin_wanted(&mut self, wanted: &[Assign]) -> Result<bool, AllocError> {
+        for assign in wanted {
+            for goal in self.goals_of(assign)? {
+                if !self.pin(goal)? {
+                    return Ok(false);
+                }
+            }
+        }
+        Ok(true)
+    }
+
+    /// Runs from the given user values on. The place of the first wanted value that does not hold at the end, and none
+    /// where all do. The error comes where memory is refused.
+    pub fn run(
+        &mut self,
+        course: &mut Course,
+        wanted: &[Assign],
+    ) -> Result<Option<usize>, AllocError> {
+        self.undo()?;
+        self.agenda.clear();
+        self.pins.clear();
+        let mut is_open = self.pin_wanted(wanted)?;
+        let mut missed = self.add_wanted(wanted)?;
+        for _ in 0..MOST_ROUNDS {
+            if missed.is_none() || !is_open {
+                return Ok(missed);
+            }
+            is_open = self.work_off(course)?;
+            self.agenda.clear();
+            missed = self.add_wanted(wanted)?;
+        }
+        Ok(missed)
+    }
+
+    /// Whether a line names a symbol, or another member of its choice.
+    fn is_named(&self, lines: &[Assign], symbol: SymId) -> bool {
+        let choice = self.tree.choice_of(symbol);
+        lines.iter().any(|line| {
+            line.symbol == symbol
+                || (choice.is_some() && self.tree.choice_of(line.symbol) == choice)
+        })
+    }
+
+    /// The line of a deed, none for the deed that is none. The error comes where memory is refused.
+    fn line_of(&self, deed: Deed) -> Result<Option<Assign>, AllocError> {
+        match deed {
+            Deed::Nothing => Ok(None),
+            Deed::Give(symbol, value) => Ok(Some(Assign {
+                symbol,
+                value: UserVal::Tri(value),
+            })),
+            Deed::GiveText(symbol, place) => match self.texts.get(place) {
+                Some(text) => Ok(Some(Assign {
+                    symbol,
+                    value: UserVal::Text(text.share()?),
+                })),
+                None => Ok(None),
+            },
+            Deed::Choose(_, symbol) => Ok(Some(Assign {
+                symbol,
+                value: UserVal::Tri(Tri::Yes),
+            })),
+        }
+    }
+
+    /// How many symbols no longer have what the user gave them. The error comes where memory is refused.
+    fn lost(&mut self) -> Result<u32, AllocError> {
+        self.trial.fill_all()?;
+        let mut count: u32 = 0;
+        for symbol in self.given.as_slice() {
+            if !self.trial.has_given(*symbol) {
+                count = count.saturating_add(1);
+            }
+        }
+        Ok(count)
+    }
+
+    /// What the lines of what was done cost, and besides each symbol that no longer has what the user gave it. The error
+    /// comes where memory is refused.
+    pub fn score(&mut self) -> Result<u32, AllocError> {
+        let mut score = self.lost()?.saturating_mul(LOST);
+        for deed in self.deeds.as_slice() {
+            let cost = match deed {
+                Deed::Nothing => 0,
+                Deed::Give(symbol, _) => self.prices().line_of(*symbol),
+                Deed::GiveText(_, _) => TEXT_LINE,
+                Deed::Choose(_, _) => MEMBER_LINE,
+            };
+            score = plus(score, cost);
+        }
+        Ok(score)
+    }
+
+    /// The lines of what was done: of each symbol and each choice the last. The error comes where memory is refused.
+    pub fn lines(&self) -> Result<Vec<Assign>, AllocError> {
+        let mut lines = Vec::new(self.alloc);
+        for deed in self.deeds.iter().rev() {
+            if let Some(line) = self.line_of(*deed)?
+                && !self.is_named(lines.as_slice(), line.symbol)
+            {
+                lines.push(line)?;
+            }
+        }
+        Ok(lines)
+    }
+}
