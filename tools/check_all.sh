@@ -1,6 +1,6 @@
 #!/usr/bin/env bash
 # Runs the checks that need Python 3 alone: those that compare the documents with the code, and the tests of scripts; and
-# with rt on the path the check of the layout.
+# with rattle on the path that of the layout.
 #
 #     tools/check_all.sh
 #
