@@ -88,7 +88,7 @@ UNUSED_VARIABLE = re.compile(rb"[A-Za-z0-9_][A-Za-z0-9_-]*: given, and used nowh
 
 # The lines of `merge`.
 COUNTS = re.compile(
-    rb"(\d+) asked: (\d+) got, (\d+) got another value, (\d+) unusable, (\d+) replaced"
+    rb"(\d+) asked: (\d+) got, (\d+) got another value(?: \(see kconf how\))?, (\d+) unusable, (\d+) replaced"
     rb"(?:; (\d+) lines? of (.*) lost)?"
 )
 REPLACED = re.compile(rb"\w+: .* takes the place of .* \(" + AT + rb"\)", re.DOTALL)

@@ -220,9 +220,10 @@ pub(crate) fn push_counts(
     let other = counts.other;
     let unusable = counts.unusable;
     let replaced = counts.replaced;
+    let hint = if other > 0 { " (see kconf how)" } else { "" };
     write!(
         text,
-        "{asked} asked: {got} got, {other} got another value, {unusable} unusable, {replaced} replaced"
+        "{asked} asked: {got} got, {other} got another value{hint}, {unusable} unusable, {replaced} replaced"
     )?;
     match counts.lost {
         _ if config == "" => text.push('\n'),

@@ -4,7 +4,7 @@ ghost use Rattle.kc_tree.specs.declared.node.Node.TheVariants.{Vis};
 ghost use Rattle.kc_tree.specs.Nodes.{IsNodeOf};
 
 use kc_facts::{View, has_prompt, push_bounds, push_user};
-use kc_tree::{Node, SymId, SymbolType};
+use kc_tree::{Node, SymId, SymbolType, Tri};
 use kc_value::{active_range, assignable_among};
 use std::alloc::{AllocError, Global};
 
@@ -49,25 +49,59 @@ fn push_numbers(
     text.push('\n')
 }
 
-/// Adds what a user can give a symbol with an effect: `can be set to n m y`; nothing where it is not visible.
+/// Adds what a user can give a symbol with an effect: `can be set to n m y`, or the user value that waits; and the
+/// target that finds what makes a symbol y which is n, where no user value of its own does.
 pub(crate) fn push_settable(
     alloc: Global,
     text: &mut String,
     view: &View<'_>,
     symbol: SymId,
 ) -> Result<(), AllocError> {
-    let tree = view.tree();
-    let Some(_found) = tree.symbols().get(symbol.0 as usize) else {
+    let Some(_found) = view.tree().symbols().get(symbol.0 as usize) else {
         return Ok(());
     };
     if view.known().tri(Node::Vis(symbol)).is_no() {
-        return push_waiting(text, view, symbol);
+        push_waiting(text, view, symbol)?;
+    } else {
+        push_values(alloc, text, view, symbol)?;
     }
-    match tree.symbol_type(symbol) {
+    push_hint(alloc, text, view, symbol)
+}
+
+/// Adds what a user can give a symbol that is visible.
+fn push_values(
+    alloc: Global,
+    text: &mut String,
+    view: &View<'_>,
+    symbol: SymId,
+) -> Result<(), AllocError>
+    requires { IsNodeOf view.now.tree (Vis symbol) }
+{
+    match view.tree().symbol_type(symbol) {
         SymbolType::Bool | SymbolType::Tristate => push_tristates(alloc, text, view, symbol),
         SymbolType::Int | SymbolType::Hex => push_numbers(alloc, text, view, symbol),
         SymbolType::String => text.push_str("  can be set to a text\n"),
     }
+}
+
+/// Adds the target that finds what makes a symbol y which is n, where no user value of its own does.
+fn push_hint(
+    alloc: Global,
+    text: &mut String,
+    view: &View<'_>,
+    symbol: SymId,
+) -> Result<(), AllocError>
+    requires { IsNodeOf view.now.tree (Vis symbol) }
+{
+    let is_switch = view.tree().symbol_type(symbol).is_tri();
+    if !is_switch || !view.known().tri(Node::Val(symbol)).is_no() {
+        return Ok(());
+    }
+    let values = assignable_among(alloc, view.known(), symbol)?;
+    if let Some(Tri::Yes) = values.as_slice().last() {
+        return Ok(());
+    }
+    text.push_str("  what to set so that it is y: see kconf how\n")
 }
 
 /// Whether a symbol has a prompt.
