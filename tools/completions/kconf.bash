@@ -8,7 +8,8 @@ _kconf() {
     case ${COMP_WORDS[1]} in
         why) options+=" --all" ;;
         check) options+=" --undefined --strict --tree" ;;
-        merge | how) options+=" --strict" ;;
+        merge) options+=" --strict" ;;
+        how) options+=" --keep --strict" ;;
         menu) options+=" --no-help" ;;
     esac
     COMPREPLY=()

@@ -53,5 +53,6 @@ complete -c kconf -n '__kconf_target check' -l undefined -d 'list all undefined 
 complete -c kconf -n '__kconf_target check' -l strict -d 'make the status 1 where there is a finding of CONFIG'
 complete -c kconf -n '__kconf_target check' -l tree -d 'judge the Kconfig, too'
 complete -c kconf -n '__kconf_target merge' -l strict -d 'make the status 1 where a line has no effect'
+complete -c kconf -n '__kconf_target how' -l keep -d 'keep the values of CONFIG, as far as they can be'
 complete -c kconf -n '__kconf_target how' -l strict -d 'make the status 1 where a line of CONFIG is lost'
 complete -c kconf -n '__kconf_target menu' -l no-help -d 'write no help texts'

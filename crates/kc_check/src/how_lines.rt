@@ -5,6 +5,7 @@ use crate::merge_lines::push_lost;
 use crate::shown_values::{push_asked, push_value};
 use kc_facts::{FragmentLine, FragmentLines, Input, View, push_shortfall, read_fragments};
 use kc_files::{Assign, LineSays, Prefix, ReadFault};
+use kc_tree::SymId;
 use std::alloc::{AllocError, Global};
 
 /// What lines that give wanted values cost.
@@ -12,12 +13,29 @@ use std::alloc::{AllocError, Global};
 pub struct HowCosts {
     /// A line for each line of the `.config` that was lost.
     pub text: String,
-    /// How many of these there are.
-    pub lost: usize,
+    /// These lines, in their order.
+    pub lost: Vec<LostLine>,
+}
+
+/// A line of a `.config` that was lost.
+#[derive(Clone, Copy, Debug)]
+pub struct LostLine {
+    /// Its number, from 1.
+    pub number: usize,
+    pub symbol: SymId,
+}
+
+/// What a line is needed for.
+#[derive(Clone, Copy)]
+pub enum Need<'a> {
+    /// A wanted value.
+    Wanted(&'a Assign),
+    /// A value of the `.config` that is kept.
+    Kept(&'a Assign),
 }
 
 /// Adds a line for a line that is needed, over the values before it is merged (this project's own words): `NAME: m to y`,
-/// and that it is wanted, or for which wanted value it is needed.
+/// and what it is needed for.
 ///
 /// # Errors
 ///
@@ -26,23 +44,39 @@ pub fn push_needed_line(
     text: &mut String,
     view: &View<'_>,
     line: &Assign,
-    wanted: Option<&Assign>,
+    need: Option<Need<'_>>,
 ) -> Result<(), AllocError> {
     text.push_str(view.tree().name(line.symbol))?;
     text.push_str(": ")?;
     push_value(text, view, line.symbol)?;
     text.push_str(" to ")?;
     push_asked(text, view, line.symbol, &line.value)?;
-    match wanted {
-        Some(wanted) if wanted.symbol == line.symbol => text.push_str(", wanted")?,
-        Some(wanted) => {
-            text.push_str(", needed for ")?;
-            push_line(text, view, wanted)?;
-        }
-        None => {}
+    if let Some(need) = need {
+        push_need(text, view, line, need)?;
     }
     text.push('\n')?;
     Ok(())
+}
+
+/// Adds what a line is needed for.
+fn push_need(
+    text: &mut String,
+    view: &View<'_>,
+    line: &Assign,
+    need: Need<'_>,
+) -> Result<(), AllocError> {
+    match need {
+        Need::Wanted(wanted) if wanted.symbol == line.symbol => text.push_str(", wanted"),
+        Need::Kept(kept) if kept.symbol == line.symbol => text.push_str(", kept"),
+        Need::Wanted(wanted) => {
+            text.push_str(", needed for ")?;
+            push_line(text, view, wanted)
+        }
+        Need::Kept(kept) => {
+            text.push_str(", needed to keep ")?;
+            push_line(text, view, kept)
+        }
+    }
 }
 
 /// Adds that nothing gives a symbol a wanted value, and why it has another one (this project's own words).
@@ -140,26 +174,64 @@ pub fn how_costs(
     push_lost(alloc, &mut text, view, before, lost.as_slice())?;
     Ok(HowCosts {
         text,
-        lost: lost.len(),
+        lost: lost_lines(alloc, before, lost.as_slice())?,
     })
 }
 
-/// Adds the counts, as the last line of a report: of the values that are wanted, of the lines, and of the lines of the
-/// `.config` that were lost; without a `.config`, whose path is empty, none of these.
+/// The lines of a `.config` that were lost, by their indices among those that had their effect.
+fn lost_lines(
+    alloc: Global,
+    before: &EffectsBefore,
+    lost: &[usize],
+) -> Result<Vec<LostLine>, AllocError> {
+    let mut lines = Vec::new(alloc);
+    for index in lost {
+        if let Some(line) = before.lines.get(*index) {
+            lines.push(LostLine {
+                number: line.number,
+                symbol: line.assign.symbol,
+            })?;
+        }
+    }
+    Ok(lines)
+}
+
+/// How many lines are in the report of `how`.
+#[derive(Clone, Copy, Debug)]
+pub struct HowCounts {
+    /// The values that are wanted.
+    pub wanted: usize,
+    /// The values of the `.config` that are kept.
+    pub kept: usize,
+    /// The lines that give them.
+    pub lines: usize,
+    /// The lines of the `.config` that were lost.
+    pub lost: usize,
+}
+
+/// Adds the counts, as the last line of a report; without a `.config`, whose path is empty, none of its lines.
 ///
 /// # Errors
 ///
 /// `AllocError` where memory is refused.
 pub fn push_how_counts(
     text: &mut String,
-    wanted: usize,
-    lines: usize,
-    lost: usize,
+    counts: HowCounts,
     config: &str,
 ) -> Result<(), AllocError> {
+    let HowCounts {
+        wanted,
+        kept,
+        lines,
+        lost,
+    } = counts;
+    write!(text, "{wanted} wanted")?;
+    if kept > 0 {
+        write!(text, ", {kept} kept")?;
+    }
     match lines {
-        1 => write!(text, "{wanted} wanted: 1 line")?,
-        _ => write!(text, "{wanted} wanted: {lines} lines")?,
+        1 => text.push_str(": 1 line")?,
+        _ => write!(text, ": {lines} lines")?,
     }
     match lost {
         _ if config == "" => text.push('\n'),

@@ -31,7 +31,8 @@ pub use earlier_effects::{EffectsBefore, effects_before};
 pub use entry_faults::without_strays;
 pub use finding::{Finding, Findings, FoundAt, Judged};
 pub use how_lines::{
-    HowCosts, how_costs, push_how_counts, push_needed_line, push_not_found, push_unusable_lines,
+    HowCosts, HowCounts, LostLine, Need, how_costs, push_how_counts, push_needed_line,
+    push_not_found, push_unusable_lines,
 };
 pub use inputs::{CheckInputs, Extent, SourceText};
 pub use merging::{MergeReport, merge_report};

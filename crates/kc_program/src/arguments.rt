@@ -48,6 +48,10 @@ pub struct Arguments<'a> {
     pub judges_tree: bool,
     /// Whether help texts are written.
     pub has_help: bool,
+    /// Whether `how` keeps the values of CONFIG, as far as it can.
+    pub keeps_values: bool,
+    /// Whether `how` shows the definitions of the symbols that it sets.
+    pub shows_definitions: bool,
 }
 
 /// Words that are no command line, or ask for help or the version.
@@ -213,6 +217,8 @@ fn read_matches<'a>(
         is_strict: found.get_flag("strict"),
         judges_tree: found.get_flag("tree"),
         has_help: !found.get_flag("no-help"),
+        keeps_values: found.get_flag("keep"),
+        shows_definitions: found.get_flag("explain"),
     })
 }
 
@@ -348,10 +354,9 @@ fn with_own_options<'a>(
             alloc,
             "Makes the status 1 where a line of a FRAGMENT has no effect",
         )),
-        Target::How => command.arg(strict_option(
-            alloc,
-            "Makes the status 1 where a line of CONFIG is lost",
-        )),
+        Target::How => command
+            .arg(strict_option(alloc, "Makes the status 1 where a line of CONFIG is lost"))?
+            .arg(keep_option(alloc)),
         Target::Menu => command.arg(no_help_option(alloc)),
         _ => Ok(command),
     }
@@ -385,6 +390,15 @@ fn tree_option<'a>(alloc: Global) -> Arg<'a> {
         .long("tree")
         .action(ArgAction::SetTrue)
         .help("Makes --strict judge the findings of the Kconfig, too, not only those of CONFIG")
+}
+
+fn keep_option<'a>(alloc: Global) -> Arg<'a> {
+    Arg::new(alloc, "keep")
+        .long("keep")
+        .action(ArgAction::SetTrue)
+        .help(
+            "Wants the values of the lines of CONFIG, too, that are lost otherwise, as far as there are lines that give them",
+        )
 }
 
 fn no_help_option<'a>(alloc: Global) -> Arg<'a> {
@@ -467,10 +481,13 @@ fn prefix_option<'a>(alloc: Global) -> Arg<'a> {
 }
 
 fn explain_option<'a>(alloc: Global, target: Target) -> Arg<'a> {
-    let help = if target.is_explained() {
-        "Changes nothing: this target always explains its warnings and errors"
-    } else {
-        "Explains each warning and error, and shows the lines of the files that are at fault"
+    let help = match target {
+        Target::How =>
+            "Shows the definitions of the symbols that are set, with the values of their conditions",
+        _ if target.is_explained() => {
+            "Changes nothing: this target always explains its warnings and errors"
+        }
+        _ => "Explains each warning and error, and shows the lines of the files that are at fault",
     };
     Arg::new(alloc, "explain")
         .long("explain")

@@ -4,19 +4,22 @@ ghost use Rattle.std.specs.Prelude.{All, IfOk, IfSome};
 ghost use Rattle.kc_files.specs.LineReading.{IsAssignFor};
 ghost use Rattle.kc_how.specs.Answer.{IsAnswer, IsLine};
 
+use crate::how_kept::with_values_kept;
 use crate::messages::Status;
 use crate::report_texts::{input_of, read_again, status_of, unusable_words_of_files};
 use crate::reports::{Outcome, ReportInputs};
 use kc_check::{
-    EffectsBefore, effects_before, how_costs, push_how_counts, push_needed_line, push_not_found,
-    push_unusable_lines,
+    EffectsBefore, HowCounts, LostLine, Need, effects_before, how_costs, push_how_counts,
+    push_needed_line, push_not_found, push_unusable_lines,
 };
-use kc_facts::{Input, View, read_fragments};
+use kc_facts::{Input, LineIndex, View, read_fragments};
 use kc_files::{Assign, Prefix, ReadFault, Warning, WarningKind, has_effect, read_config};
 use kc_how::{answer, fragment_text, needed_for, plain_candidates};
 use kc_how_search::{Search, candidates};
+use kc_report::push_definitions_of;
 use kc_session::{Body, Command, Reply, Session};
-use kc_value::Solved;
+use kc_tree::{SymId, Tree};
+use kc_value::{Resolver, Solved};
 use std::alloc::{AllocError, Global};
 
 /// What stands for the path of the wanted values that are words of the command line.
@@ -34,22 +37,26 @@ pub(crate) fn how_outcome(
     inputs: &ReportInputs<'_, '_>,
     session: &mut Session,
 ) -> Result<Outcome, AllocError> {
-    let text = wanted_text(alloc, inputs)?;
     session.fill_all()?;
     let view = View::new(session.solved());
-    let prefix = &inputs.arguments.prefix;
     let config = input_of(inputs.config);
+    let prefix = &inputs.arguments.prefix;
     let before = read_again(effects_before(alloc, &view, prefix, &config))?;
-    match how(alloc, &session.solved(), &view, prefix, text.as_slice())? {
-        WantedAnswer::Found(found) => found_outcome(alloc, inputs, session, &before, found),
+    let wanted = WantedTexts::of(alloc, inputs)?;
+    match answer_in_session(alloc, inputs, session, &before, wanted)? {
+        WantedAnswer::Found(found) if inputs.arguments.keeps_values => {
+            let kept = with_values_kept(alloc, inputs, session, &before, found)?;
+            found_outcome(alloc, inputs, kept)
+        }
+        WantedAnswer::Found(found) => found_outcome(alloc, inputs, found),
         WantedAnswer::NotFound(errors) => failed(alloc, errors),
-        WantedAnswer::Unusable => unusable_outcome(alloc, inputs, &view),
+        WantedAnswer::Unusable => unusable_outcome(alloc, inputs, session.tree()),
     }
 }
 
 /// What comes of wanted values.
 #[derive(Drop)]
-enum WantedAnswer {
+pub(crate) enum WantedAnswer {
     Found(Found),
     /// Nothing was found, with these words for standard error.
     NotFound(String),
@@ -59,26 +66,103 @@ enum WantedAnswer {
 
 /// The lines that give wanted values.
 #[derive(Drop)]
-struct Found {
-    /// How many values are wanted.
-    wanted: usize,
-    /// How many lines there are.
-    lines: usize,
+pub(crate) struct Found {
+    /// What they give.
+    pub wanted: WantedTexts,
+    /// The symbols that values are asked for of.
+    pub asked: Vec<SymId>,
+    counts: HowCounts,
     fragment: String,
     /// What each line changes, and what it is needed for.
     changes: String,
+    /// What is said of the lines of CONFIG that are lost.
+    costs: String,
+    /// These lines, in their order.
+    pub lost: Vec<LostLine>,
 }
 
-/// What comes of the wanted values of a text, by the lines of a `.config`.
+/// What is wanted, as lines of a `.config`.
+#[derive(Drop)]
+pub(crate) struct WantedTexts {
+    /// The lines of CONFIG that are kept.
+    pub kept: Vec<u8>,
+    /// How many of these there are.
+    pub kept_count: usize,
+    /// The lines of the fragments, and after them those of the command line, which take their place.
+    pub asked: Vec<u8>,
+}
+
+impl WantedTexts {
+    /// What the command line asks for. No line of CONFIG is kept.
+    fn of(alloc: Global, inputs: &ReportInputs<'_, '_>) -> Result<WantedTexts, AllocError> {
+        Ok(WantedTexts {
+            kept: Vec::new(alloc),
+            kept_count: 0,
+            asked: asked_text(alloc, inputs)?,
+        })
+    }
+
+    /// All lines, those that are kept first.
+    fn joined(&self, alloc: Global) -> Result<Vec<u8>, AllocError> {
+        let mut text = Vec::new(alloc);
+        text.extend_from_slice(self.kept.as_slice())?;
+        text.extend_from_slice(self.asked.as_slice())?;
+        Ok(text)
+    }
+}
+
+/// What comes of wanted values in a session of CONFIG. Where lines are found, they are merged in it.
+pub(crate) fn answer_in_session(
+    alloc: Global,
+    inputs: &ReportInputs<'_, '_>,
+    session: &mut Session,
+    before: &EffectsBefore,
+    wanted: WantedTexts,
+) -> Result<WantedAnswer, AllocError> {
+    session.fill_all()?;
+    let view = View::new(session.solved());
+    let words = ChangeWords {
+        view: &view,
+        index: index_of(alloc, inputs)?,
+        kept: wanted.kept_count,
+    };
+    match how(
+        alloc,
+        &session.solved(),
+        &words,
+        &inputs.arguments.prefix,
+        wanted,
+    )? {
+        WantedAnswer::Found(found) => {
+            let found = with_costs(alloc, inputs, session, before, found)?;
+            Ok(WantedAnswer::Found(found))
+        }
+        other => Ok(other),
+    }
+}
+
+/// The lines of the Kconfig, where definitions are shown.
+fn index_of<'l, 'f>(
+    alloc: Global,
+    inputs: &ReportInputs<'l, 'f>,
+) -> Result<Option<LineIndex<'l, 'f>>, AllocError> {
+    if !inputs.arguments.shows_definitions {
+        return Ok(None);
+    }
+    Ok(Some(LineIndex::of(alloc, inputs.lines)?))
+}
+
+/// What comes of wanted values, by the lines of a `.config`.
 fn how(
     alloc: Global,
     solved: &Solved<'_>,
-    view: &View<'_>,
+    words: &ChangeWords<'_>,
     prefix: &Prefix,
-    text: &[u8],
+    texts: WantedTexts,
 ) -> Result<WantedAnswer, AllocError> {
     let tree = solved.tree();
-    let (wanted, warnings) = match read_config(alloc, tree, prefix, text) {
+    let text = texts.joined(alloc)?;
+    let (wanted, warnings) = match read_config(alloc, tree, prefix, text.as_slice()) {
         Ok(read) => read,
         Err(ReadFault::Limit) => {
             return Ok(WantedAnswer::NotFound(String::from_str(alloc, TOO_LONG)?));
@@ -89,18 +173,35 @@ fn how(
         return Ok(WantedAnswer::Unusable);
     }
     let wanted = wanted.as_slice();
-    match answer_of(alloc, solved, wanted)? {
-        Some(lines) => {
-            let lines = lines.as_slice();
-            Ok(WantedAnswer::Found(Found {
-                wanted: wanted.len(),
-                lines: lines.len(),
-                fragment: fragment_text(alloc, tree, prefix, lines)?,
-                changes: changes_text(alloc, solved, view, wanted, lines)?,
-            }))
-        }
-        None => Ok(WantedAnswer::NotFound(not_found_text(alloc, view, wanted)?)),
-    }
+    let Some(lines) = answer_of(alloc, solved, wanted)? else {
+        let errors = not_found_text(alloc, words.view, wanted)?;
+        return Ok(WantedAnswer::NotFound(errors));
+    };
+    let lines = lines.as_slice();
+    let asked = asked_symbols(alloc, wanted, words.kept)?;
+    Ok(WantedAnswer::Found(Found {
+        counts: HowCounts {
+            wanted: asked.len(),
+            kept: words.kept,
+            lines: lines.len(),
+            lost: 0,
+        },
+        wanted: texts,
+        asked,
+        fragment: fragment_text(alloc, tree, prefix, lines)?,
+        changes: changes_text(alloc, solved, words, wanted, lines)?,
+        costs: String::new(alloc),
+        lost: Vec::new(alloc),
+    }))
+}
+
+/// The symbols of the wanted values after those that are kept.
+fn asked_symbols(alloc: Global, wanted: &[Assign], kept: usize) -> Result<Vec<SymId>, AllocError> {
+    wanted
+        .iter()
+        .skip(kept)
+        .map(|line| line.symbol)
+        .collect(alloc)
 }
 
 /// The lines that give wanted values: the wanted values themselves, where these are enough, else what a search finds.
@@ -122,11 +223,44 @@ fn answer_of(
     }
 }
 
+/// What the words of changes are made from.
+#[derive(Drop)]
+struct ChangeWords<'w> {
+    /// The values before the lines are merged.
+    view: &'w View<'w>,
+    /// The lines of the Kconfig, where definitions are shown.
+    index: Option<LineIndex<'w, 'w>>,
+    /// How many of the wanted values are those that are kept. They come first.
+    kept: usize,
+}
+
+impl ChangeWords<'_> {
+    /// Adds what a line changes, and for which of the wanted values, by its index, it is needed.
+    fn push_change(
+        &self,
+        alloc: Global,
+        text: &mut String,
+        line: &Assign,
+        wanted: Option<(usize, &Assign)>,
+    ) -> Result<(), AllocError> {
+        let need = match wanted {
+            Some((index, kept)) if index < self.kept => Some(Need::Kept(kept)),
+            Some((_, wanted)) => Some(Need::Wanted(wanted)),
+            None => None,
+        };
+        push_needed_line(text, self.view, line, need)?;
+        match &self.index {
+            Some(index) => push_definitions_of(alloc, text, self.view, index, line.symbol),
+            None => Ok(()),
+        }
+    }
+}
+
 /// A line for each line that is needed, with what it changes.
 fn changes_text(
     alloc: Global,
     solved: &Solved<'_>,
-    view: &View<'_>,
+    words: &ChangeWords<'_>,
     wanted: &[Assign],
     lines: &[Assign],
 ) -> Result<String, AllocError>
@@ -136,10 +270,15 @@ fn changes_text(
     let mut text = String::new(alloc);
     let needs = needed_for(alloc, solved, wanted, lines)?;
     for (line, need) in lines.iter().zip(needs.as_slice()) {
-        let need = need.and_then(|index| wanted.get(index));
-        push_needed_line(&mut text, view, line, need)?;
+        words.push_change(alloc, &mut text, line, wanted_at(wanted, *need))?;
     }
     Ok(text)
+}
+
+/// A wanted value with its index.
+fn wanted_at(wanted: &[Assign], index: Option<usize>) -> Option<(usize, &Assign)> {
+    let index = index?;
+    Some((index, wanted.get(index)?))
 }
 
 /// A line for each wanted value that the symbol has not, and that nothing was found.
@@ -154,28 +293,39 @@ fn not_found_text(alloc: Global, view: &View<'_>, wanted: &[Assign]) -> Result<S
     Ok(text)
 }
 
-/// The outcome where lines were found: what they cost comes first.
-fn found_outcome(
+/// The same lines, with what they cost. They are merged in the session.
+fn with_costs(
     alloc: Global,
     inputs: &ReportInputs<'_, '_>,
     session: &mut Session,
     before: &EffectsBefore,
-    found: Found,
-) -> Result<Outcome, AllocError> {
+    mut found: Found,
+) -> Result<Found, AllocError> {
     merge(session, found.fragment.as_str())?;
     session.fill_all()?;
     let view = View::new(session.solved());
-    let prefix = &inputs.arguments.prefix;
     let fragment = Input {
         path: "",
         bytes: found.fragment.as_str().as_bytes(),
     };
+    let prefix = &inputs.arguments.prefix;
     let costs = read_again(how_costs(alloc, &view, prefix, before, &fragment))?;
-    let mut errors = costs.text;
+    found.counts.lost = costs.lost.len();
+    found.costs = costs.text;
+    found.lost = costs.lost;
+    Ok(found)
+}
+
+/// The outcome where lines were found: what they cost comes first.
+fn found_outcome(
+    alloc: Global,
+    inputs: &ReportInputs<'_, '_>,
+    found: Found,
+) -> Result<Outcome, AllocError> {
+    let mut errors = found.costs;
     errors.push_str(found.changes.as_str())?;
-    let config = inputs.config.path();
-    push_how_counts(&mut errors, found.wanted, found.lines, costs.lost, config)?;
-    let is_at_fault = inputs.arguments.is_strict && costs.lost > 0;
+    push_how_counts(&mut errors, found.counts, inputs.config.path())?;
+    let is_at_fault = inputs.arguments.is_strict && found.counts.lost > 0;
     Ok(Outcome {
         output: found.fragment,
         errors,
@@ -203,7 +353,7 @@ fn failed(alloc: Global, errors: String) -> Result<Outcome, AllocError> {
 }
 
 /// The lines of the fragments, and after them those of the command line, which take their place.
-fn wanted_text(alloc: Global, inputs: &ReportInputs<'_, '_>) -> Result<Vec<u8>, AllocError> {
+fn asked_text(alloc: Global, inputs: &ReportInputs<'_, '_>) -> Result<Vec<u8>, AllocError> {
     let mut text = Vec::new(alloc);
     for fragment in inputs.fragments {
         text.extend_from_slice(fragment.bytes())?;
@@ -234,7 +384,7 @@ fn has_unusable(warnings: &[Warning]) -> bool {
 fn unusable_outcome(
     alloc: Global,
     inputs: &ReportInputs<'_, '_>,
-    view: &View<'_>,
+    tree: &Tree,
 ) -> Result<Outcome, AllocError> {
     let words = words_text(alloc, inputs)?;
     let mut files: Vec<Input<'_>> = Vec::new(alloc);
@@ -246,9 +396,9 @@ fn unusable_outcome(
         bytes: words.as_str().as_bytes(),
     })?;
     let files = files.as_slice();
-    let unusable = unusable_words_of_files(alloc, inputs, view.tree(), files)?;
+    let unusable = unusable_words_of_files(alloc, inputs, tree, files)?;
     let prefix = &inputs.arguments.prefix;
-    let read = read_again(read_fragments(alloc, view.tree(), prefix, files))?;
+    let read = read_again(read_fragments(alloc, tree, prefix, files))?;
     let mut errors = String::new(alloc);
     push_unusable_lines(&mut errors, files, &read, unusable.as_slice())?;
     failed(alloc, errors)

@@ -14,6 +14,7 @@ mod folder_from;
 mod fragments;
 mod hints;
 mod how;
+mod how_kept;
 mod known;
 mod listing;
 mod make_text;

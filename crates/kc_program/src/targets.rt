@@ -251,7 +251,8 @@ Example:
 for a path A=B. Standard output is a fragment: merged into CONFIG, it gives each wanted
 value, and none of its lines can be left out. Where all are there already, it is empty.
 Standard error has a line for each line of CONFIG that the fragment costs, then one for
-each line of the fragment, with what it is needed for, and counts.
+each line of the fragment, with what it is needed for, and counts. With --keep the
+values of lines that are lost are wanted, too, as far as lines give them.
 
 The status is 0, also where lines of CONFIG are lost, which --strict makes 1; 1 where
 nothing is found, which is no proof that there is nothing, or after an error; 2 after a

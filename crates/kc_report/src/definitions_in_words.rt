@@ -10,7 +10,7 @@ use kc_facts::{
     push_why_no, shown_line, symbol_below,
 };
 use kc_text::{Line, Token};
-use kc_tree::Symbol;
+use kc_tree::{SymId, Symbol};
 use kc_value::FactorPart;
 use std::alloc::{AllocError, Global};
 
@@ -117,6 +117,25 @@ fn shown_of(extent: Extent, count: usize, most: usize) -> usize
     match extent {
         Extent::Short => count.min(most),
         Extent::All => count,
+    }
+}
+
+/// Adds the definitions of a symbol as `why` has them (this project's own form): each with its place and the factors of what
+/// it depends on, at most eight. Nothing for a symbol that the tree doesn't have.
+///
+/// # Errors
+///
+/// `AllocError` where memory is refused.
+pub fn push_definitions_of(
+    alloc: Global,
+    text: &mut String,
+    view: &View<'_>,
+    index: &LineIndex<'_, '_>,
+    symbol: SymId,
+) -> Result<(), AllocError> {
+    match view.tree().symbols().get(symbol.0 as usize) {
+        Some(symbol) => push_definitions(alloc, text, view, index, symbol, Extent::Short),
+        None => Ok(()),
     }
 }
 

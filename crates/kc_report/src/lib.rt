@@ -1,4 +1,4 @@
-//! Why a symbol has its value, as lines of text.
+//! Why a symbol has its value, and where it is defined, as lines of text.
 #![tactic(auto)]
 
 mod definitions_in_words;
@@ -11,5 +11,6 @@ mod settable;
 mod users;
 mod why;
 
+pub use definitions_in_words::push_definitions_of;
 pub use extent::Extent;
 pub use why::why_text;
