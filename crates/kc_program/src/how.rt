@@ -28,6 +28,10 @@ const WORDS: &str = "WANTED";
 /// What is said where nothing was found.
 const NOT_FOUND: &str = "nothing was found that gives what is wanted\n";
 
+/// What is said where the search ended early.
+const GAVE_UP: &str =
+    "gave up: nothing that gives what is wanted was found in the steps of the search\n";
+
 /// What is said where the fragments are too long together.
 const TOO_LONG: &str = "kconf: WANTED: more than 16777216 bytes\n";
 
@@ -164,18 +168,16 @@ fn how(
     let text = texts.joined(alloc)?;
     let (wanted, warnings) = match read_config(alloc, tree, prefix, text.as_slice()) {
         Ok(read) => read,
-        Err(ReadFault::Limit) => {
-            return Ok(WantedAnswer::NotFound(String::from_str(alloc, TOO_LONG)?));
-        }
+        Err(ReadFault::Limit) => return too_long(alloc),
         Err(ReadFault::NoMemory) => return Err(AllocError),
     };
     if has_unusable(warnings.as_slice()) {
         return Ok(WantedAnswer::Unusable);
     }
     let wanted = wanted.as_slice();
-    let Some(lines) = answer_of(alloc, solved, wanted)? else {
-        let errors = not_found_text(alloc, words.view, wanted)?;
-        return Ok(WantedAnswer::NotFound(errors));
+    let searched = answer_of(alloc, solved, wanted)?;
+    let Some(lines) = searched.lines else {
+        return not_found(alloc, words.view, wanted, searched.gave_up);
     };
     let lines = lines.as_slice();
     let asked = asked_symbols(alloc, wanted, words.kept)?;
@@ -204,23 +206,36 @@ fn asked_symbols(alloc: Global, wanted: &[Assign], kept: usize) -> Result<Vec<Sy
         .collect(alloc)
 }
 
+/// What comes of a search.
+#[derive(Drop)]
+struct Searched {
+    /// The lines, where some were found.
+    lines: Option<Vec<Assign>>,
+    /// Whether the search ended before it had tried all that it looks at.
+    gave_up: bool,
+}
+
 /// The lines that give wanted values: the wanted values themselves, where these are enough, else what a search finds.
-fn answer_of(
-    alloc: Global,
-    solved: &Solved<'_>,
-    wanted: &[Assign],
-) -> Result<Option<Vec<Assign>>, AllocError>
+fn answer_of(alloc: Global, solved: &Solved<'_>, wanted: &[Assign]) -> Result<Searched, AllocError>
     requires { All (IsAssignFor solved.now.tree) wanted.now }
-    ensures { IfOk result (λ found. IfSome found (λ lines. IsAnswer solved.now.tree solved.now.user wanted.now lines.items)) }
+    ensures { IfOk result (λ found. IfSome found.lines (λ lines. IsAnswer solved.now.tree solved.now.user wanted.now lines.items)) }
 {
     let plain = plain_candidates(alloc, wanted)?;
     if let Some(lines) = answer(alloc, solved, wanted, plain.as_slice())? {
-        return Ok(Some(lines));
+        return Ok(Searched {
+            lines: Some(lines),
+            gave_up: false,
+        });
     }
-    match candidates(alloc, solved.tree(), solved.user(), wanted)? {
-        Search::Candidates(lists) => answer(alloc, solved, wanted, lists.as_slice()),
-        Search::NotFound(_) | Search::GaveUp(_) => Ok(None),
-    }
+    let (lists, gave_up) = match candidates(alloc, solved.tree(), solved.user(), wanted)? {
+        Search::Candidates(lists) => (lists, false),
+        Search::NotFound(_) => (Vec::new(alloc), false),
+        Search::GaveUp(_) => (Vec::new(alloc), true),
+    };
+    Ok(Searched {
+        lines: answer(alloc, solved, wanted, lists.as_slice())?,
+        gave_up,
+    })
 }
 
 /// What the words of changes are made from.
@@ -281,16 +296,26 @@ fn wanted_at(wanted: &[Assign], index: Option<usize>) -> Option<(usize, &Assign)
     Some((index, wanted.get(index)?))
 }
 
-/// A line for each wanted value that the symbol has not, and that nothing was found.
-fn not_found_text(alloc: Global, view: &View<'_>, wanted: &[Assign]) -> Result<String, AllocError> {
+/// What comes of fragments that are too long together.
+fn too_long(alloc: Global) -> Result<WantedAnswer, AllocError> {
+    Ok(WantedAnswer::NotFound(String::from_str(alloc, TOO_LONG)?))
+}
+
+/// What comes of a search that found nothing: a line for each wanted value that the symbol has not.
+fn not_found(
+    alloc: Global,
+    view: &View<'_>,
+    wanted: &[Assign],
+    gave_up: bool,
+) -> Result<WantedAnswer, AllocError> {
     let mut text = String::new(alloc);
     for line in wanted {
         if !has_effect(view.tree(), view.values(), line) {
             push_not_found(alloc, &mut text, view, line)?;
         }
     }
-    text.push_str(NOT_FOUND)?;
-    Ok(text)
+    text.push_str(if gave_up { GAVE_UP } else { NOT_FOUND })?;
+    Ok(WantedAnswer::NotFound(text))
 }
 
 /// The same lines, with what they cost. They are merged in the session.
