@@ -11,12 +11,12 @@ run make it again exactly, in the same checkout and with the same --tree.
 A run is wrong where the program is ended by a signal, or does not end in ten seconds, or with another status than 0, 1
 and 2; where a line of standard error or of standard output has no form of docs/COMMANDS.md, a status does not go with
 them, or a fault has a place that is not there; where a session has not one reply for each command; or where memory is
-refused. Now and then one run is compared with others: the `.config` that is written, loaded again, gives no warning
-but 2, of a number whose value is none; the default file gives the same `.config`; and a session gives the same text
-as a target. Each run of a target that reports is compared: the first error of `check` is that of `olddefconfig`,
-`merge` writes what a session gives after the same loads, `genmake` has the values of the `.config`, and `why` and
-`menu` have those of a session. The first run that is wrong is kept in a folder, which is named, and the status is 1;
-with --go-on the others are run, too.
+refused. Now and then one run is compared with others: the `.config` that is written, loaded again, gives no warning but
+2, of a number whose value is none; the default file gives the same `.config`; and a session gives the same text as a
+target. Each run of a target that reports is compared: the first error of `check` is that of `olddefconfig`, `merge`
+writes what a session gives after the same loads, the fragment of `how` gives what is wanted, `genmake` has the values
+of the `.config`, and `why` and `menu` have those of a session. The first run that is wrong is kept in a folder, which
+is named, and the status is 1; with --go-on the others are run, too.
 
 A program that tools/try_program.sh made reserves more addresses than the limit of memory: give it --memory -1, which
 is none, and a --limit of some 60 seconds, as it is slow.

@@ -6,6 +6,7 @@ The forms are those of docs/COMMANDS.md; those of the targets that report are in
 import re
 from typing import Iterator, List, Optional, Tuple
 
+from fuzz_how import how_problems, is_how_report
 from fuzz_reports import EXCHANGED, Run, is_merge_report, merge_problems, report_problems
 
 LONGEST_LINE = 65_536
@@ -62,9 +63,14 @@ def problems_of(run: Run) -> Iterator[str]:
         return
     if run.target == "merge" and run.status == 0 and not is_merge_report(run):
         yield "no numbers at the end of the report"
+    if run.target == "how" and run.status == 0 and not is_how_report(run):
+        yield "no numbers at the end of the report"
     if is_merge_report(run):
         yield from merge_problems(run)
         yield from output_problems(run)
+        return
+    if is_how_report(run):
+        yield from how_problems(run)
         return
     yield from error_problems(run)
     if run.errors and run.status == 1 and run.output and not run.target == "session":
@@ -75,7 +81,7 @@ def problems_of(run: Run) -> Iterator[str]:
 
 def is_misused(run: Run) -> bool:
     """Whether the words are no command line."""
-    if run.target in ("why", "merge") and not run.operands:
+    if run.target in ("why", "merge", "how") and not run.operands:
         return True
     words = (*run.words, run.prefix)
     are_words = all(WORD.fullmatch(word) for word in run.words) and PREFIX.fullmatch(run.prefix)
@@ -165,7 +171,7 @@ def are_faults(lines: List[bytes]) -> bool:
 
 def warning_problems(run: Run, lines: List[bytes]) -> Iterator[str]:
     """What is wrong with the numbers of warnings: they are those of lines of CONFIG, each once and in their order."""
-    if lines and run.target in ("check", "merge", "files", "allnoconfig", "allyesconfig"):
+    if lines and run.target in ("check", "merge", "how", "files", "allnoconfig", "allyesconfig"):
         yield "warnings of a target that has none"
     numbers = [int(found[2]) for found in map(WARNING.fullmatch, lines) if found]
     most = (run.config or b"").count(b"\n") + 1

@@ -6,6 +6,7 @@ from dataclasses import replace
 from typing import Callable, Dict, Iterator, List, Optional, Tuple
 
 from fuzz_checks import NO_SYMBOL, has_fault, parts_of_errors, replies_of
+from fuzz_how import is_how_report
 from fuzz_plans import Plan
 from fuzz_reports import HEAD, Run, blocks_of, is_merge_report, lines_of, object_of
 
@@ -27,6 +28,8 @@ def problem_beside_others(again: Again, plan: Plan, run: Run) -> Optional[str]:
         return None  # texts with line feeds, which come by variables alone, can be any lines
     if plan.target == "merge" and is_merge_report(run):
         return problem_of_merge(again, plan, run)
+    if is_how_report(run) and run.output:
+        return problem_of_how(again, plan, run)
     if run.status:
         return None
     compared = {
@@ -106,6 +109,24 @@ def problem_of_merge(again: Again, plan: Plan, run: Run) -> Optional[str]:
     if len(replies) != len(bodies) + 1 or any(last != b"ok" for _, last in replies):
         return "a session refuses what merge loads"
     return None if replies[-1][0] == lines_of(run.output) else "a session gives another text after the same loads"
+
+
+def problem_of_how(again: Again, plan: Plan, run: Run) -> Optional[str]:
+    """What is wrong with the fragment of `how`: where it is merged, each line that is wanted has its value, so that a
+    session gives the same text after these are merged, too."""
+    bodies = [(b"load", plan.given.config)] if plan.has_config else []
+    bodies.append((b"merge", run.output))
+    first = b"".join(load_command(word, text) for word, text in bodies) + b"config\n"
+    second = b"".join(load_command(b"merge", text) for text in plan.fragments) + b"config\n"
+    given = replace(plan.given, stream=first + second)
+    session = replace(plan, target="session", given=given, has_config=False, options=(), fragments=())
+    other, problem = again(session)
+    if problem:
+        return f"a session with the same loads: {problem}"
+    replies = list(replies_of(other.output))
+    if any(last != b"ok" for _, last in replies) or len(replies) <= len(bodies):
+        return "a session refuses what how loads"
+    return None if replies[-1][0] == replies[len(bodies)][0] else "a wanted value that the fragment does not give"
 
 
 def load_command(word: bytes, text: bytes) -> bytes:

@@ -11,12 +11,12 @@ from fuzz_inputs import Input, config_of, names_of, stream_of
 # Targets without options of their own. More are drawn for the others, after all that is drawn for these.
 PLAIN = ("olddefconfig", "savedefconfig", "listnewconfig", "genheader", "allnoconfig", "allyesconfig", "session")
 # Each run of these is compared with others.
-COMPARED = ("genmake", "files", "why", "check", "merge", "menu")
+COMPARED = ("genmake", "files", "why", "check", "merge", "how", "menu")
 TARGETS = (*PLAIN, *COMPARED)
 WITHOUT_CONFIG = ("allnoconfig", "allyesconfig", "files")
-OPTIONS = {"why": b"--all", "check": b"--undefined", "menu": b"--no-help"}
-STRICT = ("check", "merge")
-TAKE_OPERANDS = ("why", "check", "merge")
+OPTIONS = {"why": b"--all", "check": b"--undefined", "how": b"--keep", "menu": b"--no-help"}
+STRICT = ("check", "merge", "how")
+TAKE_OPERANDS = ("why", "check", "merge", "how")
 PREFIXES = (b"", b"P_", b"BR2_", b"x" * 64, b"x" * 65, b"A-", b"\xff")
 WORDS = (b"A=b", b"ARCH=x86", b"A=", b"A=$(B)", b'B="a"', b"-A=b", b"A", b"A=\n", b"A=\xff", b"A=\x01", b"NET-1=a b")
 
@@ -103,7 +103,7 @@ def with_operands(random: Random, plan: Plan, kconfig: bytes, prefix: bytes) -> 
     count = random.choice((0, 1, 1, 1, 1, 2, 2, 3, 4, 4))
     if plan.target == "why":
         return replace(plan, names=tuple(a_name(random, kconfig, prefix) for _ in range(count)))
-    if plan.target == "merge":
+    if plan.target in ("merge", "how"):
         return replace(plan, fragments=tuple(a_fragment(random, plan, kconfig, prefix) for _ in range(count)))
     return plan
 

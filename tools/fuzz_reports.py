@@ -1,4 +1,5 @@
-"""What the fuzzer checks of the targets that report: `genmake`, `files`, `why`, `check`, `merge` and `menu`.
+"""What the fuzzer checks of the targets that report: `genmake`, `files`, `why`, `check`, `merge` and `menu`. fuzz_how.py has
+what it checks of `how`.
 
 The forms are those of docs/COMMANDS.md, docs/ERRORS.md (the findings), docs/VALUES.md (the reasons), docs/FILES.md (the
 values for make) and docs/PROTOCOL.md (the fields of `menu`).
@@ -28,7 +29,7 @@ class Run:
     output: bytes = b""
     errors: bytes = b""
     options: Tuple[bytes, ...] = ()
-    operands: Tuple[bytes, ...] = ()  # the names of `why`, the paths of the fragments of `merge`
+    operands: Tuple[bytes, ...] = ()  # the names of `why`, the paths of the fragments of `merge` and `how`
     fragments: Optional[Dict[bytes, bytes]] = None
 
     def is_in_words(self) -> bool:
@@ -37,7 +38,7 @@ class Run:
 
 
 # The targets whose warnings and errors have words without --explain.
-IN_WORDS = ("genmake", "files", "why", "check", "merge", "menu")
+IN_WORDS = ("genmake", "files", "why", "check", "merge", "how", "menu")
 
 # What is asked of a Kconfig without a symbol.
 EXCHANGED = re.compile(rb"kconf: .*: defines no symbol: is it a \.config\?", re.DOTALL)
@@ -76,7 +77,7 @@ FINDING = re.compile(
     rb"|.+ is an? (?:string|int|hex), which is always n as a condition(?:; did you mean \w+\?)?"
     rb"|a comment, which sets nothing; write # .* is not set|`\\.` is read as `.`; write `\\\\` for a backslash"
     rb"|default .* of a (?:bool|tristate) is n(?:; write [nmy])?|default .* is outside the range .*"
-    rb"|range .*: its low bound is above its high bound|default .* is never used: the one of .+ has no condition"
+    rb"|range .*: its low bound is above its high bound|default .* is never used: (?:the one of .+ has no condition|its choice is never visible)"
     rb"|selected by \w+ \(" + AT + rb"\), while .+ is [nm]|.* is outside the range .*; its value is .*"
     rb"|.* has no effect: .+|[nmy] gives [nmy]: .+|.*takes the place of .+"
     rb"|[A-Za-z0-9_-]+: not given, and no line defines it|a tristate is never m: no line defines MODULES"

@@ -189,6 +189,39 @@ MERGES: List[Tuple[int, bytes, Tuple[bytes, ...], bool]] = [
     (0, b"", (), True),
 ]
 
+FRAGMENT = b"CONFIG_B=y\nCONFIG_A=y\n"
+CHANGES = b"B: n to y, needed for A=y\nA: n to y, wanted\n"
+GIVEN = b"1 wanted: %d lines; %d lines of config lost\n"
+COST = b"config:2: C: was y, is n: needs D, which is n\n"
+MISSED = b"A: wanted y, is n: needs B, which is n\nnothing was found that gives what is wanted\n"
+
+# What `how` writes for a CONFIG and a fragment of two lines: its status, standard output and standard error, its
+# options, and whether something is wrong.
+HOWS: List[Tuple[int, bytes, bytes, Tuple[bytes, ...], bool]] = [
+    (0, FRAGMENT, CHANGES + GIVEN % (2, 0), (), False),
+    (0, FRAGMENT, CHANGES + GIVEN % (3, 0), (), True),
+    (0, FRAGMENT, CHANGES[26:] + GIVEN % (2, 0), (), True),
+    (0, FRAGMENT, CHANGES.replace(b"needed", b"good") + GIVEN % (2, 0), (), True),
+    (0, FRAGMENT, CHANGES + b"  Kconfig:1: config A\n" + GIVEN % (2, 0), (), True),
+    (0, b"A=y\n# B is n\n", CHANGES + GIVEN % (2, 0), (), True),
+    (0, b"", b"1 wanted: 0 lines\n", (), False),
+    (0, FRAGMENT, COST + CHANGES + GIVEN % (2, 1), (), False),
+    (0, FRAGMENT, COST.replace(b":2:", b":7:") + CHANGES + GIVEN % (2, 1), (), True),
+    (0, FRAGMENT, CHANGES + COST + GIVEN % (2, 1), (), True),
+    (1, FRAGMENT, COST + CHANGES + GIVEN % (2, 1), (), True),
+    (1, FRAGMENT, COST + CHANGES + GIVEN % (2, 1), (b"--strict",), False),
+    (0, FRAGMENT, CHANGES + b"1 wanted, 1 kept: 2 lines\n", (), True),
+    (0, FRAGMENT, CHANGES + b"1 wanted, 1 kept: 2 lines\n", (b"--keep",), False),
+    (1, b"", MISSED, (), False),
+    (0, b"", MISSED, (), True),
+    (1, FRAGMENT, MISSED, (), True),
+    (1, b"", MISSED.replace(b"wanted y", b"asked y"), (), True),
+    (1, b"", b"fragment1:1: B: no symbol has this name\n", (), False),
+    (0, b"", b"kconf: Kconfig: defines no symbol: is it a .config?\n0 wanted: 0 lines\n", (), False),
+    (1, b"", b"kconf: Kconfig:1: K04: no word\n", (), False),
+    (0, b"", b"", (), True),
+]
+
 MENU = b'{"id":2,"parent":0,"kind":"menu","prompt":"m","at":"Kconfig:1","shown":"y"}\n'
 SYMBOL = (
     b'{"id":3,"parent":2,"kind":"config","name":"A","type":"bool","at":"Kconfig:2","shown":"n","vis":"n","value":"n",'
@@ -241,6 +274,8 @@ COMPARED: List[Tuple[str, bytes, bytes, bytes, bytes, bool]] = [
     ("merge", b"CONFIG_A=y\n", ASKED % (0, 0, 0, 0, 0, 0), b"warning 1 4\nok\nok\nCONFIG_A=y\nok\n", b"", False),
     ("merge", b"CONFIG_A=y\n", ASKED % (0, 0, 0, 0, 0, 0), b"ok\nok\n# CONFIG_A is not set\nok\n", b"", True),
     ("merge", b"CONFIG_A=y\n", ASKED % (0, 0, 0, 0, 0, 0), b"ok\nrefused 6\nCONFIG_A=y\nok\n", b"", True),
+    ("how", FRAGMENT, GIVEN % (2, 0), b"ok\nok\nCONFIG_A=y\nok\nok\nCONFIG_A=y\nok\n", b"", False),
+    ("how", FRAGMENT, GIVEN % (2, 0), b"ok\nok\nCONFIG_A=y\nok\nok\nCONFIG_A=m\nok\n", b"", True),
     ("why", b"A = n (bool, visible n, user -)\n  by default\n", b"", LIST, b"", False),
     ("why", b"A = y (bool, visible n, user -)\n  by default\n", b"", LIST, b"", True),
     ("menu", SYMBOL + TEXT.replace(b'"vis":"n","value":"n"', b'"vis":"y","value":"a\\""'), b"", LIST, b"", False),
@@ -254,7 +289,7 @@ def plain_run(target: str) -> int:
     for number in range(1_000):
         plan = plan_of(1, number, POOLS, [target])
         is_plain = plan.prefix is None and not plan.given.words and not plan.is_explained and not plan.options
-        has_operands = target not in ("why", "merge") or plan.operands()
+        has_operands = target not in ("why", "merge", "how") or plan.operands()
         if is_plain and has_operands and plan.given.stream.count(b"\n") > 3:
             return number
     raise AssertionError("no such run")
@@ -347,6 +382,13 @@ class Fuzzer(unittest.TestCase):
         for status, errors, options, is_wrong in MERGES:
             with self.subTest(errors):
                 run = replace(given, status=status, errors=errors, options=options)
+                self.assertEqual(self.is_wrong(run), is_wrong)
+
+    def test_runs_of_how(self) -> None:
+        given = Run("how", operands=(b"fragment1",), fragments={b"fragment1": b"a\nb\n"})
+        for status, output, errors, options, is_wrong in HOWS:
+            with self.subTest((output, errors, options)):
+                run = replace(given, status=status, output=output, errors=errors, options=options)
                 self.assertEqual(self.is_wrong(run), is_wrong)
 
     def test_runs_of_menu(self) -> None:
