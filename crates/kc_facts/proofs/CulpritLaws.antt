@@ -1,12 +1,11 @@
 -- The part of a number among those of several definitions, definition by definition.
-use Rattle.std.proofs.Common.{◌≡◌, ◌<◌, ◌≤◌, ◌+◌, ◌-◌, ℕ, zero, suc, List, [], ◌∷◌, ◌++◌, Option, Some, refl, length, drop, map, slice_get, get_or, sym, ap, ◌∙◌, arith}
+use Rattle.std.proofs.Common.{◌≡◌, ◌<◌, ◌≤◌, ◌+◌, ◌-◌, ℕ, zero, suc, List, ◌++◌, Some, length, drop, map, slice_get, get_or, sym, ap, ◌∙◌, arith}
 use Rattle.std.specs.Prelude.{flat_map}
 use Rattle.std.specs.List.{range_with_len}
 use Rattle.std.proofs.lemmas.List.{drop_more}
 use Rattle.kc_text.specs.LineValue.{LineValue}
 use Rattle.kc_facts.specs.declared.parts.Attribute.{Attribute}
 use Rattle.kc_facts.specs.declared.parts.Family.TheVariants.{Definition}
-use Rattle.kc_facts.specs.declared.parts.Part.{Part}
 use Rattle.kc_facts.specs.declared.parts.Part.TheVariants.{Said}
 use Rattle.kc_facts.specs.Culprits.{parts_in, times_in}
 

@@ -1,5 +1,5 @@
 -- What `select` lines give at most, and what dependencies are worth at most.
-use Rattle.std.proofs.Common.{◌≡◌, ℕ, Bool, true, false, List, [], ◌∷◌, Option, Some, None, map, filter_map, refl, sym, ap, ◌∙◌, ◌&&◌, ◌||◌, slice_get}
+use Rattle.std.proofs.Common.{◌≡◌, ℕ, false, List, [], ◌∷◌, Option, Some, None, map, filter_map, refl, sym, ap, ◌∙◌, ◌&&◌, ◌||◌, slice_get}
 use Rattle.std.specs.List.{cons_option, list_any}
 use Rattle.std.specs.Option.{option_map_or}
 use Rattle.kc_statement.specs.declared.tri.Tri.{Tri}

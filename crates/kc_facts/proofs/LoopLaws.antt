@@ -1,12 +1,12 @@
 -- What expressions read, part by part, and the blocks around, one by one.
-use Rattle.std.proofs.Common.{◌≡◌, ℕ, zero, suc, Bool, true, false, ◌||◌, List, [], ◌∷◌, ◌++◌, Option, Some, None, filter_map, slice_get, refl, sym, ap, ◌∙◌}
+use Rattle.std.proofs.Common.{◌≡◌, ℕ, zero, suc, Bool, true, false, ◌||◌, List, [], ◌∷◌, ◌++◌, Option, Some, None, slice_get, refl, sym, ap, ◌∙◌}
 use Rattle.std.specs.List.{list_any}
 use Rattle.kc_statement.specs.Formula.{Formula, all_joined, any_joined, negations}
 use Rattle.kc_outline.specs.declared.id.BlockId.{BlockId}
 use Rattle.kc_outline.specs.TreeValue.{TreeValue, BlockValue}
 use Rattle.kc_tree.specs.declared.node.Node.{Node}
-use Rattle.kc_tree.specs.Uses.{formula_nodes, value_nodes}
-use Rattle.kc_facts.specs.LoopSteps.{first_among, has, reads, same_node}
+use Rattle.kc_tree.specs.Uses.{formula_nodes}
+use Rattle.kc_facts.specs.LoopSteps.{first_among, has, same_node}
 use Rattle.kc_facts.specs.MenuTree.{blocks_outwards}
 
 -- ---- expressions

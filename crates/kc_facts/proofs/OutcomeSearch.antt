@@ -1,6 +1,6 @@
 -- A walk over lines from the last one back finds what becomes of each.
 use Rattle.std.proofs.Common.{◌≡◌, ℕ, ◌+◌, ◌-◌, ◌<◌, ◌≤◌, ◌==◌, Bool, true, false, not, ◌&&◌, if◌then◌else◌, List, [], ◌∷◌, ◌++◌, Option, Some, None, length, reverse, take, get_or, slice_set, refl, sym, ap, subst, ◌∙◌, append_assoc, append-nil, ⊎_elim, arith}
-use Rattle.std.specs.Prelude.{All, nat_lt, option_and_then}
+use Rattle.std.specs.Prelude.{nat_lt, option_and_then}
 use Rattle.std.specs.Option.{option_map_or}
 use Rattle.std.proofs.lemmas.Bool.{cases_eq, eq-eqb, ne_eqb, ltb-true}
 use Rattle.std.proofs.lemmas.List.{get_or-set_same, get_or-set_other, length-append, length-replicate, length-set, get_or-replicate, reverse-append, reverse-reverse, take_all, take_more}

@@ -1,5 +1,5 @@
 -- What the rows of `why` say of factors, as parts of one condition; and lists that grow by a row for each element of another.
-use Rattle.std.proofs.Common.{◌≡◌, ℕ, Bool, true, Option, Some, List, map, is_some, if◌then◌else◌, Result, Ok, Err, IfOk, Vec, Global, sym, ap, ◌∙◌, subst, slice_get, ◌+◌, ◌<◌, [], ◌∷◌, ◌++◌, None, append_assoc, drop, get_or, length}
+use Rattle.std.proofs.Common.{◌≡◌, ℕ, true, Option, Some, List, map, is_some, if◌then◌else◌, Result, Ok, Err, IfOk, Vec, Global, sym, ap, ◌∙◌, subst, slice_get, ◌+◌, ◌<◌, [], ◌∷◌, ◌++◌, None, append_assoc, drop, get_or, length}
 use Rattle.std.specs.Prelude.{All, option_to_list}
 use Rattle.std.specs.Option.{IfSome}
 use Rattle.std.proofs.lemmas.List.{append-nil, drop_more, map-append}

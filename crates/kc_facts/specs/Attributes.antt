@@ -1,5 +1,5 @@
 -- What a line of attributes says, by its words: kconfig-language.rst, "Menu attributes".
-use Rattle.std.specs.Prelude.{ℕ, Bool, true, false, ◌&&◌, List, [], ◌∷◌, Option, Some, None, codes}
+use Rattle.std.specs.Prelude.{ℕ, Bool, true, false, ◌&&◌, List, [], ◌∷◌, Option, None, codes}
 use Rattle.std.specs.Option.{option_map_or, option_or}
 use Rattle.kc_text.specs.LineValue.{LineValue}
 use Rattle.kc_text.specs.declared.line.Token.{Token}

@@ -1,6 +1,6 @@
 -- Which parts make a fault of a symbol or of a choice: this project's own. What is at fault is said by the tests that
 -- find the fault; of several such parts it is the first.
-use Rattle.std.specs.Prelude.{ℕ, Bool, false, not, ◌++◌, List, [], ◌∷◌, Option, Some, None, if◌then◌else◌, option_map, option_and_then, option_to_list, codes, count_by, flat_map, map, position, slice_get, take}
+use Rattle.std.specs.Prelude.{ℕ, Bool, false, not, ◌++◌, List, [], ◌∷◌, Option, if◌then◌else◌, option_map, option_and_then, option_to_list, codes, count_by, flat_map, map, position, slice_get, take}
 use Rattle.std.specs.List.{range_with_len}
 use Rattle.std.specs.Option.{option_map_or, option_or}
 use Rattle.std.specs.Str.{bytes_eq}

@@ -1,7 +1,7 @@
 -- By which part of a tree a node is computed from another, as each node of a loop from the next: docs/VALUES.md, "What
 -- uses what, and loops". Of several parts it is the first in the order here: lines of its own before those of the blocks
 -- around it, and these before `select` and `imply` lines. All that a node is computed from is in kc_tree's Uses.
-use Rattle.std.specs.Prelude.{ℕ, ◌==◌, Bool, true, false, ◌&&◌, ◌||◌, List, [], ◌∷◌, Option, Some, None, if◌then◌else◌, filter_map, is_some, option_and_then, option_map, position, slice_get}
+use Rattle.std.specs.Prelude.{ℕ, ◌==◌, Bool, false, ◌&&◌, ◌||◌, List, Option, Some, None, if◌then◌else◌, filter_map, is_some, option_and_then, option_map, position, slice_get}
 use Rattle.std.specs.List.{list_any}
 use Rattle.std.specs.Option.{option_map_or, option_or}
 use Rattle.kc_text.specs.LineValue.{LineValue}
@@ -12,7 +12,6 @@ use Rattle.kc_statement.specs.declared.attribute.DefaultValue.{DefaultValue}
 use Rattle.kc_statement.specs.declared.attribute.Prompt.{Prompt}
 use Rattle.kc_statement.specs.declared.attribute.Range.{Range}
 use Rattle.kc_statement.specs.declared.symbol_type.SymbolType.TheVariants as kind
-use Rattle.kc_outline.specs.declared.choice.ChoiceDefault.{ChoiceDefault}
 use Rattle.kc_outline.specs.declared.block.BlockKind.{BlockKind}
 use Rattle.kc_outline.specs.declared.id.BlockId.{BlockId}
 use Rattle.kc_outline.specs.declared.id.ChoiceId.{ChoiceId}

@@ -1,5 +1,5 @@
 -- What becomes of the lines of fragments that are merged: this project's own, by docs/FILES.md, "What a load changes".
-use Rattle.std.specs.Prelude.{ℕ, Bool, true, false, not, ◌&&◌, ◌==◌, List, [], ◌∷◌, ◌++◌, Option, Some, None, map, nat_lt, slice_index_or, slice_set, replicate, if◌then◌else◌, length, ◌≡◌, ◌+◌, option_and_then}
+use Rattle.std.specs.Prelude.{ℕ, Bool, true, false, not, ◌&&◌, ◌==◌, List, [], ◌∷◌, ◌++◌, Option, Some, None, map, nat_lt, slice_index_or, slice_set, replicate, if◌then◌else◌, length, ◌+◌, option_and_then}
 use Rattle.std.specs.Option.{option_map_or}
 use Rattle.kc_outline.specs.declared.id.ChoiceId.{ChoiceId}
 use Rattle.kc_outline.specs.TreeValue.{TreeValue, choice_of}

@@ -1,6 +1,6 @@
 -- What `kconf why` lists of a symbol, row by row, each with its line: this project's own, by docs/COMMANDS.md, "Why a symbol has its value".
-use Rattle.std.specs.Prelude.{◌≡◌, ℕ, Bool, All, List, [], ◌∷◌, Option, Some, None, if◌then◌else◌, is_some, map, option_and_then, option_map, slice_get}
-use Rattle.std.specs.Option.{option_copied, option_map_or}
+use Rattle.std.specs.Prelude.{◌≡◌, ℕ, All, List, [], ◌∷◌, Option, Some, None, if◌then◌else◌, is_some, map, option_and_then, option_map, slice_get}
+use Rattle.std.specs.Option.{option_copied}
 use Rattle.kc_text.specs.LineValue.{LineValue}
 use Rattle.kc_statement.specs.declared.expr.Expr.{Expr}
 use Rattle.kc_statement.specs.declared.id.SymId.{SymId}

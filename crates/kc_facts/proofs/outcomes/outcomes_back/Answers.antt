@@ -1,4 +1,4 @@
-use Rattle.std.proofs.Common.{◌≡◌, ◌-◌, length, take, subst, sym, refl, arith}
+use Rattle.std.proofs.Common.{◌-◌, length, take, subst, sym, refl, arith}
 use Rattle.std.proofs.lemmas.List.Elements.{All-take}
 use Rattle.kc_value.specs.Assignment.{assignment_of}
 use Rattle.kc_facts.specs.Outcomes.{IsPlacedFor}

@@ -1,4 +1,4 @@
-use Rattle.std.proofs.Common.{◌≡◌, arith}
+use Rattle.std.proofs.Common.{arith}
 use Rattle.std.proofs.lemmas.Grind.{common_steps}
 use Rattle.kc_facts.proofs.RowLemmas.{row_after}
 use Rattle.kc_facts.proofs.rows.RowsSoFar.row_of.Goals as goal
