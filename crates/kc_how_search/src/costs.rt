@@ -114,9 +114,38 @@ impl Costs {
             no: constant.no.min(self.no),
         }
     }
+
+    /// Of what a count of `!` gives.
+    pub fn negated(self, count: usize) -> Costs {
+        if count % 2 == 0 {
+            self
+        } else {
+            self.complement()
+        }
+    }
+
+    /// Of whether the value is another one: y where it is, else n.
+    pub fn equal_to(self, value: Tri) -> Costs {
+        let (rise, fall) = match value {
+            Tri::No => (self.no, self.module),
+            Tri::Module => (plus(self.module, self.below_yes), self.yes.min(self.no)),
+            Tri::Yes => (self.yes, self.below_yes),
+        };
+        Costs {
+            module: rise,
+            yes: rise,
+            below_yes: fall,
+            no: fall,
+        }
+    }
 }
 
 /// A cost with another one, but nothing where it is nothing.
 fn added(cost: u32, more: u32) -> u32 {
     if cost == 0 { 0 } else { plus(cost, more) }
+}
+
+/// A cost of a change: what costs nothing is no change.
+pub(crate) fn change_of(cost: u32) -> u32 {
+    if cost == 0 { NEVER } else { cost }
 }

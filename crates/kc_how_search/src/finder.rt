@@ -2,10 +2,12 @@
 
 ghost use Rattle.kc_value.specs.UserValues.{IsUserFor};
 
+use crate::cell_prices::cell_costs;
 use crate::costs::{Costs, NEVER, plus};
 use crate::goals::{Deed, Goal, Task, Way, are_at_odds, expr_goal, is_less};
-use crate::prices::{Prices, cell_costs};
+use crate::prices::{MOST_TO_SHOW, Prices};
 use crate::trial::Trial;
+use crate::weights::TEXT_LINE;
 use kc_files::Assign;
 use kc_tree::{Expr, Node, Reverse, SharedText, SymId, Symbol, SymbolType, Tree, Tri, UserVal};
 use kc_value::{Factor, FactorPart, Known, User, reverse_value};
@@ -132,7 +134,10 @@ impl<'t> Finder<'t> {
         match goal {
             Goal::AtLeast(symbol, bound) => prices.symbol(symbol).at_least(bound),
             Goal::AtMost(symbol, bound) => prices.symbol(symbol).at_most(bound),
-            Goal::Text(symbol, _) => plus(prices.node(Node::Vis(symbol)).module.min(60), 30),
+            Goal::Text(symbol, _) => plus(
+                prices.node(Node::Vis(symbol)).module.min(MOST_TO_SHOW),
+                TEXT_LINE,
+            ),
             Goal::ExprAtLeast(expr, bound) => prices.expr(expr).at_least(bound),
             Goal::ExprAtMost(expr, bound) => prices.expr(expr).at_most(bound),
             Goal::Open(choice) => prices.node(Node::Mode(choice)).module,

@@ -4,7 +4,7 @@
 use crate::costs::plus;
 use crate::finder::Finder;
 use crate::goals::{Deed, Goal, Task, Way};
-use crate::prices::{MEMBER_LINE, TEXT_LINE};
+use crate::weights::{LOST, MEMBER_LINE, TEXT_LINE};
 use kc_files::Assign;
 use kc_tree::{ExprNode, SymId, Tri, UserVal};
 use std::alloc::AllocError;
@@ -20,9 +20,6 @@ const MOST_WAYS: usize = 10;
 
 /// How many lines that are looked at for ways count as a step.
 const WEIGHT: usize = 32;
-
-/// What a symbol costs that no longer has what the user gave it.
-const LOST: u32 = 100;
 
 /// A way that is taken in place of the cheapest one: at which goal of the run, and which.
 #[derive(Clone, Copy, Debug)]

@@ -3,15 +3,12 @@
 use crate::costs::plus;
 use crate::finder::Finder;
 use crate::goals::{Deed, Goal, Way, expr_goal, is_less};
-use crate::prices::{LINE, LOW_DEPENDENCY, LOW_LINE, MEMBER_LINE};
+use crate::weights::{LINE, LOW_DEPENDENCY, LOW_LINE, MEMBER_LINE, ROUNDABOUT};
 use kc_tree::{ChoiceId, Definition, Reverse, SymId, Symbol, SymbolType, Tri};
 use kc_value::{
     Factor, FactorPart, choice_factors, dependency_factors, prompt_factors, reverse_factors,
 };
 use std::alloc::AllocError;
-
-/// A way by another line where the symbol's own can't be given.
-const ROUNDABOUT: u32 = 20;
 
 impl<'t> Finder<'t> {
     /// The goals that each `select` or `imply` that gives a symbol more than a value gives no more. The error comes where

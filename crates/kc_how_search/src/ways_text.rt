@@ -2,7 +2,7 @@
 
 use crate::finder::Finder;
 use crate::goals::{Deed, Goal, Way, expr_goal};
-use crate::prices::{DEFAULT_FOR_PROMPT, LOW_DEPENDENCY, TEXT_LINE};
+use crate::weights::{DEFAULT_FOR_PROMPT, LOW_DEPENDENCY, TEXT_LINE};
 use kc_tree::{Definition, Range, SymId, Symbol, SymbolType, Term, Tri, lone_term, numeral};
 use kc_value::{active_range, dependency_factors};
 use std::alloc::AllocError;

@@ -3,13 +3,12 @@
 use crate::costs::plus;
 use crate::finder::Finder;
 use crate::goals::{Deed, Goal, Way, expr_goal};
-use crate::prices::{DEFAULT, DEFAULT_FOR_PROMPT, LINE, MEMBER_LINE, SELECT, SELECT_FOR_PROMPT};
+use crate::weights::{
+    DEFAULT, DEFAULT_FOR_PROMPT, LINE, MEMBER_LINE, MODULES_OFF, SELECT, SELECT_FOR_PROMPT,
+};
 use kc_tree::{ChoiceId, DefaultValue, Definition, Node, Reverse, SymId, Symbol, Tri};
 use kc_value::{choice_factors, dependency_factors, prompt_factors, reverse_factors};
 use std::alloc::AllocError;
-
-/// What turns MODULES off is dear.
-const MODULES_OFF: u32 = 100;
 
 /// A symbol that is to rise: to what, what its conditions need for that, and what any way costs.
 #[derive(Clone, Copy)]
@@ -152,7 +151,7 @@ impl<'t> Finder<'t> {
         rise: Rise,
     ) -> Result<(), AllocError> {
         let own = if rise.has_prompt {
-            SELECT + SELECT_FOR_PROMPT
+            SELECT_FOR_PROMPT
         } else {
             SELECT
         };
