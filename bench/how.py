@@ -23,7 +23,7 @@ import sys
 from dataclasses import dataclass
 from pathlib import Path
 
-RUNS = 11
+RUNS = 3
 MOST_AT_MEDIAN = 1.4
 MOST = 3.0
 MOST_LINES = 8
@@ -116,7 +116,7 @@ def main() -> int:
     parser.add_argument("--count", type=int, default=200)
     parser.add_argument("--seed", type=int, default=1)
     parser.add_argument("words", nargs="*", metavar="NAME=VALUE")
-    arguments = parser.parse_args()
+    arguments = parser.parse_intermixed_args()
     program = Program(arguments.program, arguments.tree, arguments.config, arguments.words)
     names = program.prompts_that_are_n()
     names = random.Random(arguments.seed).sample(names, min(arguments.count, len(names)))

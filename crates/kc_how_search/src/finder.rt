@@ -25,6 +25,9 @@ fn given_symbols(alloc: Global, tree: &Tree, trial: &Trial<'_>) -> Result<Vec<Sy
     Ok(symbols)
 }
 
+/// How many texts the search has at most: it makes no ways to other ones.
+const MOST_TEXTS: usize = 200;
+
 /// The search for lines that give what is wanted.
 #[derive(Drop)]
 pub(crate) struct Finder<'t> {
@@ -83,6 +86,11 @@ impl<'t> Finder<'t> {
     /// What costs are computed from.
     pub fn prices(&self) -> Prices<'_, '_> {
         Prices::new(self.tree, &self.trial, self.costs.as_slice())
+    }
+
+    /// Whether there is room for more texts.
+    pub fn has_room(&self) -> bool {
+        self.texts.len() <= MOST_TEXTS
     }
 
     /// The place of a text, which is added where it is new. The error comes where memory is refused.

@@ -6,7 +6,7 @@ use crate::finder::Finder;
 use crate::goals::{Deed, Goal, Task, Way};
 use crate::weights::{LOST, MEMBER_LINE, TEXT_LINE};
 use kc_files::Assign;
-use kc_tree::{ExprNode, SymId, Tri, UserVal};
+use kc_tree::{ChoiceId, ExprNode, SymId, Tri, UserVal};
 use std::alloc::AllocError;
 
 /// How many steps a run has at most.
@@ -118,13 +118,45 @@ impl<'t> Finder<'t> {
         }
     }
 
+    /// How many members a choice has.
+    fn members_of(&self, choice: ChoiceId) -> usize {
+        match self.tree.choices().get(choice.0 as usize) {
+            Some(choice) => choice.members().len(),
+            None => 0,
+        }
+    }
+
+    /// How many lines of a symbol, and members of its choice, are looked at for the ways to a goal of it.
+    fn lines_of_symbol(&self, id: SymId) -> usize {
+        let Some(symbol) = self.symbol(id) else {
+            return 0;
+        };
+        let mut count = symbol
+            .selected()
+            .len()
+            .saturating_add(symbol.implied().len());
+        if let Some(choice) = symbol.choice() {
+            count = count.saturating_add(self.members_of(choice));
+        }
+        for number in symbol.definitions() {
+            if let Some(definition) = self.tree.definitions().get(*number) {
+                let lines = definition
+                    .defaults()
+                    .len()
+                    .saturating_add(definition.ranges().len());
+                count = count.saturating_add(lines).saturating_add(1);
+            }
+        }
+        count
+    }
+
     /// How many lines are looked at for the ways to a goal.
     fn weight_of(&self, goal: Goal<'t>) -> usize {
         match goal {
-            Goal::AtLeast(id, _) | Goal::AtMost(id, _) => match self.symbol(id) {
-                Some(symbol) => symbol.selected().len().max(symbol.implied().len()),
-                None => 0,
-            },
+            Goal::AtLeast(id, _) | Goal::AtMost(id, _) | Goal::Text(id, _) => {
+                self.lines_of_symbol(id)
+            }
+            Goal::Open(choice) => self.members_of(choice),
             Goal::ExprAtLeast(expr, _) | Goal::ExprAtMost(expr, _) => match expr.node() {
                 ExprNode::All(parts) => parts.len(),
                 ExprNode::Any(parts) => parts.len(),

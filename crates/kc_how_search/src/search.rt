@@ -18,7 +18,7 @@ const MOST_STEPS_AFTER_FIND: usize = 250;
 
 const MOST_WAITING: usize = 1000;
 /// How many lists of lines are found at most.
-const MOST_FOUND: usize = 6;
+const MOST_FOUND: usize = 3;
 /// A list with this score is not bettered: two lines, and nothing is lost.
 const GOOD_SCORE: u32 = 52;
 /// What a turn costs besides what its way costs more.

@@ -250,7 +250,7 @@ impl<'t> Finder<'t> {
         {
             return Ok(());
         }
-        if !wanted.is_met(kind, text, other) {
+        if !self.has_room() || !wanted.is_met(kind, text, other) {
             return Ok(());
         }
         let place = self.place_of(text)?;

@@ -10,6 +10,9 @@ use kc_value::{
 };
 use std::alloc::AllocError;
 
+/// How many definitions of a symbol are to be made low at once.
+const MOST_DEFINITIONS: usize = 16;
+
 impl<'t> Finder<'t> {
     /// The goals that each `select` or `imply` that gives a symbol more than a value gives no more. The error comes where
     /// memory is refused.
@@ -55,9 +58,7 @@ impl<'t> Finder<'t> {
         if !matches!(symbol.kind(), SymbolType::Tristate) {
             return Ok(());
         }
-        let mut goals = Vec::new(self.alloc);
-        goals.push(Goal::AtLeast(modules, Tri::Module))?;
-        self.add_way(ways, goals, Deed::Nothing, LINE)
+        self.add_one(ways, Goal::AtLeast(modules, Tri::Module), LINE)
     }
 
     /// Adds the ways to lower a symbol that is no member, once what selects it is low. The error comes where memory is
@@ -75,9 +76,7 @@ impl<'t> Finder<'t> {
         if is_shown {
             return Ok(());
         }
-        for number in symbol.definitions() {
-            self.add_dependency_ways(ways, symbol, *number, first, bound)?;
-        }
+        self.add_dependency_ways(ways, symbol, first, bound)?;
         self.add_default_ways_down(ways, symbol, first, bound)
     }
 
@@ -99,58 +98,116 @@ impl<'t> Finder<'t> {
         Ok(())
     }
 
+    /// The goals that each of some factors is at most a value. The error comes where memory is refused.
+    pub fn low_factors(
+        &self,
+        factors: Vec<Factor<'t>>,
+        bound: Tri,
+    ) -> Result<Vec<Goal<'t>>, AllocError> {
+        let mut goals = Vec::new(self.alloc);
+        for factor in factors.as_slice() {
+            match factor.part {
+                FactorPart::Expression(expr) => goals.push(expr_goal(expr, false, bound))?,
+                FactorPart::Mode(choice) => goals.push(Goal::Closed(choice))?,
+                FactorPart::Missing => {}
+            }
+        }
+        Ok(goals)
+    }
+
+    /// Adds the ways by each of which one factor is at most a value. The error comes where memory is refused.
+    pub fn add_low_factors(
+        &self,
+        ways: &mut Vec<Way<'t>>,
+        factors: Vec<Factor<'t>>,
+        bound: Tri,
+        own: u32,
+    ) -> Result<(), AllocError> {
+        for goal in self.low_factors(factors, bound)? {
+            self.add_one(ways, goal, own)?;
+        }
+        Ok(())
+    }
+
+    /// The goals by each of which what a definition depends on is at most a value; none where it is already. The error comes
+    /// where memory is refused.
+    fn low_goals(&mut self, number: usize, bound: Tri) -> Result<Vec<Goal<'t>>, AllocError> {
+        let factors = dependency_factors(self.alloc, self.blank, number)?;
+        let goals = self.low_factors(factors, bound)?;
+        for goal in goals.as_slice() {
+            if self.holds(*goal)? {
+                return Ok(Vec::new(self.alloc));
+            }
+        }
+        Ok(goals)
+    }
+
+    /// For each definition of a symbol whose dependencies are more than a value now, the goals by each of which they are
+    /// not. The error comes where memory is refused.
+    fn low_definitions(
+        &mut self,
+        symbol: &Symbol,
+        bound: Tri,
+    ) -> Result<Vec<Vec<Goal<'t>>>, AllocError> {
+        let mut definitions = Vec::new(self.alloc);
+        for number in symbol.definitions() {
+            let goals = self.low_goals(*number, bound)?;
+            if !goals.is_empty() {
+                definitions.push(goals)?;
+            }
+        }
+        Ok(definitions)
+    }
+
     /// Adds the ways by which one factor of what a definition depends on is low, and the other definitions are, too. The
     /// error comes where memory is refused.
     fn add_dependency_ways(
-        &self,
+        &mut self,
         ways: &mut Vec<Way<'t>>,
         symbol: &Symbol,
-        number: usize,
         first: &[Goal<'t>],
         bound: Tri,
     ) -> Result<(), AllocError> {
-        let factors = dependency_factors(self.alloc, self.blank, number)?;
-        for factor in factors.as_slice() {
-            let mut goals = Vec::from_slice(self.alloc, first)?;
-            self.add_low_factor(&mut goals, *factor, bound)?;
-            self.add_other_definitions(&mut goals, symbol, number, bound)?;
+        let definitions = self.low_definitions(symbol, bound)?;
+        if definitions.len() > MOST_DEFINITIONS {
+            return Ok(());
+        }
+        for (place, goals) in definitions.iter().enumerate() {
+            let mut others = Vec::from_slice(self.alloc, first)?;
+            self.add_others(&mut others, definitions.as_slice(), place)?;
+            self.add_each_low(ways, goals.as_slice(), others.as_slice())?;
+        }
+        Ok(())
+    }
+
+    /// Adds the first goal of each definition but that of a place. The error comes where memory is refused.
+    fn add_others(
+        &self,
+        goals: &mut Vec<Goal<'t>>,
+        definitions: &[Vec<Goal<'t>>],
+        place: usize,
+    ) -> Result<(), AllocError> {
+        for (other, lows) in definitions.iter().enumerate() {
+            if other != place
+                && let Some(low) = lows.as_slice().first()
+            {
+                goals.push(*low)?;
+            }
+        }
+        Ok(())
+    }
+
+    /// Adds a way for each of some goals, with others. The error comes where memory is refused.
+    fn add_each_low(
+        &self,
+        ways: &mut Vec<Way<'t>>,
+        lows: &[Goal<'t>],
+        others: &[Goal<'t>],
+    ) -> Result<(), AllocError> {
+        for low in lows {
+            let mut goals = Vec::from_slice(self.alloc, others)?;
+            goals.push(*low)?;
             self.add_way(ways, goals, Deed::Nothing, LOW_DEPENDENCY)?;
-        }
-        Ok(())
-    }
-
-    /// Adds the goal that a factor is at most a value. The error comes where memory is refused.
-    pub fn add_low_factor(
-        &self,
-        goals: &mut Vec<Goal<'t>>,
-        factor: Factor<'t>,
-        bound: Tri,
-    ) -> Result<(), AllocError> {
-        match factor.part {
-            FactorPart::Expression(expr) => goals.push(expr_goal(expr, false, bound))?,
-            FactorPart::Mode(choice) => goals.push(Goal::Closed(choice))?,
-            FactorPart::Missing => {}
-        }
-        Ok(())
-    }
-
-    /// Adds for each other definition of a symbol the goal that its first line is low. The error comes where memory is
-    /// refused.
-    fn add_other_definitions(
-        &self,
-        goals: &mut Vec<Goal<'t>>,
-        symbol: &Symbol,
-        number: usize,
-        bound: Tri,
-    ) -> Result<(), AllocError> {
-        for other in symbol.definitions() {
-            if *other == number {
-                continue;
-            }
-            let factors = dependency_factors(self.alloc, self.blank, *other)?;
-            if let Some(factor) = factors.as_slice().first() {
-                self.add_low_factor(goals, *factor, bound)?;
-            }
         }
         Ok(())
     }
@@ -164,17 +221,17 @@ impl<'t> Finder<'t> {
         first: &[Goal<'t>],
         bound: Tri,
     ) -> Result<(), AllocError> {
-        let implied = self.reverses_below(symbol.implied(), bound)?;
-        let mut by_condition = Vec::from_slice(self.alloc, first)?;
-        by_condition.extend_from_slice(implied.as_slice())?;
-        let mut by_value = Vec::from_slice(self.alloc, by_condition.as_slice())?;
+        let mut reverses = self.reverses_below(symbol.implied(), bound)?;
+        reverses.extend_from_slice(first)?;
+        let mut by_condition = Vec::from_slice(self.alloc, reverses.as_slice())?;
+        let mut by_value = Vec::from_slice(self.alloc, reverses.as_slice())?;
         let tree = self.tree;
         for number in symbol.definitions() {
             let Some(definition) = tree.definitions().get(*number) else {
                 continue;
             };
             self.add_low_defaults(&mut by_condition, &mut by_value, definition, bound)?;
-            self.add_earlier_defaults(ways, *number, definition, by_condition.as_slice(), bound)?;
+            self.add_earlier_defaults(ways, *number, definition, reverses.as_slice(), bound)?;
         }
         self.add_way(ways, by_condition, Deed::Nothing, ROUNDABOUT)?;
         self.add_way(ways, by_value, Deed::Nothing, ROUNDABOUT)
@@ -213,17 +270,17 @@ impl<'t> Finder<'t> {
         first: &[Goal<'t>],
         bound: Tri,
     ) -> Result<(), AllocError> {
-        for (place, default) in definition.defaults().iter().enumerate() {
-            if is_less(bound, self.trial.expr(&default.value)?) || default.condition.is_none() {
-                continue;
+        let mut before = Vec::new(self.alloc);
+        for default in definition.defaults() {
+            if !is_less(bound, self.trial.expr(&default.value)?) && default.condition.is_some() {
+                let before = before.as_slice();
+                let mut goals = self.default_goals(number, default, before, Tri::Module)?;
+                goals.extend_from_slice(first)?;
+                self.add_way(ways, goals, Deed::Nothing, ROUNDABOUT)?;
             }
-            let mut goals = self.default_goals(number, definition, place, default, Tri::Module)?;
-            for goal in first {
-                if matches!(goal, Goal::ReverseAtMost(_, _)) {
-                    goals.push(*goal)?;
-                }
+            if !self.add_before(&mut before, default.condition.as_ref())? {
+                break;
             }
-            self.add_way(ways, goals, Deed::Nothing, ROUNDABOUT)?;
         }
         Ok(())
     }
@@ -246,9 +303,7 @@ impl<'t> Finder<'t> {
             }
         }
         self.add_hiding_ways(ways, id)?;
-        let mut goals = Vec::new(self.alloc);
-        goals.push(Goal::Closed(choice))?;
-        self.add_way(ways, goals, Deed::Nothing, LOW_DEPENDENCY)
+        self.add_one(ways, Goal::Closed(choice), LOW_DEPENDENCY)
     }
 
     /// Adds the ways by which a member is not shown. The error comes where memory is refused.
@@ -258,11 +313,7 @@ impl<'t> Finder<'t> {
         };
         for number in symbol.definitions() {
             let factors = prompt_factors(self.alloc, self.blank, *number)?;
-            for factor in factors.as_slice() {
-                let mut goals = Vec::new(self.alloc);
-                self.add_low_factor(&mut goals, *factor, Tri::No)?;
-                self.add_way(ways, goals, Deed::Nothing, LOW_DEPENDENCY)?;
-            }
+            self.add_low_factors(ways, factors, Tri::No, LOW_DEPENDENCY)?;
         }
         Ok(())
     }
@@ -290,11 +341,7 @@ impl<'t> Finder<'t> {
     pub fn ways_closed(&mut self, id: ChoiceId) -> Result<Vec<Way<'t>>, AllocError> {
         let mut ways = Vec::new(self.alloc);
         let factors = choice_factors(self.alloc, self.blank, id)?;
-        for factor in factors.as_slice() {
-            let mut goals = Vec::new(self.alloc);
-            self.add_low_factor(&mut goals, *factor, Tri::No)?;
-            self.add_way(&mut ways, goals, Deed::Nothing, 0)?;
-        }
+        self.add_low_factors(&mut ways, factors, Tri::No, 0)?;
         Ok(ways)
     }
 
@@ -305,15 +352,9 @@ impl<'t> Finder<'t> {
         bound: Tri,
     ) -> Result<Vec<Way<'t>>, AllocError> {
         let mut ways = Vec::new(self.alloc);
-        let mut goals = Vec::new(self.alloc);
-        goals.push(Goal::AtMost(reverse.by, bound))?;
-        self.add_way(&mut ways, goals, Deed::Nothing, 0)?;
+        self.add_one(&mut ways, Goal::AtMost(reverse.by, bound), 0)?;
         let factors = reverse_factors(self.alloc, self.blank, reverse)?;
-        for factor in factors.as_slice() {
-            let mut goals = Vec::new(self.alloc);
-            self.add_low_factor(&mut goals, *factor, bound)?;
-            self.add_way(&mut ways, goals, Deed::Nothing, 0)?;
-        }
+        self.add_low_factors(&mut ways, factors, bound, 0)?;
         Ok(ways)
     }
 }

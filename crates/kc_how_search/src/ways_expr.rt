@@ -30,16 +30,21 @@ impl<'t> Finder<'t> {
         bound: Tri,
     ) -> Result<(), AllocError> {
         for part in parts {
-            self.add_one(ways, expr_goal(part, is_least, bound))?;
+            self.add_one(ways, expr_goal(part, is_least, bound), 0)?;
         }
         Ok(())
     }
 
-    /// Adds the way by one goal. The error comes where memory is refused.
-    fn add_one(&self, ways: &mut Vec<Way<'t>>, goal: Goal<'t>) -> Result<(), AllocError> {
+    /// Adds the way by one goal, and what it costs besides. The error comes where memory is refused.
+    pub fn add_one(
+        &self,
+        ways: &mut Vec<Way<'t>>,
+        goal: Goal<'t>,
+        own: u32,
+    ) -> Result<(), AllocError> {
         let mut goals = Vec::new(self.alloc);
         goals.push(goal)?;
-        self.add_way(ways, goals, Deed::Nothing, 0)
+        self.add_way(ways, goals, Deed::Nothing, own)
     }
 
     /// Adds the way by MODULES, where an m alone is to be m or n. The error comes where memory is refused.
@@ -53,8 +58,8 @@ impl<'t> Finder<'t> {
             return Ok(());
         };
         match (is_least, bound) {
-            (true, Tri::Module) => self.add_one(ways, Goal::AtLeast(modules, Tri::Module)),
-            (false, Tri::No) => self.add_one(ways, Goal::AtMost(modules, Tri::No)),
+            (true, Tri::Module) => self.add_one(ways, Goal::AtLeast(modules, Tri::Module), 0),
+            (false, Tri::No) => self.add_one(ways, Goal::AtMost(modules, Tri::No), 0),
             _ => Ok(()),
         }
     }
@@ -74,7 +79,7 @@ impl<'t> Finder<'t> {
                 self.add_comparison(&mut ways, *comparison, operands, is_least)?;
             }
             ExprNode::Not(_, _) | ExprNode::Group(_) => {
-                self.add_one(&mut ways, expr_goal(expr, is_least, bound))?;
+                self.add_one(&mut ways, expr_goal(expr, is_least, bound), 0)?;
             }
             ExprNode::All(parts) => {
                 let parts = parts.as_slice();

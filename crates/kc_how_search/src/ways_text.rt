@@ -1,14 +1,11 @@
 //! The ways to give a string, an int or a hex a text.
 
 use crate::finder::Finder;
-use crate::goals::{Deed, Goal, Way, expr_goal};
+use crate::goals::{Deed, Goal, Way};
 use crate::weights::{DEFAULT_FOR_PROMPT, LOW_DEPENDENCY, TEXT_LINE};
-use kc_tree::{Definition, Range, SymId, Symbol, SymbolType, Term, Tri, lone_term, numeral};
+use kc_tree::{DefaultValue, Definition, SymId, Symbol, SymbolType, Term, Tri, lone_term, numeral};
 use kc_value::{active_range, dependency_factors};
 use std::alloc::AllocError;
-
-/// How many texts the search has at most: it makes no ways to other ones.
-const MOST_TEXTS: usize = 200;
 
 impl<'t> Finder<'t> {
     /// The text of a place. The error comes where memory is refused.
@@ -25,7 +22,7 @@ impl<'t> Finder<'t> {
         let Some(symbol) = self.symbol(id) else {
             return Ok(ways);
         };
-        if self.texts.len() > MOST_TEXTS {
+        if !self.has_room() {
             return Ok(ways);
         }
         self.trial.fill_symbol(id)?;
@@ -112,15 +109,9 @@ impl<'t> Finder<'t> {
             let lows = self.side_goals(kind, &range.low, number, true)?;
             let highs = self.side_goals(kind, &range.high, number, false)?;
             self.add_sides(lists, goals.as_slice(), lows.as_slice(), highs.as_slice())?;
-            self.add_off(before, range)?;
-        }
-        Ok(())
-    }
-
-    /// Adds the goal that a range does not count, where it has a condition. The error comes where memory is refused.
-    fn add_off(&self, before: &mut Vec<Goal<'t>>, range: &'t Range) -> Result<(), AllocError> {
-        if let Some(condition) = &range.condition {
-            before.push(expr_goal(condition, false, Tri::No))?;
+            if !self.add_before(before, range.condition.as_ref())? {
+                break;
+            }
         }
         Ok(())
     }
@@ -201,7 +192,7 @@ impl<'t> Finder<'t> {
                 continue;
             };
             let text = self.term_text(term)?;
-            if lets_in(kind, text.as_str(), number, is_low) {
+            if self.has_room() && lets_in(kind, text.as_str(), number, is_low) {
                 let place = self.place_of(text.as_str())?;
                 goals.push(Some(Goal::Text(symbol, place)))?;
             }
@@ -236,25 +227,43 @@ impl<'t> Finder<'t> {
         text: &str,
         ranges: &[Vec<Goal<'t>>],
     ) -> Result<(), AllocError> {
-        for (place, default) in definition.defaults().iter().enumerate() {
-            let Some(term) = lone_term(&default.value) else {
-                continue;
-            };
-            let mut goals = self.default_goals(number, definition, place, default, Tri::Module)?;
-            let mut is_way = self.term_text(term)?.as_str() == text;
-            if let Term::Symbol(other) = term
-                && !is_way
-                && !self.tree.symbol_type(*other).is_tri()
-            {
-                let place = self.place_of(text)?;
-                goals.push(Goal::Text(*other, place))?;
-                is_way = true;
-            }
-            if is_way {
+        let mut before = Vec::new(self.alloc);
+        for default in definition.defaults() {
+            if let Some(value) = self.value_goals(default, text)? {
+                let before = before.as_slice();
+                let mut goals = self.default_goals(number, default, before, Tri::Module)?;
+                goals.extend_from_slice(value.as_slice())?;
                 self.add_in_ranges(ways, goals.as_slice(), ranges)?;
+            }
+            if !self.add_before(&mut before, default.condition.as_ref())? {
+                break;
             }
         }
         Ok(())
+    }
+
+    /// The goals that the value of a default has a text: none are needed where it has. There is no list where it can't
+    /// have. The error comes where memory is refused.
+    fn value_goals(
+        &mut self,
+        default: &'t DefaultValue,
+        text: &str,
+    ) -> Result<Option<Vec<Goal<'t>>>, AllocError> {
+        let mut goals = Vec::new(self.alloc);
+        let Some(term) = lone_term(&default.value) else {
+            return Ok(None);
+        };
+        if self.term_text(term)?.as_str() == text {
+            return Ok(Some(goals));
+        }
+        match term {
+            Term::Symbol(other) if !self.tree.symbol_type(*other).is_tri() => {
+                let place = self.place_of(text)?;
+                goals.push(Goal::Text(*other, place))?;
+                Ok(Some(goals))
+            }
+            _ => Ok(None),
+        }
     }
 
     /// Adds the ways by a default, one for each list of goals with which its text is in the range that counts. The error
@@ -278,11 +287,7 @@ impl<'t> Finder<'t> {
     fn add_empty_ways(&self, ways: &mut Vec<Way<'t>>, symbol: &Symbol) -> Result<(), AllocError> {
         for number in symbol.definitions() {
             let factors = dependency_factors(self.alloc, self.blank, *number)?;
-            for factor in factors.as_slice() {
-                let mut goals = Vec::new(self.alloc);
-                self.add_low_factor(&mut goals, *factor, Tri::No)?;
-                self.add_way(ways, goals, Deed::Nothing, LOW_DEPENDENCY)?;
-            }
+            self.add_low_factors(ways, factors, Tri::No, LOW_DEPENDENCY)?;
         }
         Ok(())
     }
@@ -308,7 +313,9 @@ impl<'t> Finder<'t> {
                 self.add_dependencies(&mut goals, *place, Tri::Module)?;
                 self.add_clamp(ways, id, goals.as_slice(), &range.low, text)?;
                 self.add_clamp(ways, id, goals.as_slice(), &range.high, text)?;
-                self.add_off(&mut before, range)?;
+                if !self.add_before(&mut before, range.condition.as_ref())? {
+                    break;
+                }
             }
         }
         Ok(())

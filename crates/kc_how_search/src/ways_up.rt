@@ -6,9 +6,12 @@ use crate::goals::{Deed, Goal, Way, expr_goal};
 use crate::weights::{
     DEFAULT, DEFAULT_FOR_PROMPT, LINE, MEMBER_LINE, MODULES_OFF, SELECT, SELECT_FOR_PROMPT,
 };
-use kc_tree::{ChoiceId, DefaultValue, Definition, Node, Reverse, SymId, Symbol, Tri};
+use kc_tree::{ChoiceId, DefaultValue, Expr, Node, Reverse, SymId, Symbol, Tri};
 use kc_value::{choice_factors, dependency_factors, prompt_factors, reverse_factors};
 use std::alloc::AllocError;
+
+/// How many defaults or ranges that count now are to be got out of the way of a later one.
+const MOST_BEFORE: usize = 16;
 
 /// A symbol that is to rise: to what, what its conditions need for that, and what any way costs.
 #[derive(Clone, Copy)]
@@ -96,9 +99,7 @@ impl<'t> Finder<'t> {
         let Some(modules) = self.tree.modules() else {
             return Ok(());
         };
-        let mut goals = Vec::new(self.alloc);
-        goals.push(Goal::AtMost(modules, Tri::No))?;
-        self.add_way(ways, goals, Deed::Nothing, MODULES_OFF)
+        self.add_one(ways, Goal::AtMost(modules, Tri::No), MODULES_OFF)
     }
 
     /// Adds the ways to choose a member of a choice. The error comes where memory is refused.
@@ -180,18 +181,36 @@ impl<'t> Finder<'t> {
         let cost = plus(rise.cost, own);
         for number in symbol.definitions() {
             self.add_default_ways(ways, *number, rise.need, cost)?;
-            for reverse in symbol.implied() {
-                let mut goals = self.reverse_goals(reverse, rise.need)?;
-                self.add_dependencies(&mut goals, *number, rise.need)?;
-                self.add_way(ways, goals, Deed::Nothing, cost)?;
-            }
+        }
+        self.add_imply_ways(ways, symbol, rise.need, cost)
+    }
+
+    /// Adds the ways by an `imply`, with the dependencies of the definition of which these cost least. The error comes where
+    /// memory is refused.
+    fn add_imply_ways(
+        &self,
+        ways: &mut Vec<Way<'t>>,
+        symbol: &'t Symbol,
+        bound: Tri,
+        cost: u32,
+    ) -> Result<(), AllocError> {
+        let prices = self.prices();
+        let numbers = symbol.definitions().iter().copied();
+        let cheapest = numbers.min_by_key(|number| prices.definition(*number).at_least(bound));
+        let Some(number) = cheapest else {
+            return Ok(());
+        };
+        for reverse in symbol.implied() {
+            let mut goals = self.reverse_goals(reverse, bound)?;
+            self.add_dependencies(&mut goals, number, bound)?;
+            self.add_way(ways, goals, Deed::Nothing, cost)?;
         }
         Ok(())
     }
 
     /// Adds the ways by the defaults of a definition. The error comes where memory is refused.
     fn add_default_ways(
-        &self,
+        &mut self,
         ways: &mut Vec<Way<'t>>,
         number: usize,
         bound: Tri,
@@ -201,36 +220,49 @@ impl<'t> Finder<'t> {
         let Some(definition) = tree.definitions().get(number) else {
             return Ok(());
         };
-        for (place, default) in definition.defaults().iter().enumerate() {
-            let mut goals = self.default_goals(number, definition, place, default, bound)?;
+        let mut before = Vec::new(self.alloc);
+        for default in definition.defaults() {
+            let mut goals = self.default_goals(number, default, before.as_slice(), bound)?;
             goals.push(expr_goal(&default.value, true, bound))?;
             self.add_way(ways, goals, Deed::Nothing, cost)?;
-            if default.condition.is_none() {
+            if !self.add_before(&mut before, default.condition.as_ref())? {
                 break;
             }
         }
         Ok(())
     }
 
-    /// The goals that a default of a definition is the first that counts, at least as a value. The error comes where
-    /// memory is refused.
+    /// The goals that a default of a definition counts, at least as a value, and those that the ones before it do not. The
+    /// error comes where memory is refused.
     pub fn default_goals(
         &self,
         number: usize,
-        definition: &'t Definition,
-        place: usize,
         default: &'t DefaultValue,
+        before: &[Goal<'t>],
         bound: Tri,
     ) -> Result<Vec<Goal<'t>>, AllocError> {
         let mut goals = Vec::new(self.alloc);
         self.add_dependencies(&mut goals, number, bound)?;
         self.add_condition(&mut goals, default.condition.as_ref(), bound)?;
-        for earlier in definition.defaults().iter().take(place) {
-            if let Some(condition) = &earlier.condition {
-                goals.push(expr_goal(condition, false, Tri::No))?;
-            }
-        }
+        goals.extend_from_slice(before)?;
         Ok(goals)
+    }
+
+    /// Adds the goal that the condition of a default or a range is n, where it is not; false where no later one is looked
+    /// at, since there is no condition or too many are not n. The error comes where memory is refused.
+    pub fn add_before(
+        &mut self,
+        before: &mut Vec<Goal<'t>>,
+        condition: Option<&'t Expr>,
+    ) -> Result<bool, AllocError> {
+        let Some(condition) = condition else {
+            return Ok(false);
+        };
+        let goal = expr_goal(condition, false, Tri::No);
+        if !self.holds(goal)? {
+            before.push(goal)?;
+        }
+        Ok(before.len() <= MOST_BEFORE)
     }
 
     /// The ways to open a choice. The error comes where memory is refused.
