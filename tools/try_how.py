@@ -3,11 +3,12 @@
 
     tools/try_how.py PROGRAM [TREES [SEED]]
 
-Of each of TREES trees of at most MOST_SYMBOLS symbols (100 without a number) all values of all symbols are tried, in one
-session of PROGRAM, and it is noted which values each symbol can have. Then `how` is asked for each. What it finds has to
-hold when `merge` reads it, and no longer without any one of its lines; what no values give must not be found, and only
-that may be called impossible. A line is written for each that is not so, and for each value that can be had and was not
-found. The last line counts; the status is 1 where an answer was wrong, or where fewer than 99 in 100 were found.
+Of each of TREES trees of at most MOST_SYMBOLS symbols (100 without a number) all values of all symbols are tried, of a
+string and a number the few of TEXTS and STRINGS, in one session of PROGRAM, and it is noted which values each symbol can
+have. Then `how` is asked for each. What it finds has to hold when `merge` reads it, and no longer without any one of its
+lines; only what no values give may be called impossible. A line is written for each that is not so, and for each value
+that can be had and was not found. The last line counts; "found by other texts" is what none of the tried values gives.
+The status is 1 where an answer was wrong, or where fewer than 99 in 100 were found.
 """
 
 from __future__ import annotations
@@ -122,13 +123,11 @@ def judged(tree: Tree, symbol: Symbol, value: str, can_be: bool) -> str:
         if "impossible" in answer.stderr:
             return "wrong: impossible" if can_be else "impossible"
         return "missed" if can_be else "not found"
-    if not can_be:
-        return "wrong: found"
     if not tree.holds(lines, symbol, value):
         return "wrong: does not hold"
     if any(tree.holds(lines[:at] + lines[at + 1 :], symbol, value) for at in range(len(lines))):
         return "wrong: a line too many"
-    return "found"
+    return "found" if can_be else "found by other texts"
 
 
 def main() -> int:
