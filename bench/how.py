@@ -23,7 +23,7 @@ import sys
 from dataclasses import dataclass
 from pathlib import Path
 
-RUNS = 3
+RUNS = 11
 MOST_AT_MEDIAN = 1.4
 MOST = 3.0
 MOST_LINES = 8
