@@ -14,7 +14,8 @@ use std::alloc::Global;
 /// can't be used, those that take the place of others, those without effect, and comments that are meant as lines. Of the
 /// tree they are, in the order of the lines, variables that nobody gave, where they are used first, names that no line
 /// defines, conditions that are always n, selects without effect, defaults and ranges that can't be meant, and symbols
-/// that are selected for more than their dependencies are worth; and last given variables that no file uses.
+/// that are selected for more than their dependencies are worth; and last variables that no file uses: those that the files
+/// define, where all names are listed, and those that are given.
 ///
 /// # Errors
 ///
@@ -38,7 +39,8 @@ pub fn check(
         findings.config = Some(Text::copy_of(alloc, config.path)?);
         config_findings(alloc, view, index, inputs, config, &mut findings.of_config)?;
     }
-    if view.tree().symbols().is_empty() {
+    let is_tree = !view.tree().symbols().is_empty();
+    if !is_tree {
         variables.add_exchanged(alloc, &mut findings.of_tree)?;
     }
     tree_findings(
@@ -50,6 +52,9 @@ pub fn check(
         extent,
         &mut findings,
     )?;
+    if is_tree && extent == Extent::All {
+        variables.add_unused_definitions(alloc, &mut findings.of_tree)?;
+    }
     variables.add_unused(alloc, inputs.given, &mut findings.of_tree)?;
     Ok(findings)
 }

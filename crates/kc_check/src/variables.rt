@@ -40,15 +40,25 @@ impl MarkedFile {
     }
 }
 
+/// The first line that defines a variable.
+#[derive(Drop)]
+struct FirstDefinition {
+    name: String,
+    /// The number of the file.
+    file: usize,
+    /// The number of the line.
+    line: usize,
+}
+
 /// The variables of the files of a Kconfig.
 #[derive(Drop)]
 pub(crate) struct Variables {
     /// The names that are referred to, each with the number of the last file that does.
     used: BTreeMap<String, usize>,
     defined: BTreeSet<String>,
+    /// The first definition of each name, in the order of the files and of their lines.
+    definitions: Vec<FirstDefinition>,
     files: Vec<MarkedFile>,
-    /// The number of the first file that defines a variable, and the number of its first line that does.
-    first_defined: Option<(usize, usize)>,
 }
 
 impl Variables {
@@ -62,8 +72,8 @@ impl Variables {
         let mut variables = Variables {
             used: BTreeMap::new(alloc),
             defined: BTreeSet::new(alloc),
+            definitions: Vec::new(alloc),
             files: Vec::new(alloc),
-            first_defined: None,
         };
         for source in sources {
             let marks = variables.marks_of(alloc, source.text)?;
@@ -111,15 +121,46 @@ impl Variables {
     ///
     /// `AllocError` where memory is refused.
     pub fn add_exchanged(&self, alloc: Global, found: &mut Vec<Finding>) -> Result<(), AllocError> {
-        let Some((number, line)) = self.first_defined else {
-            return Ok(());
-        };
-        let files = self.files();
-        let Some(file) = files.get(number) else {
+        let Some(first) = self.definitions.first() else {
             return Ok(());
         };
         let words = String::from_str(alloc, "defines no symbol: is it a .config?")?;
-        found.push(Finding::in_line(alloc, file.path.as_str(), line, "", words)?)?;
+        self.add_at(alloc, first, "", words, found)
+    }
+
+    /// Adds the variables that the files define and no line refers to, each at its first definition.
+    ///
+    /// # Errors
+    ///
+    /// `AllocError` where memory is refused.
+    pub fn add_unused_definitions(
+        &self,
+        alloc: Global,
+        found: &mut Vec<Finding>,
+    ) -> Result<(), AllocError> {
+        for definition in &self.definitions {
+            let name = definition.name.as_str();
+            if !self.used.contains_key(name) {
+                let words = String::from_str(alloc, "defined, and used nowhere")?;
+                self.add_at(alloc, definition, name, words, found)?;
+            }
+        }
+        Ok(())
+    }
+
+    /// Adds words about a name at the line of a definition.
+    fn add_at(
+        &self,
+        alloc: Global,
+        definition: &FirstDefinition,
+        name: &str,
+        words: String,
+        found: &mut Vec<Finding>,
+    ) -> Result<(), AllocError> {
+        if let Some(file) = self.files.as_slice().get(definition.file) {
+            let path = file.path.as_str();
+            found.push(Finding::in_line(alloc, path, definition.line, name, words)?)?;
+        }
         Ok(())
     }
 
@@ -145,11 +186,7 @@ impl Variables {
         marks: &mut Vec<Mark>,
     ) -> Result<(), AllocError> {
         if let Some(definition) = item.definition() {
-            let name = String::from_str(alloc, definition.name.as_str())?;
-            self.defined.insert(name)?;
-            if self.first_defined.is_none() {
-                self.first_defined = Some((self.files.len(), line));
-            }
+            self.define(alloc, definition.name.as_str(), line)?;
             let names = value_references_in(alloc, definition.value.as_str())?;
             return self.add_uses(alloc, names.as_slice(), line, marks);
         }
@@ -161,6 +198,20 @@ impl Variables {
         if is_source(text) {
             marks.push(Mark { line, name: None })?;
         }
+        Ok(())
+    }
+
+    /// Takes over that a line of the next file defines a variable.
+    fn define(&mut self, alloc: Global, name: &str, line: usize) -> Result<(), AllocError> {
+        if self.defined.contains(name) {
+            return Ok(());
+        }
+        self.defined.insert(String::from_str(alloc, name)?)?;
+        self.definitions.push(FirstDefinition {
+            name: String::from_str(alloc, name)?,
+            file: self.files.len(),
+            line,
+        })?;
         Ok(())
     }
 
