@@ -2,16 +2,16 @@
 
 use crate::finding::Finding;
 use crate::inputs::CheckInputs;
-use crate::meant_lines::{character_without_backslash, name_meant_unset};
+use crate::meant_lines::{comment_words, dropped_words};
 use crate::selections::push_bracketed;
 use crate::shown_values::{has_no_value, push_asked, push_value};
 use kc_facts::{
-    Attribute, Family, FoundInLine, FragmentLine, Input, LineFact, LineIndex, NamedLine, Part,
-    View, assign_at, found_in_lines, name_in, outcomes_of, push_shortfall, read_fragments,
-    shown_line,
+    Attribute, DroppedBackslash, Family, FoundInLine, FragmentLine, Input, LineFact, LineIndex,
+    MeantComment, NamedLine, Part, View, assign_at, dropped_backslashes, found_in_lines,
+    meant_comments, outcomes_of, push_shortfall, read_fragments, shown_line,
 };
 use kc_files::{Assign, ReadFault};
-use kc_tree::{ChoiceId, Node, SymId, SymbolType, Tree};
+use kc_tree::{ChoiceId, Node, SymId, Tree};
 use kc_value::{Reason, active_range, changed_value, reason_over, spelled};
 use std::alloc::{AllocError, Global};
 
@@ -35,6 +35,8 @@ pub(crate) fn config_findings(
     let lines = read.lines.as_slice();
     let outcomes = outcomes_of(alloc, tree, view.values(), lines)?;
     let facts = found_in_lines(alloc, lines, outcomes.as_slice())?;
+    let comments = meant_comments(alloc, tree, inputs.prefix, config.bytes)?;
+    let dropped = dropped_backslashes(alloc, tree, inputs.prefix, config.bytes, lines)?;
     let report = Report {
         view,
         line_index: index,
@@ -42,6 +44,8 @@ pub(crate) fn config_findings(
         path: config.path,
         lines,
         facts: facts.as_slice(),
+        comments: comments.as_slice(),
+        dropped: dropped.as_slice(),
         named: read.unusable.as_slice(),
         unusable: inputs.unusable,
     };
@@ -59,17 +63,24 @@ struct Report<'r, 's, 'l, 'a, 'c> {
     lines: &'r [FragmentLine],
     /// What is found in the lines, in their order.
     facts: &'r [FoundInLine],
+    /// The comments that are meant as lines, in their order.
+    comments: &'r [MeantComment],
+    /// The backslashes that are dropped, in the order of their lines.
+    dropped: &'r [DroppedBackslash],
     /// The names in the lines that can't be used, and what is said of these, in their order.
     named: &'r [NamedLine<'c>],
     unusable: &'r [String],
 }
 
-/// How many lines of a `.config`, facts of these, and lines that can't be used were passed.
+/// How many lines of a `.config`, facts of these, lines that can't be used, comments that are meant as lines and dropped
+/// backslashes were passed.
 #[derive(Clone, Copy)]
 struct Passed {
     lines: usize,
     facts: usize,
     unusable: usize,
+    comments: usize,
+    dropped: usize,
 }
 
 impl Report<'_, '_, '_, '_, '_> {
@@ -79,17 +90,17 @@ impl Report<'_, '_, '_, '_, '_> {
             lines: 0,
             facts: 0,
             unusable: 0,
+            comments: 0,
+            dropped: 0,
         };
         for (before, text) in bytes.split(|byte| *byte == b'\n').enumerate() {
             let number = before.saturating_add(1);
+            self.add_comment(alloc, before, &mut passed, found)?;
             if self.line_at(passed.lines, number).is_none() {
-                self.add_comment(alloc, number, text, found)?;
                 continue;
             }
             self.add_found(alloc, number, &mut passed, found)?;
-            if let Some(assign) = assign_at(self.lines, passed.lines) {
-                self.add_dropped(alloc, number, text, assign, found)?;
-            }
+            self.add_dropped(alloc, number, text, &mut passed, found)?;
             passed.lines = passed.lines.saturating_add(1);
         }
         Ok(())
@@ -125,52 +136,47 @@ impl Report<'_, '_, '_, '_, '_> {
         (line.line.number == number).then_some(line)
     }
 
-    /// Adds that a line is a comment, which is likely meant as one that sets a bool or a tristate to n.
+    /// Adds that the line after so many others is a comment which is likely meant as a line, if it is one.
     fn add_comment(
         &self,
         alloc: Global,
-        number: usize,
-        text: &[u8],
+        before: usize,
+        passed: &mut Passed,
         found: &mut Vec<Finding>,
     ) -> Result<(), AllocError> {
-        let tree = self.view.tree();
-        let prefix = self.prefix;
-        let Some(name) = name_meant_unset(prefix, text) else {
+        let Some(next) = self.comments.get(passed.comments) else {
             return Ok(());
         };
-        if tree
-            .find(name)
-            .is_some_and(|symbol| tree.symbol_type(symbol).is_tri())
-        {
-            let words = format!(in alloc;
-                "a comment, which sets nothing; write # {prefix}{name} is not set"
-            )?;
-            found.push(Finding::in_line(alloc, self.path, number, name, words)?)?;
+        if next.line != before {
+            return Ok(());
         }
+        passed.comments = passed.comments.saturating_add(1);
+        let number = before.saturating_add(1);
+        let name = self.view.tree().name(next.symbol);
+        let words = comment_words(alloc, self.prefix, name)?;
+        found.push(Finding::in_line(alloc, self.path, number, name, words)?)?;
         Ok(())
     }
 
-    /// Adds that a text in quotes loses a backslash.
+    /// Adds that the next line, which has a number, gives a string a text that loses a backslash, if it does.
     fn add_dropped(
         &self,
         alloc: Global,
         number: usize,
         text: &[u8],
-        assign: &Assign,
+        passed: &mut Passed,
         found: &mut Vec<Finding>,
     ) -> Result<(), AllocError> {
-        let tree = self.view.tree();
-        if tree.symbol_type(assign.symbol) != SymbolType::String {
+        let Some(next) = self.dropped.get(passed.dropped) else {
+            return Ok(());
+        };
+        if next.line != passed.lines {
             return Ok(());
         }
-        let value = name_in(self.prefix, text).value.unwrap_or("");
-        if let Some(character) = character_without_backslash(value) {
-            let mut words = String::from_str(alloc, "`\\")?;
-            words.push(character)?;
-            words.push_str("` is read as `")?;
-            words.push(character)?;
-            words.push_str("`; write `\\\\` for a backslash")?;
-            let name = tree.name(assign.symbol);
+        passed.dropped = passed.dropped.saturating_add(1);
+        if let Some(assign) = assign_at(self.lines, next.line) {
+            let words = dropped_words(alloc, self.prefix, text, next)?;
+            let name = self.view.tree().name(assign.symbol);
             found.push(Finding::in_line(alloc, self.path, number, name, words)?)?;
         }
         Ok(())

@@ -1,44 +1,41 @@
-//! Lines of a `.config` that are read as something other than what they are likely meant as.
+//! Words about lines of a `.config` that are read as something other than what they are likely meant as.
 
-use kc_facts::{has_name_bytes, name_in};
-use std::str;
+use kc_facts::{DroppedBackslash, name_in};
+use std::alloc::{AllocError, Global};
 
-/// The name in a comment that is likely meant as a line `# CONFIG_A is not set`, by the prefix of names: it has other
-/// blanks, or says `is unset` or `not set`.
-pub(crate) fn name_meant_unset<'c>(prefix: &str, line: &'c [u8]) -> Option<&'c str> {
-    let text = str::from_utf8(line)
-        .ok()?
-        .trim_end_matches([' ', '\t', '\r']);
-    let comment = text.strip_prefix('#')?.trim_start_matches([' ', '\t']);
-    let named = comment.strip_prefix(prefix)?;
-    let (name, rest) = named.split_once([' ', '\t'])?;
-    let is_meant = has_name_bytes(name) && are_words_of_unset(rest);
-    (is_meant && name_in(prefix, line).name == "").then_some(name)
+/// What is said of a comment that is likely meant as a line which sets a name to n, by the prefix of names.
+///
+/// # Errors
+///
+/// `AllocError` where memory is refused.
+pub(crate) fn comment_words(alloc: Global, prefix: &str, name: &str) -> Result<String, AllocError> {
+    format!(in alloc; "a comment, which sets nothing; write # {prefix}{name} is not set")
 }
 
-/// Whether words, with blanks between them, say that something is not set.
-fn are_words_of_unset(text: &str) -> bool {
-    let mut words = text.split_whitespace();
-    match (words.next(), words.next(), words.next(), words.next()) {
-        (Some("is"), Some("not"), Some("set"), None) => true,
-        (Some("is"), Some("unset"), None, None) => true,
-        (Some("not"), Some("set"), None, None) => true,
-        _ => false,
+/// What is said of a line that gives a string a text in which a backslash is dropped.
+///
+/// # Errors
+///
+/// `AllocError` where memory is refused.
+pub(crate) fn dropped_words(
+    alloc: Global,
+    prefix: &str,
+    line: &[u8],
+    dropped: &DroppedBackslash,
+) -> Result<String, AllocError> {
+    let mut words = String::from_str(alloc, "`\\")?;
+    if let Some(character) = character_at(prefix, line, dropped.place) {
+        words.push(character)?;
+        words.push_str("` is read as `")?;
+        words.push(character)?;
     }
+    words.push_str("`; write `\\\\` for a backslash")?;
+    Ok(words)
 }
 
-/// The first character, other than a quote and a backslash, that is read without the backslash before it, in a text in
-/// quotes.
-pub(crate) fn character_without_backslash(value: &str) -> Option<char> {
-    let mut is_escaped = false;
-    for character in value.strip_prefix('"')?.chars() {
-        if is_escaped && character != '"' && character != '\\' {
-            return Some(character);
-        }
-        if !is_escaped && character == '"' {
-            return None;
-        }
-        is_escaped = !is_escaped && character == '\\';
-    }
-    None
+/// The character at a place after the opening quote of the value of a line.
+fn character_at(prefix: &str, line: &[u8], place: usize) -> Option<char> {
+    let value = name_in(prefix, line).value?;
+    let rest = value.strip_prefix('"')?.get(place..)?;
+    rest.chars().next()
 }

@@ -1,3 +1,4 @@
+pub mod AfterLaws
 pub mod BlockLaws
 pub mod CountLaws
 pub mod CulpritLaws
@@ -10,6 +11,7 @@ pub mod LoopLaws
 pub mod NthLaws
 pub mod OutcomeSearch
 pub mod PartLaws
+pub mod QuotedLaws
 pub mod RangeLaws
 pub mod RowLemmas
 pub mod SourcedLaws

@@ -1,6 +1,8 @@
 pub mod Attributes
+pub mod CommentWords
 pub mod Culprits
 pub mod Defaults
+pub mod DroppedBackslashes
 pub mod FactorPlaces
 pub mod FaultyDefaults
 pub mod Forced
@@ -8,11 +10,13 @@ pub mod HiddenChoices
 pub mod LineFacts
 pub mod LineIndex
 pub mod LoopSteps
+pub mod MeantComments
 pub mod MenuTree
 pub mod Named
 pub mod NearName
 pub mod NeverModules
 pub mod Outcomes
+pub mod QuotedBytes
 pub mod Ranges
 pub mod RowSteps
 pub mod SelectedMembers
