@@ -16,7 +16,6 @@ mod missing_variables;
 mod selections;
 mod shown_values;
 mod sourced_files;
-mod tokens;
 mod tree_facts;
 mod tree_findings;
 mod undefined_names;

@@ -16,5 +16,6 @@ pub mod RangeLaws
 pub mod RowLemmas
 pub mod SourcedLaws
 pub mod StartLaws
+pub mod DoubtfulLaws
 pub mod UnusedLaws
 pub mod WhyLaws

@@ -36,7 +36,8 @@ by_word : (k : Option Keyword) (n : ℕ) (ns : List ℕ)
 by_word None n ns = refl
 by_word (Some word) n ns = refl
 
-before_more : (lines : List LineValue) (i : ℕ) (l : LineValue) → slice_get lines i ≡ Some l → before lines (i + 1) ≡ l ∷ before lines i
+-- the lines before the next place
+pub before_more : (lines : List LineValue) (i : ℕ) (l : LineValue) → slice_get lines i ≡ Some l → before lines (i + 1) ≡ l ∷ before lines i
 before_more lines i l is =
     let within = slice_get_within lines i l is in
     ap reverse (take_more lines i l within) ∙ reverse-append (take i lines) (get_or lines i l ∷ []) ∙ ap (λ x. x ∷ before lines i) (get_or_from_slice_get lines i l l is)

@@ -2,6 +2,8 @@ pub mod Attributes
 pub mod CommentWords
 pub mod Culprits
 pub mod Defaults
+pub mod DoubtfulNames
+pub mod DoubtfulUses
 pub mod DroppedBackslashes
 pub mod FactorPlaces
 pub mod FaultyDefaults
@@ -12,6 +14,7 @@ pub mod LineIndex
 pub mod LoopSteps
 pub mod MeantComments
 pub mod MenuTree
+pub mod NameReadings
 pub mod Named
 pub mod NearName
 pub mod NeverModules

@@ -31,7 +31,7 @@ pub struct FaultyDefault {
 }
 
 /// Whether a word has digits alone.
-fn is_digits(word: &str) -> bool
+pub(crate) fn is_digits(word: &str) -> bool
     ensures { result ≡ is_digits word.now }
 {
     word.bytes().all(|byte| byte.is_ascii_digit())

@@ -33,7 +33,7 @@ fn is_statement(line: &Line<'_>) -> bool
 }
 
 /// Notes that a putting in place has a statement, if it has one.
-fn note_run(noted: &mut Vec<bool>, run: usize, has_statement: bool)
+pub(crate) fn note_run(noted: &mut Vec<bool>, run: usize, has_statement: bool)
     ensures { noted.new.items ≡ noted_run noted.old.items run has_statement }
 {
     if has_statement && run < noted.len() {
@@ -118,7 +118,7 @@ fn first_before(ends: &[&Line<'_>], run: usize) -> Option<usize>
 }
 
 /// Whether the putting in place of a number has a statement, of those that are noted.
-fn is_noted(noted: &[bool], run: usize) -> bool
+pub(crate) fn is_noted(noted: &[bool], run: usize) -> bool
     ensures { result ≡ slice_index_or noted.now run false }
 {
     match noted.get(run) {
