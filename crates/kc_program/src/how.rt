@@ -125,24 +125,31 @@ pub(crate) fn answer_in_session(
 ) -> Result<WantedAnswer, AllocError> {
     session.fill_all()?;
     let view = View::new(session.solved());
-    let words = ChangeWords {
-        view: &view,
-        index: index_of(alloc, inputs)?,
-        kept: wanted.kept_count,
-    };
-    match how(
-        alloc,
-        &session.solved(),
-        &words,
-        &inputs.arguments.prefix,
-        wanted,
-    )? {
+    let answer = answer_over(alloc, inputs, &session.solved(), &view, wanted)?;
+    match answer {
         WantedAnswer::Found(found) => {
             let found = with_costs(alloc, inputs, session, before, found)?;
             Ok(WantedAnswer::Found(found))
         }
-        other => Ok(other),
+        WantedAnswer::NotFound(errors) => Ok(WantedAnswer::NotFound(errors)),
+        WantedAnswer::Unusable => Ok(WantedAnswer::Unusable),
     }
+}
+
+/// What comes of wanted values over the values of CONFIG.
+fn answer_over(
+    alloc: Global,
+    inputs: &ReportInputs<'_, '_>,
+    solved: &Solved<'_>,
+    view: &View<'_>,
+    wanted: WantedTexts,
+) -> Result<WantedAnswer, AllocError> {
+    let words = ChangeWords {
+        view,
+        index: index_of(alloc, inputs)?,
+        kept: wanted.kept_count,
+    };
+    how(alloc, solved, &words, &inputs.arguments.prefix, wanted)
 }
 
 /// The lines of the Kconfig, where definitions are shown.

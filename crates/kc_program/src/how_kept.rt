@@ -28,10 +28,14 @@ pub(crate) fn with_values_kept(
             break;
         };
         load(session, config)?;
-        match answer_in_session(alloc, inputs, session, before, wanted)? {
-            WantedAnswer::Found(next) if next.lost.len() < best.lost.len() => best = next,
-            _ => break,
+        let answer = answer_in_session(alloc, inputs, session, before, wanted)?;
+        let WantedAnswer::Found(next) = answer else {
+            break;
+        };
+        if next.lost.len() >= best.lost.len() {
+            break;
         }
+        best = next;
     }
     Ok(best)
 }
