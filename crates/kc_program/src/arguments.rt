@@ -193,11 +193,6 @@ fn read_matches<'a>(
     if row.operands == Operands::ConfigAndWanted && wanted.is_empty() && words.others.is_empty() {
         return Err(WordFault::BadValue(MISSING_WANTED));
     }
-    let wording = if row.target.is_explained() || found.get_flag("explain") {
-        Wording::Explained
-    } else {
-        Wording::Number
-    };
     let config = match row.operands {
         Operands::PerhapsConfig => words.others.first().copied(),
         _ => found.get_str("CONFIG"),
@@ -207,7 +202,7 @@ fn read_matches<'a>(
         kconfig,
         config: config.filter(|path| *path != NO_CONFIG),
         prefix,
-        wording,
+        wording: wording_of(row, found),
         folder: found.get_str("folder").unwrap_or(""),
         variables_file: found.get_str("variables"),
         variables: words.variables,
@@ -220,6 +215,15 @@ fn read_matches<'a>(
         keeps_values: found.get_flag("keep"),
         shows_definitions: found.get_flag("explain"),
     })
+}
+
+/// How faults and warnings are worded.
+fn wording_of(row: &Subcommand, found: &ArgMatches<'_>) -> Wording {
+    if row.target.is_explained() || found.get_flag("explain") {
+        Wording::Explained
+    } else {
+        Wording::Number
+    }
 }
 
 fn read_prefix<'a>(alloc: Global, text: &str) -> Result<Prefix, WordFault<'a>> {
