@@ -22,7 +22,7 @@ use kc_tree::{SymId, Tree};
 use kc_value::{Resolver, Solved};
 use std::alloc::{AllocError, Global};
 
-/// What stands for the path of the wanted values that are words of the command line.
+/// The path of the wanted values that are words of the command line, in reports.
 const WORDS: &str = "WANTED";
 
 /// What is said where nothing was found.
