@@ -80,7 +80,8 @@ FINDING = re.compile(
     rb"|range .*: its low bound is above its high bound|default .* is never used: (?:the one of .+ has no condition|its choice is never visible)"
     rb"|selected by \w+ \(" + AT + rb"\), while .+ is [nm]|.* is outside the range .*; its value is .*"
     rb"|.* has no effect: .+|[nmy] gives [nmy]: .+|.*takes the place of .+"
-    rb"|[A-Za-z0-9_-]+: not given, and no line defines it|a tristate is never m: no line defines MODULES"
+    rb"|[A-Za-z0-9_-]+: (?:not given, and no line defines it|defined, and used nowhere)"
+    rb"|a tristate is never m: no line defines MODULES"
     rb"|always n: it has no prompt and no default, and no line selects or implies it|.+ is sourced in " + AT + rb", too"
     rb"|" + UNUSABLE + rb")",
     re.DOTALL,
