@@ -19,6 +19,7 @@ pub mod LentLists
 pub mod Lexing
 pub mod LineCounts
 pub mod LineExamples
+pub mod LineNames
 pub mod LineRuns
 pub mod MeaningLaws
 pub mod MoreLines

@@ -15,6 +15,7 @@ pub mod LentFiles
 pub mod Lexing
 pub mod Libraries
 pub mod LineContent
+pub mod LineReferences
 pub mod LineValue
 pub mod LinesFaults
 pub mod Meanings

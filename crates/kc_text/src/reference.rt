@@ -65,7 +65,7 @@ pub(crate) fn reference(text: &str) -> Option<(&str, &str)>
 }
 
 /// How many bytes a text begins with before its first dollar.
-fn plain_len(text: &str) -> usize
+pub(crate) fn plain_len(text: &str) -> usize
     ensures count { result ≡ prefix_len is_no_dollar text.now }
     ensures within { result ≤ length text.now }
 {
