@@ -2,8 +2,7 @@
 
 use crate::finding::Finding;
 use crate::inputs::SourceText;
-use kc_facts::{references_in, value_references_in};
-use kc_text::{FileItem, leading_item};
+use kc_text::{FileItem, leading_item, references_in, value_references_in};
 use std::alloc::{AllocError, Global};
 use std::collections::{BTreeMap, BTreeSet};
 
@@ -191,10 +190,8 @@ impl Variables {
             return self.add_uses(alloc, names.as_slice(), line, marks);
         }
         let text = item.text();
-        if text.contains('$') {
-            let names = references_in(alloc, text)?;
-            self.add_uses(alloc, names.as_slice(), line, marks)?;
-        }
+        let names = references_in(alloc, text)?;
+        self.add_uses(alloc, names.as_slice(), line, marks)?;
         if is_source(text) {
             marks.push(Mark { line, name: None })?;
         }

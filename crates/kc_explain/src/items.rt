@@ -1,7 +1,8 @@
 //! The lines of a file that are taken together with a line at fault, and where in them their reading stops.
 
-use kc_facts::{references_in, value_references_in};
-use kc_text::{FileItem, StopKind, leading_item, stop_in, stop_in_value};
+use kc_text::{
+    FileItem, StopKind, leading_item, references_in, stop_in, stop_in_value, value_references_in,
+};
 use std::alloc::{AllocError, Global};
 use std::collections::BTreeMap;
 

@@ -6,6 +6,7 @@ mod blocks;
 mod characters;
 mod choice_words;
 mod corrections;
+mod dollars;
 mod expressions;
 mod forms;
 mod help_texts;

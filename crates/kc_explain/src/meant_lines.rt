@@ -1,8 +1,9 @@
 //! The line of a `.config` that is meant by one that can't be used, where that is clear.
 
+use crate::dollars::is_escaped;
 use crate::messages::ConfigMessage;
 use crate::piece::{texts, words_of};
-use kc_facts::{is_escaped, meant_tri};
+use kc_facts::meant_tri;
 use kc_files::push_quoted;
 use kc_statement::{SymbolType, Tri, numeral};
 use std::alloc::{AllocError, Global};

@@ -1,6 +1,7 @@
 //! What is said of a fault of a text.
 
 use crate::characters::push_character;
+use crate::dollars::{Dollar, dollar_of};
 use crate::help_texts::push_of_help;
 use crate::hints::hint_at;
 use crate::items::{Found, Spot, find_item, spot_after};
@@ -8,7 +9,7 @@ use crate::meanings::fault_meaning;
 use crate::messages::TextMessage;
 use crate::piece::{Texts, texts, words_of};
 use crate::variables::explain_ring;
-use kc_facts::{Dollar, Explanation, dollar_of};
+use kc_facts::Explanation;
 use kc_text::{StopKind, TextProblem};
 use std::alloc::{AllocError, Global};
 

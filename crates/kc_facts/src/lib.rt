@@ -54,7 +54,6 @@ mod range_faults;
 mod ranges;
 mod read_again;
 mod reason_words;
-mod references;
 mod reverse_row;
 mod row;
 mod rows;
@@ -103,9 +102,6 @@ pub use one_step::{push_why_no, symbol_below};
 pub use parts::{Attribute, Family, Part, says};
 pub use ranges::is_free;
 pub use reason_words::{default_at, push_bounds, push_module_words, push_reason_words};
-pub use references::{
-    Dollar, dollar_of, is_escaped, is_variable_byte, references_in, value_references_in,
-};
 pub use reverse_row::{ReverseKind, push_reverse_names, push_reverse_row};
 pub use row::Row;
 pub use rows::menu_rows;

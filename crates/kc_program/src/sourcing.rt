@@ -6,7 +6,7 @@ use crate::known::{Known, path_of_source};
 use crate::opening::Kconfig;
 use crate::wants::source_lines_to;
 use kc_explain::{Explanation, line_of};
-use kc_facts::references_in;
+use kc_text::references_in;
 use std::alloc::{AllocError, Global};
 use std::str::from_utf8;
 

@@ -1,6 +1,6 @@
 //! The lines of a file that are taken together, for those who look at a file by itself.
 
-ghost use Rattle.std.specs.Prelude.{◌≡◌, ◌<◌, [], length, IfNone, IfOk, IfSome, MatchOption, None, Some};
+ghost use Rattle.std.specs.Prelude.{◌≡◌, ◌+◌, ◌<◌, [], length, IfNone, IfOk, IfSome, MatchOption, None, Some};
 ghost use Rattle.std.specs.Str.Lines.{lines};
 ghost use Rattle.kc_text.specs.Defining.{definition_of};
 ghost use Rattle.kc_text.specs.LeadingItem.{BeginsWith};
@@ -72,6 +72,7 @@ pub fn leading_item<'a>(
     ensures none { IfOk result (λ found. IfNone found (text.now ≡ [])) }
     ensures begins { IfOk result (λ found. IfSome found (λ i. BeginsWith (lines text.now) i.0 (lines i.1.now))) }
     ensures shorter { IfOk result (λ found. IfSome found (λ i. length i.1.now < length text.now)) }
+    ensures within { IfOk result (λ found. IfSome found (λ i. i.0.more + length i.1.now < length text.now)) }
 {
     if text.is_empty() {
         return Ok(None);
