@@ -5,12 +5,12 @@ use crate::inputs::CheckInputs;
 use crate::meant_lines::{comment_words, dropped_words};
 use crate::selections::push_bracketed;
 use crate::shown_values::{has_no_value, push_asked, push_value};
-use kc_facts::{
-    Attribute, DroppedBackslash, Family, FoundInLine, FragmentLine, Input, LineFact, LineIndex,
-    MeantComment, NamedLine, Part, View, assign_at, dropped_backslashes, found_in_lines,
-    meant_comments, outcomes_of, push_shortfall, read_fragments, shown_line,
+use kc_facts::{Attribute, Family, LineIndex, Part, View, push_shortfall, shown_line};
+use kc_files::{
+    Assign, DroppedBackslash, FoundInLine, FragmentLine, Input, LineFact, MeantComment, NamedLine,
+    ReadFault, assign_at, dropped_backslashes, found_in_lines, meant_comments, outcomes_of,
+    read_fragments,
 };
-use kc_files::{Assign, ReadFault};
 use kc_tree::{ChoiceId, Node, SymId, Tree};
 use kc_value::{Reason, active_range, changed_value, reason_over, spelled};
 use std::alloc::{AllocError, Global};

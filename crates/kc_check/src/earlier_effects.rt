@@ -1,7 +1,10 @@
 //! The lines of a `.config` that had their effect before fragments were merged.
 
-use kc_facts::{FragmentLine, Input, Outcome, View, outcomes_of, read_fragments};
-use kc_files::{Assign, ConfigLine, LineSays, Prefix, ReadFault, has_effect};
+use kc_facts::View;
+use kc_files::{
+    Assign, ConfigLine, FragmentLine, Input, LineSays, Outcome, Prefix, ReadFault, has_effect,
+    outcomes_of, read_fragments,
+};
 use kc_text::Text;
 use kc_tree::Tree;
 use kc_value::NodeValues;

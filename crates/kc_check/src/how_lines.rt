@@ -3,8 +3,10 @@
 use crate::earlier_effects::EffectsBefore;
 use crate::merge_lines::push_lost;
 use crate::shown_values::{push_asked, push_value};
-use kc_facts::{FragmentLine, FragmentLines, Input, View, push_shortfall, read_fragments};
-use kc_files::{Assign, LineSays, Prefix, ReadFault};
+use kc_facts::{View, push_shortfall};
+use kc_files::{
+    Assign, FragmentLine, FragmentLines, Input, LineSays, Prefix, ReadFault, read_fragments,
+};
 use kc_tree::SymId;
 use std::alloc::{AllocError, Global};
 

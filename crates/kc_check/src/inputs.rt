@@ -1,7 +1,6 @@
 //! What is checked beside a tree and its values.
 
-use kc_facts::Input;
-use kc_files::Prefix;
+use kc_files::{Input, Prefix};
 use kc_text::Line;
 
 /// A file of the Kconfig by its path, with its text.

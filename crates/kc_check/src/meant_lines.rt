@@ -1,6 +1,6 @@
 //! Words about lines of a `.config` that are read as something other than what they are likely meant as.
 
-use kc_facts::{DroppedBackslash, name_in};
+use kc_files::{DroppedBackslash, name_in};
 use std::alloc::{AllocError, Global};
 
 /// What is said of a comment that is likely meant as a line which sets a name to n, by the prefix of names.

@@ -2,10 +2,8 @@
 
 use crate::earlier_effects::{EffectsBefore, UsableLine};
 use crate::shown_values::{push_asked, push_value};
-use kc_facts::{
-    FoundInLine, FragmentLines, Input, LineFact, MergeCounts, View, assign_at, push_shortfall,
-};
-use kc_files::Assign;
+use kc_facts::{View, push_shortfall};
+use kc_files::{Assign, FoundInLine, FragmentLines, Input, LineFact, MergeCounts, assign_at};
 use std::alloc::{AllocError, Global};
 
 /// What a report on fragments is written from.

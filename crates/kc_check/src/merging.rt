@@ -3,16 +3,16 @@
 ghost use Rattle.std.specs.Prelude.{◌≡◌, ◌+◌, IfOk, count_by, length};
 ghost use Rattle.kc_value.specs.Assignment.{assignment_of};
 ghost use Rattle.kc_value.specs.Solution.{AreSolved};
-ghost use Rattle.kc_facts.specs.Outcomes.{fragment_lines, outcomes, is_got, is_other, is_unusable, is_replaced};
-ghost use Rattle.kc_facts.specs.LineFacts.{reported_of};
+ghost use Rattle.kc_files.specs.Outcomes.{fragment_lines, outcomes, is_got, is_other, is_unusable, is_replaced};
+ghost use Rattle.kc_files.specs.LineFacts.{reported_of};
 
 use crate::earlier_effects::EffectsBefore;
 use crate::merge_lines::{MergeText, push_counts, push_lost};
-use kc_facts::{
-    FoundInLine, Input, MergeCounts, Outcome, View, giving_lines, outcomes_of, read_fragments,
-    reported_of,
+use kc_facts::View;
+use kc_files::{
+    FoundInLine, Input, MergeCounts, Outcome, Prefix, ReadFault, giving_lines, outcomes_of,
+    read_fragments, reported_of,
 };
-use kc_files::{Prefix, ReadFault};
 use std::alloc::Global;
 
 /// What became of the lines of fragments.

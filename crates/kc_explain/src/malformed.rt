@@ -6,7 +6,7 @@ use crate::meant_lines::{meant_line, push_meant_line};
 use crate::messages::ConfigMessage;
 use crate::named_symbols::NamedSymbols;
 use crate::piece::{texts, words_of};
-use kc_facts::has_name_bytes;
+use kc_files::has_name_bytes;
 use std::alloc::{AllocError, Global};
 
 /// How a tool of version control marks the two sides of a conflict.

@@ -13,8 +13,7 @@ use Rattle.kc_outline.specs.Enclosing.{before}
 use Rattle.kc_outline.specs.TreeValue.{TreeValue}
 use Rattle.kc_facts.specs.DoubtfulNames.{are_same_line, is_elsewhere, is_in_several, is_named, name_of, named_by, passed_after}
 use Rattle.kc_facts.specs.DoubtfulUses.{defined_symbol, owner_at}
-use Rattle.kc_facts.specs.LineFacts.{last_below}
-use Rattle.kc_facts.specs.UnusedDefaults.{first_below}
+use Rattle.kc_facts.specs.Numbers.{first_below, last_below}
 use Rattle.kc_facts.specs.declared.doubtful_uses.DoubtfulUse.{DoubtfulUse}
 use Rattle.kc_facts.specs.declared.named_uses.NamedUse.{NamedUse}
 use Rattle.kc_facts.specs.declared.named_uses.Passed.{Passed}

@@ -1,5 +1,5 @@
 -- The first definition of each symbol that always gives it a value, definition by definition.
-use Rattle.std.proofs.Common.{◌≡◌, ℕ, ◌+◌, ◌<◌, ◌≤◌, ◌==◌, Bool, true, false, ◌&&◌, ◌||◌, if◌then◌else◌, List, [], ◌∷◌, Option, Some, None, length, map, take, get_or, slice_get, slice_set, nat_lt, refl, sym, ap, ◌∙◌, subst, ⊎_elim, add-one, arith}
+use Rattle.std.proofs.Common.{◌≡◌, ℕ, ◌+◌, ◌<◌, ◌≤◌, ◌==◌, Bool, true, false, ◌&&◌, ◌||◌, if◌then◌else◌, List, [], ◌∷◌, Option, Some, None, length, map, take, get_or, slice_get, slice_set, nat_lt, refl, sym, ap, ◌∙◌, subst, ⊎_elim, arith}
 use denote.Ref.{Bor}
 use Rattle.std.specs.Prelude.{is_none, option_and_then}
 use Rattle.std.specs.List.{list_any}
@@ -9,8 +9,9 @@ use Rattle.std.proofs.lemmas.List.{get_or_past, length-set, take_all}
 use Rattle.kc_text.specs.LineValue.{LineValue}
 use Rattle.kc_outline.specs.TreeValue.{TreeValue, DefinitionValue}
 use Rattle.kc_facts.specs.declared.defaults_after.DefaultPlace.{DefaultPlace}
-use Rattle.kc_facts.specs.UnusedDefaults.{always_gives, earlier_place, first_below, free_place_at, given_before, is_always_given, is_defined_again, noted_first, unused_after, unused_by_number}
-use Rattle.kc_facts.proofs.LineFactLaws.{slot_set}
+use Rattle.kc_facts.specs.Numbers.{first_below}
+use Rattle.kc_facts.specs.UnusedDefaults.{always_gives, earlier_place, free_place_at, given_before, is_always_given, is_defined_again, noted_first, unused_after, unused_by_number}
+use Rattle.kc_facts.proofs.NumberLaws.{first_more, slot_set}
 
 -- as many as there are
 pub taken_whole : {X : Type 0} (n : ℕ) (xs : List X) → n ≡ length xs → take n xs ≡ xs
@@ -23,10 +24,6 @@ any_lent p (e ∷ es) = ap (λ b. p e.now || b) (any_lent p es)
 
 pub any_of_lent : {X : Type 0} (p : X → Bool) (es : List (Bor X)) (xs : List X) → map (λ e. e.now) es ≡ xs → list_any (λ e. p e.now) es ≡ list_any p xs
 any_of_lent p es xs is = any_lent p es ∙ ap (list_any p) is
-
--- one more number
-first_more : (test : ℕ → Bool) (n : ℕ) → first_below test (n + 1) ≡ option_or (first_below test n) (if test n then Some n else None)
-first_more test n = ap (first_below test) (add-one n)
 
 or_none : (o : Option ℕ) → option_or o None ≡ o
 or_none None = refl

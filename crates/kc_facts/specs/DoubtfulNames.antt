@@ -8,8 +8,7 @@ use Rattle.kc_text.specs.LineValue.{LineValue}
 use Rattle.kc_statement.specs.Names.{token_word}
 use Rattle.kc_outline.specs.TreeValue.{TreeValue}
 use Rattle.kc_facts.specs.DoubtfulUses.{doubtful_uses}
-use Rattle.kc_facts.specs.LineFacts.{last_below}
-use Rattle.kc_facts.specs.UnusedDefaults.{first_below}
+use Rattle.kc_facts.specs.Numbers.{first_below, last_below}
 use Rattle.kc_facts.specs.declared.doubtful_uses.DoubtfulUse.{DoubtfulUse}
 use Rattle.kc_facts.specs.declared.named_uses.NamedUse.{NamedUse}
 use Rattle.kc_facts.specs.declared.named_uses.Passed.{Passed}

@@ -1,9 +1,9 @@
 -- Defaults that are never used, since one before them always counts: kconfig-language.rst, "default value", and this
 -- project's own. A file that is put in place twice has each of its lines twice, and a default is used if it is the first
 -- time.
-use Rattle.std.specs.Prelude.{ℕ, zero, suc, Bool, true, false, ◌&&◌, ◌==◌, List, [], Option, Some, None, if◌then◌else◌, filter, flat_map, is_none, is_some, length, nat_lt, option_and_then, option_map, option_to_list, position, slice_get, slice_index_or, slice_set}
+use Rattle.std.specs.Prelude.{ℕ, Bool, true, false, ◌&&◌, ◌==◌, List, [], Option, Some, None, if◌then◌else◌, filter, flat_map, is_none, is_some, length, nat_lt, option_and_then, option_map, option_to_list, position, slice_get, slice_index_or, slice_set}
 use Rattle.std.specs.List.{list_any, range_with_len}
-use Rattle.std.specs.Option.{option_map_or, option_or}
+use Rattle.std.specs.Option.{option_map_or}
 use Rattle.std.specs.Str.{bytes_eq}
 use Rattle.kc_text.specs.LineValue.{LineValue}
 use Rattle.kc_text.specs.declared.line.LineKind.{LineKind}
@@ -15,6 +15,7 @@ use Rattle.kc_facts.specs.declared.defaults_after.DefaultPlace.{DefaultPlace}
 use Rattle.kc_facts.specs.declared.defaults_after.UnusedDefault.{UnusedDefault}
 use Rattle.kc_facts.specs.Defaults.{is_free}
 use Rattle.kc_facts.specs.LineIndex.{line_of}
+use Rattle.kc_facts.specs.Numbers.{first_below}
 use Rattle.kc_facts.specs.Ranges as ranges
 
 -- ---- lines that were read before
@@ -48,11 +49,6 @@ is_always_given t n d = is_some (free_place n d) && ranges.is_free t n
 -- the definition of a number is one of a symbol, which always gives it a value
 abbrev pub always_gives : TreeValue → ℕ → ℕ → Bool
 always_gives t s n = option_map_or (λ d. (d.symbol.0 == s) && is_always_given t n d) (slice_get t.definitions n) false
-
--- the least number below another that passes a test
-abbrev pub first_below : (ℕ → Bool) → ℕ → Option ℕ
-first_below test zero = None
-first_below test (suc n) = option_or (first_below test n) (if test n then Some n else None)
 
 abbrev pub free_place_at : TreeValue → ℕ → Option DefaultPlace
 free_place_at t n = option_and_then (free_place n) (slice_get t.definitions n)

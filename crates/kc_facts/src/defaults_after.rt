@@ -6,9 +6,9 @@ ghost use Rattle.kc_facts.specs.UnusedDefaults.{counts_before, free_place, free_
 
 use crate::defaults::free_default_before;
 use crate::line_index::LineIndex;
+use crate::noted::noted_at;
 use crate::ranges::is_free;
 use crate::read_again::{ends_of, is_defined_again};
-use crate::taken_lines::noted_at;
 use kc_text::Line;
 use kc_tree::{Definition, Tree};
 use std::alloc::{AllocError, Global};

@@ -1,14 +1,10 @@
 //! What reports say of a tree, of its values and of the lines of its files, as facts: which line each part comes from, what
-//! became of each line of a fragment, what is selected against its dependencies, which ranges and defaults can't be meant,
-//! the rows of the menu, and expressions, values and reasons as text. Nothing here depends on which report asks.
+//! is selected against its dependencies, which ranges and defaults can't be meant, the rows of the menu, and expressions,
+//! values and reasons as text. Nothing here depends on which report asks.
 #![tactic(auto)]
 
 mod attributes;
-mod beginning;
 mod changes;
-mod comment_words;
-mod config_names;
-mod counts;
 mod culprits;
 mod culprits_of_choices;
 mod culprits_of_symbols;
@@ -22,18 +18,13 @@ mod factor_lines;
 mod finding;
 mod forced;
 mod forced_definitions;
-mod fragments;
-mod input;
 mod leaves;
-mod line_facts;
 mod line_index;
-mod lines_of_text;
 mod listed_definitions;
 mod listed_reasons;
 mod listed_reverses;
 mod loop_step;
 mod loop_steps;
-mod lost_backslashes;
 mod low_parts;
 mod low_values;
 mod meant_names;
@@ -45,11 +36,10 @@ mod named_uses;
 mod near_name;
 mod near_names;
 mod needs;
+mod noted;
 mod one_step;
 mod open_numbers;
-mod outcomes;
 mod parts;
-mod quoted_bytes;
 mod range_faults;
 mod ranges;
 mod read_again;
@@ -62,11 +52,9 @@ mod showing;
 mod shown;
 mod sought;
 mod sourced_twice;
-mod taken_lines;
 mod tristates_without_modules;
 mod undefined_names;
 mod unseen_choices;
-mod unset_comments;
 mod unset_symbols;
 mod valued_factors;
 mod view;
@@ -75,7 +63,6 @@ mod words;
 
 pub use attributes::help_of;
 pub use changes::changes_up_to_two;
-pub use config_names::{NamedLine, has_name_bytes, name_in, named_lines};
 pub use culprits_of_choices::choice_culprits;
 pub use culprits_of_symbols::symbol_culprits;
 pub use defaults::{free_default_before, meant_tri};
@@ -83,7 +70,6 @@ pub use explanation::{Explanation, Place, Remark};
 pub use expressions::{push_expr, push_quoted, push_term, push_valued_expr, push_valued_term};
 pub use factor_lines::{FactorLines, is_if, part_of_factor};
 pub use finding::{Finding, Mention, WordedPart, explain_parts, explain_worded_parts};
-pub use input::Input;
 pub use leaves::leaves_of;
 pub use line_index::{LineIndex, is_attribute, push_place};
 pub use listed_definitions::{
@@ -112,24 +98,17 @@ pub use valued_factors::{push_choice, push_valued_factor, push_valued_factors};
 pub use view::View;
 pub use words::{push_line, push_user, push_value, push_valued, type_name, type_words};
 
-// What is found in lines of a `.config` and of fragments, and in a tree.
-pub use counts::MergeCounts;
+// What is found in a tree.
 pub use default_faults::{DefaultFault, FaultyDefault, faulty_defaults, range_of};
 pub use defaults_after::{DefaultPlace, UnusedDefault, unused_defaults};
 pub use doubtful_uses::DoubtfulUse;
 pub use forced_definitions::{Forced, forced_symbols};
-pub use fragments::{FragmentLine, FragmentLines, read_fragments};
-pub use line_facts::{FoundInLine, LineFact, found_in_lines, reported_of};
-pub use lost_backslashes::{DroppedBackslash, dropped_backslashes};
 pub use member_selections::{AttributePlace, selected_members, token_word};
 pub use name_readings::NameReading;
 pub use named_uses::name_of;
-pub use outcomes::{Outcome, outcomes_of};
 pub use range_faults::exchanged_ranges;
 pub use sourced_twice::{RepeatedFile, repeated_files};
-pub use taken_lines::{assign_at, giving_lines};
 pub use tristates_without_modules::never_modules;
 pub use undefined_names::{DoubtfulName, doubtful_names};
 pub use unseen_choices::hidden_choices;
-pub use unset_comments::{MeantComment, meant_comments};
 pub use unset_symbols::unset_definitions;

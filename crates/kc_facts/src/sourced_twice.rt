@@ -7,9 +7,9 @@ ghost use Rattle.std.specs.Str.{bytes_eq};
 ghost use Rattle.kc_facts.specs.Culprits.{first_with};
 ghost use Rattle.kc_facts.specs.SourcedFiles.{has_statement, if_earlier, is_statement, lent_first, lent_first_before, noted_run, repeated_files, repeated_with};
 
+use crate::noted::noted_at;
 use crate::open_numbers::{OpenNumbers, pass_lines};
 use crate::read_again::ends_of;
-use crate::taken_lines::noted_at;
 use kc_statement::read_keyword;
 use kc_text::Line;
 use kc_tree::Tree;

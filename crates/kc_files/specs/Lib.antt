@@ -22,3 +22,9 @@ pub mod LoadingSteps
 pub mod NumberedLines
 pub mod Effects
 pub mod Fates
+pub mod Outcomes
+pub mod LineFacts
+pub mod CommentWords
+pub mod MeantComments
+pub mod QuotedBytes
+pub mod DroppedBackslashes

@@ -29,8 +29,8 @@ fn is_name_byte(byte: u8) -> bool
     byte.is_ascii_alphanumeric() || byte == b'_'
 }
 
-/// Whether all bytes of a text are bytes of names.
-pub(crate) fn has_name_bytes(text: &str) -> bool
+/// Whether a text has the bytes of names alone: ASCII letters, digits and `_`.
+pub fn has_name_bytes(text: &str) -> bool
     ensures { result ≡ list_all is_name_byte text.now }
 {
     text.as_bytes().iter().all(|byte| is_name_byte(*byte))

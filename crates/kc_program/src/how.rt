@@ -12,8 +12,10 @@ use kc_check::{
     EffectsBefore, HowCounts, LostLine, Need, effects_before, how_costs, push_how_counts,
     push_needed_line, push_not_found, push_unusable_lines,
 };
-use kc_facts::{Input, LineIndex, View, read_fragments};
-use kc_files::{Assign, Prefix, ReadFault, Warning, WarningKind, has_effect, read_config};
+use kc_facts::{LineIndex, View};
+use kc_files::{
+    Assign, Input, Prefix, ReadFault, Warning, WarningKind, has_effect, read_config, read_fragments,
+};
 use kc_how::{answer, fragment_text, needed_for, plain_candidates};
 use kc_how_search::{Search, candidates};
 use kc_report::push_definitions_of;

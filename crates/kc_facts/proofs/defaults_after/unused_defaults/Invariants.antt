@@ -1,6 +1,7 @@
 use Rattle.std.proofs.Common.{◌≡◌, ◌<◌, ℕ, None, length, get_or}
 use Rattle.std.specs.List.{flat_map, range_with_len}
-use Rattle.kc_facts.specs.UnusedDefaults.{always_gives, first_below, unused_by_number}
+use Rattle.kc_facts.specs.Numbers.{first_below}
+use Rattle.kc_facts.specs.UnusedDefaults.{always_gives, unused_by_number}
 use Rattle.kc_facts.proofs.defaults_after.unused_defaults.Given as goal
 
 -- those of the definitions so far, and which of these always give a symbol its value

@@ -9,12 +9,11 @@ use Rattle.std.specs.Ordering.{nat_cmp}
 use Rattle.std.proofs.lemmas.Option.{slice_get-get_or}
 use Rattle.std.proofs.lemmas.Slice.Eq.{bytes_eq-Decides}
 use Rattle.kc_facts.specs.DoubtfulNames.{is_named, name_of, named_at, named_by}
-use Rattle.kc_facts.specs.LineFacts.{last_below}
-use Rattle.kc_facts.specs.UnusedDefaults.{first_below}
+use Rattle.kc_facts.specs.Numbers.{first_below, last_below}
 use Rattle.kc_facts.specs.declared.name_readings.NameReading.TheVariants as reading
 use Rattle.kc_facts.specs.declared.named_uses.Passed.{Passed}
 use Rattle.kc_facts.proofs.DoubtfulLaws.{first_below_more, first_passed, last_passed, named_by_passed}
-use Rattle.kc_facts.proofs.LineFactLaws.{last_more}
+use Rattle.kc_facts.proofs.NumberLaws.{last_more}
 use Rattle.kc_facts.proofs.RangeLaws.{flat_map_next}
 use Rattle.kc_facts.proofs.named_uses.named_uses.Goals as goal
 

@@ -5,8 +5,7 @@ use Rattle.std.specs.Cmp.Lexicographic.{slice_cmp}
 use Rattle.std.specs.List.{flat_map, range_with_len}
 use Rattle.std.specs.Ordering.{nat_cmp}
 use Rattle.kc_facts.specs.DoubtfulNames.{is_named, named_at}
-use Rattle.kc_facts.specs.LineFacts.{last_below}
-use Rattle.kc_facts.specs.UnusedDefaults.{first_below}
+use Rattle.kc_facts.specs.Numbers.{first_below, last_below}
 use Rattle.kc_facts.proofs.named_uses.named_uses.Given as goal
 
 -- the first and the last use of each name so far, and the uses so far

@@ -1,5 +1,0 @@
-use Rattle.kc_facts.proofs.AfterLaws.{stripped}
-use Rattle.kc_facts.proofs.beginning.behind.Goals as goal
-
-pub returns : goal.returns
-returns c = stripped c.args.start.now c.args.text.now c.strip_prefix.result c.strip_prefix.ensures.cases
