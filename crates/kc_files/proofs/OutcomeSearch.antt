@@ -1,9 +1,9 @@
 -- A walk over lines from the last one back finds what becomes of each.
-use Rattle.std.proofs.Common.{◌≡◌, ℕ, ◌+◌, ◌-◌, ◌<◌, ◌≤◌, ◌==◌, Bool, true, false, not, ◌&&◌, if◌then◌else◌, List, [], ◌∷◌, ◌++◌, Option, Some, None, length, reverse, take, get_or, slice_set, refl, sym, ap, subst, ◌∙◌, append_assoc, append-nil, ⊎_elim, arith}
+use Rattle.std.proofs.Common.{◌≡◌, ℕ, ◌+◌, ◌-◌, ◌<◌, ◌≤◌, ◌==◌, Bool, true, false, not, ◌&&◌, if◌then◌else◌, List, [], ◌∷◌, ◌++◌, Option, Some, None, length, reverse, take, get_or, slice_set, refl, sym, ap, subst, ◌∙◌, append_assoc, append-nil, arith}
 use Rattle.std.specs.Prelude.{nat_lt, option_and_then}
 use Rattle.std.specs.Option.{option_map_or}
-use Rattle.std.proofs.lemmas.Bool.{cases_eq, eq-eqb, ne_eqb, ltb-true}
-use Rattle.std.proofs.lemmas.List.{get_or-set_same, get_or-set_other, length-append, length-replicate, length-set, get_or-replicate, reverse-append, reverse-reverse, take_all, take_more}
+use Rattle.std.proofs.lemmas.Bool.{ltb-true}
+use Rattle.std.proofs.lemmas.List.{length-append, length-replicate, length-set, get_or-replicate, reverse-append, reverse-reverse, take_all, take_more}
 use Rattle.std.proofs.lemmas.Option.{none-some, same_Some}
 use Rattle.kc_outline.specs.declared.id.ChoiceId.{ChoiceId}
 use Rattle.kc_outline.specs.TreeValue.{TreeValue, choice_of}
@@ -17,16 +17,8 @@ use Rattle.kc_files.specs.NumberedLines.{IsSaidFor}
 use Rattle.kc_files.specs.declared.fragments.FragmentLine.{FragmentLine}
 use Rattle.kc_files.specs.declared.outcomes.Later.{Later}
 use Rattle.kc_files.specs.declared.outcomes.Outcome.{Outcome}
+use Rattle.kc_files.proofs.LineFactLaws.{slot_set}
 use Rattle.kc_files.specs.Outcomes.{chosen_by, chosen_with, is_in, new_search, next_choosing, next_naming, number_in, outcome_by, outcome_of, outcomes, outcomes_from, replacer, replacer_in, searched_said, IsPlacedFor, SearchValue}
-
--- ---- tables of what was found last
-slot_set : {X : Type 0} (slots : List (Option X)) (s k : ℕ) (x r : Option X) → s < length slots → get_or slots k None ≡ r
-    → get_or (slice_set slots s x) k None ≡ (if s == k then x else r)
-slot_set slots s k x r inside e =
-    ⊎_elim
-    (λ same. ap (λ n. get_or (slice_set slots s x) n None) same ∙ get_or-set_same slots s x None inside ∙ sym (ap (λ b. if b then x else r) (eq-eqb s k (sym same))))
-    (λ other. get_or-set_other slots s k x None other ∙ e ∙ sym (ap (λ b. if b then x else r) (ne_eqb s k (λ same. other (sym same)))))
-    (cases_eq k s)
 
 -- ---- the choice that an assignment chooses a member of
 number_inside : (limit d c : ℕ) (b : Bool) → nat_lt d limit ≡ b → (if b then Some d else None) ≡ Some c → c < limit

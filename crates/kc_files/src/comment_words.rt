@@ -2,25 +2,18 @@
 
 ghost use Rattle.std.specs.Prelude.{◌≡◌, IfOk, map, option_map};
 ghost use Rattle.std.specs.Str.{bytes_eq};
-ghost use Rattle.kc_files.specs.ConfigLines.{is_trailing};
 ghost use Rattle.kc_files.specs.ReadingSteps.{after};
 ghost use Rattle.kc_files.specs.CommentWords.{is_unset_line, name_before, name_meant, say_unset, unset_line, words_in};
 
 use crate::beginning::after;
+use crate::config_lines::is_trailing;
 use std::alloc::{AllocError, Global};
 
-/// Whether a byte is between words: it is a space, a tab or a carriage return.
-fn is_blank(byte: u8) -> bool
-    ensures { result ≡ is_trailing byte }
-{
-    byte == b' ' || byte == b'\t' || byte == b'\r'
-}
-
-/// The words of a text.
+/// The words of a text: what is between spaces, tabs and carriage returns.
 fn words_in<'c>(alloc: Global, text: &'c [u8]) -> Result<Vec<&'c [u8]>, AllocError>
     ensures { IfOk result (λ words. map (λ word. word.now) words.items ≡ words_in text.now) }
 {
-    text.split(|byte| is_blank(*byte))
+    text.split(|byte| is_trailing(*byte))
         .filter(|word| !word.is_empty())
         .collect(alloc)
 }
@@ -64,7 +57,7 @@ fn is_unset_line(prefix: &[u8], name: &[u8], line: &[u8]) -> bool
     ensures { result ≡ is_unset_line prefix.now name.now line.now }
 {
     match after_unset(prefix, name, line) {
-        Some(rest) => rest.iter().all(|byte| is_blank(*byte)),
+        Some(rest) => rest.iter().all(|byte| is_trailing(*byte)),
         None => false,
     }
 }

@@ -31,7 +31,7 @@ pub(crate) fn first_line(text: &[u8]) -> (&[u8], &[u8])
 }
 
 /// Whether a byte means nothing at the end of a line: it is a space, a tab or a carriage return.
-fn is_trailing(byte: u8) -> bool
+pub(crate) fn is_trailing(byte: u8) -> bool
     ensures { result ≡ is_trailing byte }
 {
     byte == b' ' || byte == b'\t' || byte == b'\r'

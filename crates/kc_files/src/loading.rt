@@ -21,7 +21,8 @@ pub enum Load {
     Merge,
 }
 
-fn is_yes(value: &UserVal) -> bool
+/// Whether a value is y.
+pub(crate) fn is_yes(value: &UserVal) -> bool
     ensures { result ≡ is_yes value.now }
 {
     matches!(value, UserVal::Tri(Tri::Yes))

@@ -2,15 +2,15 @@
 
 ghost use Rattle.std.specs.Prelude.{◌≡◌, ◌<◌, All, IfOk, OnOk, length, reverse};
 ghost use Rattle.kc_files.specs.Effects.{IsSaidInside};
-ghost use Rattle.kc_files.specs.Loading.{is_yes};
 ghost use Rattle.kc_value.specs.Assignment.{assignment_of};
 ghost use Rattle.kc_files.specs.Outcomes.{IsPlacedFor, chosen_by, is_in, new_search, outcomes, outcome_by, replacer_in, searched_assign, searched_said};
 
 use crate::assign::Assign;
 use crate::effects::has_effect;
 use crate::fragments::FragmentLine;
+use crate::loading::is_yes;
 use crate::numbered_lines::LineSays;
-use kc_tree::{Tree, Tri, UserVal};
+use kc_tree::Tree;
 use kc_value::NodeValues;
 use std::alloc::{AllocError, Global};
 use std::marker::Model;
@@ -43,12 +43,6 @@ fn is_in(fragment: usize, line: Option<Later>) -> bool
         Some(later) => later.fragment == fragment,
         None => false,
     }
-}
-
-fn is_yes(value: &UserVal) -> bool
-    ensures { result ≡ is_yes value.now }
-{
-    matches!(value, UserVal::Tri(Tri::Yes))
 }
 
 /// The number of the choice of a tree that an assignment chooses a member of: that of a member that it sets to y.
