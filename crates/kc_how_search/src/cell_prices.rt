@@ -220,15 +220,21 @@ impl<'p, 'c> Prices<'p, 'c> {
             .and(self.expr(&default.value))
     }
 
+    /// Those of the greatest of something and what the defaults of a definition give.
+    fn or_defaults(&self, costs: Costs, number: usize, definition: &Definition) -> Costs {
+        let mut costs = costs;
+        for default in definition.defaults() {
+            costs = costs.or(self.default(number, default));
+        }
+        costs
+    }
+
     /// Those of the greatest that the defaults of a symbol give.
     fn defaults(&self, symbol: &Symbol) -> Costs {
         let mut costs = Costs::of_constant(Tri::No);
         for number in symbol.definitions() {
-            let Some(definition) = self.tree.definitions().get(*number) else {
-                continue;
-            };
-            for default in definition.defaults() {
-                costs = costs.or(self.default(*number, default));
+            if let Some(definition) = self.tree.definitions().get(*number) {
+                costs = self.or_defaults(costs, *number, definition);
             }
         }
         costs

@@ -188,10 +188,16 @@ impl<'t> Finder<'t> {
         if !matches!(&way.deed, Deed::Nothing) {
             self.agenda.push(Task::Deed(way.deed, goal))?;
         }
-        for first in way.goals.iter().rev() {
-            self.agenda.push(Task::Goal(*first, 0))?;
-        }
+        self.add_goals(way.goals.as_slice())?;
         Ok(true)
+    }
+
+    /// Adds goals to what is to be done, the first on top. The error comes where memory is refused.
+    fn add_goals(&mut self, goals: &[Goal<'t>]) -> Result<(), AllocError> {
+        for goal in goals.iter().rev() {
+            self.agenda.push(Task::Goal(*goal, 0))?;
+        }
+        Ok(())
     }
 
     /// Does a deed, unless its goal holds; false where it is against what is pinned. The error comes where memory is
@@ -222,32 +228,52 @@ impl<'t> Finder<'t> {
         Ok(false)
     }
 
+    /// Lists the goals of a wanted value that do not hold; false where all do. The error comes where memory is refused.
+    fn add_missed(
+        &mut self,
+        missed: &mut Vec<Goal<'t>>,
+        assign: &Assign,
+    ) -> Result<bool, AllocError> {
+        let mut is_missed = false;
+        for goal in self.goals_of(assign)? {
+            if !self.holds(goal)? {
+                missed.push(goal)?;
+                is_missed = true;
+            }
+        }
+        Ok(is_missed)
+    }
+
     /// Adds the goals that what is wanted holds, of what does not, the first on top; the place of the first that does
     /// not. The error comes where memory is refused.
     fn add_wanted(&mut self, wanted: &[Assign]) -> Result<Option<usize>, AllocError> {
         let mut missed = Vec::new(self.alloc);
         let mut first = None;
         for (place, assign) in wanted.iter().enumerate() {
-            for goal in self.goals_of(assign)? {
-                if !self.holds(goal)? {
-                    missed.push(goal)?;
-                    first = first.or(Some(place));
-                }
+            if self.add_missed(&mut missed, assign)? {
+                first = first.or(Some(place));
             }
         }
-        for goal in missed.iter().rev() {
-            self.agenda.push(Task::Goal(*goal, 0))?;
-        }
+        self.add_goals(missed.as_slice())?;
         Ok(first)
+    }
+
+    /// Pins the goals of a wanted value; false where one is against what is pinned. The error comes where memory is
+    /// refused.
+    fn pin_value(&mut self, assign: &Assign) -> Result<bool, AllocError> {
+        for goal in self.goals_of(assign)? {
+            if !self.pin(goal)? {
+                return Ok(false);
+            }
+        }
+        Ok(true)
     }
 
     /// Pins what is wanted; false where some of it is against other. The error comes where memory is refused.
     fn pin_wanted(&mut self, wanted: &[Assign]) -> Result<bool, AllocError> {
         for assign in wanted {
-            for goal in self.goals_of(assign)? {
-                if !self.pin(goal)? {
-                    return Ok(false);
-                }
+            if !self.pin_value(assign)? {
+                return Ok(false);
             }
         }
         Ok(true)

@@ -68,6 +68,25 @@ struct Paths {
 }
 
 impl Paths {
+    /// The run without turns, which is the first to be tried. The error comes where memory is refused.
+    fn new(alloc: Global) -> Result<Paths, AllocError> {
+        let mut waiting = Vec::new(alloc);
+        waiting.push(Path {
+            turns: Vec::new(alloc),
+            cost: 0,
+        })?;
+        Ok(Paths {
+            alloc,
+            waiting,
+            found: Vec::new(alloc),
+            missed: Vec::new(alloc),
+            steps: 0,
+            first: None,
+            is_good: false,
+            is_spent: false,
+        })
+    }
+
     /// The cheapest run that is to be tried.
     fn next(&mut self) -> Option<Path> {
         let mut cheapest: Option<(usize, u32)> = None;
@@ -187,20 +206,7 @@ pub fn candidates<'a>(
     let nothing = NodeValues::empty(alloc, 0)?;
     let blank = Known::of_nodes(tree, &nothing);
     let mut finder = Finder::new(alloc, tree, &blank, user)?;
-    let mut paths = Paths {
-        alloc,
-        waiting: Vec::new(alloc),
-        found: Vec::new(alloc),
-        missed: Vec::new(alloc),
-        steps: 0,
-        first: None,
-        is_good: false,
-        is_spent: false,
-    };
-    paths.waiting.push(Path {
-        turns: Vec::new(alloc),
-        cost: 0,
-    })?;
+    let mut paths = Paths::new(alloc)?;
     for _ in 0..MOST_RUNS {
         if paths.is_over() {
             break;

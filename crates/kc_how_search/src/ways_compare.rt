@@ -2,7 +2,9 @@
 
 use crate::finder::Finder;
 use crate::goals::{Deed, Goal, Way};
-use kc_tree::{Comparison, Node, Operands, SymId, SymbolType, Term, Tri, lone_term, numeral};
+use kc_tree::{
+    Comparison, Definition, Node, Operands, SymId, SymbolType, Term, Tri, lone_term, numeral,
+};
 use std::alloc::AllocError;
 use std::cmp::Ordering;
 
@@ -221,14 +223,27 @@ impl<'t> Finder<'t> {
         };
         let tree = self.tree;
         for number in found.definitions() {
-            let Some(definition) = tree.definitions().get(*number) else {
-                continue;
-            };
-            for default in definition.defaults() {
-                if let Some(term) = lone_term(&default.value) {
-                    let text = self.term_text(term)?;
-                    self.add_text(ways, wanted, symbol, text.as_str(), other)?;
-                }
+            if let Some(definition) = tree.definitions().get(*number) {
+                self.add_texts_in(ways, wanted, symbol, definition, other)?;
+            }
+        }
+        Ok(())
+    }
+
+    /// Adds a way for each text of a default of a symbol's definition that is as wanted. The error comes where memory is
+    /// refused.
+    fn add_texts_in(
+        &mut self,
+        ways: &mut Vec<Way<'t>>,
+        wanted: Wanted,
+        symbol: SymId,
+        definition: &Definition,
+        other: &Side,
+    ) -> Result<(), AllocError> {
+        for default in definition.defaults() {
+            if let Some(term) = lone_term(&default.value) {
+                let text = self.term_text(term)?;
+                self.add_text(ways, wanted, symbol, text.as_str(), other)?;
             }
         }
         Ok(())

@@ -129,8 +129,8 @@ impl<'t> Finder<'t> {
         Ok(())
     }
 
-    /// The goals by each of which what a definition depends on is at most a value; none where it is already. The error comes
-    /// where memory is refused.
+    /// The goals by each of which what a definition depends on is at most a value: an empty list where it is already, or
+    /// where there are none. The error comes where memory is refused.
     fn low_goals(&mut self, number: usize, bound: Tri) -> Result<Vec<Goal<'t>>, AllocError> {
         let factors = dependency_factors(self.alloc, self.blank, number)?;
         let goals = self.low_factors(factors, bound)?;

@@ -29,9 +29,7 @@ impl<'t> Finder<'t> {
         let text = self.text_at(place)?;
         let ranges = self.ranges_for(id, symbol, text.as_str())?;
         for number in symbol.definitions() {
-            for range in ranges.as_slice() {
-                self.add_text_line(&mut ways, id, place, *number, range.as_slice())?;
-            }
+            self.add_text_lines(&mut ways, id, place, *number, ranges.as_slice())?;
         }
         if !self.trial.is_given(id)? {
             self.add_text_defaults(&mut ways, symbol, text.as_str(), ranges.as_slice())?;
@@ -43,18 +41,21 @@ impl<'t> Finder<'t> {
         Ok(ways)
     }
 
-    /// Adds the way by a line, where a definition has a prompt. The error comes where memory is refused.
-    fn add_text_line(
+    /// Adds the ways by a line, where a definition has a prompt: one for each list of goals with which the text is in the
+    /// range that counts. The error comes where memory is refused.
+    fn add_text_lines(
         &self,
         ways: &mut Vec<Way<'t>>,
         id: SymId,
         place: usize,
         number: usize,
-        range: &[Goal<'t>],
+        ranges: &[Vec<Goal<'t>>],
     ) -> Result<(), AllocError> {
-        if let Some(mut goals) = self.prompt_goals(number, Tri::Module)? {
-            goals.extend_from_slice(range)?;
-            self.add_way(ways, goals, Deed::GiveText(id, place), TEXT_LINE)?;
+        for range in ranges {
+            if let Some(mut goals) = self.prompt_goals(number, Tri::Module)? {
+                goals.extend_from_slice(range.as_slice())?;
+                self.add_way(ways, goals, Deed::GiveText(id, place), TEXT_LINE)?;
+            }
         }
         Ok(())
     }
@@ -125,16 +126,29 @@ impl<'t> Finder<'t> {
         highs: &[Option<Goal<'t>>],
     ) -> Result<(), AllocError> {
         for low in lows {
-            for high in highs {
-                let mut list = Vec::from_slice(self.alloc, goals)?;
-                if let Some(goal) = low {
-                    list.push(*goal)?;
-                }
-                if let Some(goal) = high {
-                    list.push(*goal)?;
-                }
-                lists.push(list)?;
+            self.add_highs(lists, goals, *low, highs)?;
+        }
+        Ok(())
+    }
+
+    /// Adds a list for each way of the upper side of a range, by a way of the lower side. The error comes where memory is
+    /// refused.
+    fn add_highs(
+        &self,
+        lists: &mut Vec<Vec<Goal<'t>>>,
+        goals: &[Goal<'t>],
+        low: Option<Goal<'t>>,
+        highs: &[Option<Goal<'t>>],
+    ) -> Result<(), AllocError> {
+        for high in highs {
+            let mut list = Vec::from_slice(self.alloc, goals)?;
+            if let Some(goal) = low {
+                list.push(goal)?;
             }
+            if let Some(goal) = high {
+                list.push(*goal)?;
+            }
+            lists.push(list)?;
         }
         Ok(())
     }
@@ -304,18 +318,32 @@ impl<'t> Finder<'t> {
         let mut before = Vec::new(self.alloc);
         let tree = self.tree;
         for place in symbol.definitions() {
-            let Some(definition) = tree.definitions().get(*place) else {
-                continue;
-            };
-            for range in definition.ranges() {
-                let mut goals = Vec::from_slice(self.alloc, before.as_slice())?;
-                self.add_condition(&mut goals, range.condition.as_ref(), Tri::Module)?;
-                self.add_dependencies(&mut goals, *place, Tri::Module)?;
-                self.add_clamp(ways, id, goals.as_slice(), &range.low, text)?;
-                self.add_clamp(ways, id, goals.as_slice(), &range.high, text)?;
-                if !self.add_before(&mut before, range.condition.as_ref())? {
-                    break;
-                }
+            if let Some(definition) = tree.definitions().get(*place) {
+                self.add_range_clamps(ways, &mut before, id, *place, definition, text)?;
+            }
+        }
+        Ok(())
+    }
+
+    /// Adds the ways by the ranges of a definition. Before each of them those before it do not count. The error comes
+    /// where memory is refused.
+    fn add_range_clamps(
+        &mut self,
+        ways: &mut Vec<Way<'t>>,
+        before: &mut Vec<Goal<'t>>,
+        id: SymId,
+        place: usize,
+        definition: &'t Definition,
+        text: &str,
+    ) -> Result<(), AllocError> {
+        for range in definition.ranges() {
+            let mut goals = Vec::from_slice(self.alloc, before.as_slice())?;
+            self.add_condition(&mut goals, range.condition.as_ref(), Tri::Module)?;
+            self.add_dependencies(&mut goals, place, Tri::Module)?;
+            self.add_clamp(ways, id, goals.as_slice(), &range.low, text)?;
+            self.add_clamp(ways, id, goals.as_slice(), &range.high, text)?;
+            if !self.add_before(before, range.condition.as_ref())? {
+                break;
             }
         }
         Ok(())
