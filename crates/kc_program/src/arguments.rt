@@ -378,7 +378,7 @@ fn undefined_option<'a>(alloc: Global) -> Arg<'a> {
         .long("undefined")
         .action(ArgAction::SetTrue)
         .help(
-            "Lists all undefined names, not only those that are likely mistakes, and the symbols that nothing sets",
+            "Lists all undefined names, symbols that nothing sets, unused variables, and defaults of choices that are never visible",
         )
 }
 
