@@ -1,6 +1,7 @@
 pub mod BlockLaws
 pub mod CulpritLaws
 pub mod ForcedLaws
+pub mod FreshLaws
 pub mod HelpLaws
 pub mod HiddenLaws
 pub mod LoopLaws
@@ -13,4 +14,5 @@ pub mod SourcedLaws
 pub mod StartLaws
 pub mod DoubtfulLaws
 pub mod UnusedLaws
+pub mod VariableLaws
 pub mod WhyLaws

@@ -5,7 +5,9 @@ pub mod DoubtfulNames
 pub mod DoubtfulUses
 pub mod FactorPlaces
 pub mod FaultyDefaults
+pub mod FileVariables
 pub mod Forced
+pub mod FreshNames
 pub mod HiddenChoices
 pub mod LineIndex
 pub mod LoopSteps
