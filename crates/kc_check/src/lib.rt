@@ -13,6 +13,7 @@ mod meant_lines;
 mod merge_lines;
 mod merging;
 mod missing_variables;
+mod reading_order;
 mod selections;
 mod shown_values;
 mod sourced_files;

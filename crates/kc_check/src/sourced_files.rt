@@ -1,7 +1,10 @@
 //! Files that are put in place twice, where the first time is enough.
 
 use crate::finding::Finding;
+use crate::reading_order::files_by_run;
+use crate::variables::Variables;
 use kc_facts::RepeatedFile;
+use kc_text::Line;
 use std::alloc::{AllocError, Global};
 use std::collections::BTreeMap;
 
@@ -15,27 +18,41 @@ pub(crate) struct SourceLine<'p> {
 
 /// The `source` lines on the way through the lines of a Kconfig.
 #[derive(Drop)]
-pub(crate) struct SourcedFiles<'p> {
-    /// By the number of the putting in place that each makes.
-    lines: BTreeMap<usize, SourceLine<'p>>,
-    /// The putting in place of files that others have made superfluous.
+pub(crate) struct SourcedFiles<'v, 'i> {
+    variables: &'v Variables<'i>,
+    /// Of each time that a file is put in place, by its number, which file it is.
+    files_by_run: BTreeMap<usize, usize>,
+    /// By the number of the time that a file is put in place, the line that does it.
+    lines: BTreeMap<usize, SourceLine<'v>>,
+    /// The times that others have made superfluous.
     repeated: Vec<RepeatedFile>,
     /// How many of these were passed.
     passed: usize,
 }
 
-impl<'p> SourcedFiles<'p> {
+impl<'v, 'i> SourcedFiles<'v, 'i> {
     /// Before the first line.
-    pub fn new(alloc: Global, repeated: Vec<RepeatedFile>) -> SourcedFiles<'p> {
-        SourcedFiles {
+    ///
+    /// # Errors
+    ///
+    /// `AllocError` where memory is refused.
+    pub fn new(
+        alloc: Global,
+        variables: &'v Variables<'i>,
+        lines: &[Line<'_>],
+        repeated: Vec<RepeatedFile>,
+    ) -> Result<SourcedFiles<'v, 'i>, AllocError> {
+        Ok(SourcedFiles {
+            variables,
+            files_by_run: files_by_run(alloc, variables, lines)?,
             lines: BTreeMap::new(alloc),
             repeated,
             passed: 0,
-        }
+        })
     }
 
-    /// Comes to a `source` line that puts the file of a path in place, for which there is a number: adds that an earlier
-    /// one has made it superfluous.
+    /// Comes to a line that puts a file in place the time of a number: gives that an earlier one has made it superfluous,
+    /// if it has.
     ///
     /// # Errors
     ///
@@ -44,22 +61,30 @@ impl<'p> SourcedFiles<'p> {
         &mut self,
         alloc: Global,
         run: usize,
-        path: &str,
-        line: SourceLine<'p>,
-        found: &mut Vec<Finding>,
-    ) -> Result<(), AllocError> {
+        line: SourceLine<'v>,
+    ) -> Result<Option<Finding>, AllocError> {
         self.lines.insert(run, line)?;
         let next = self.repeated.get(self.passed).copied();
         let Some(repeated) = next.filter(|repeated| repeated.run == run) else {
-            return Ok(());
+            return Ok(None);
         };
         self.passed = self.passed.saturating_add(1);
-        if let Some(first) = self.lines.get(&repeated.first).copied() {
-            let before = first.path;
-            let number = first.line;
-            let words = format!(in alloc; "{path} is sourced in {before}:{number}, too")?;
-            found.push(Finding::in_line(alloc, line.path, line.line, "", words)?)?;
+        let Some(first) = self.lines.get(&repeated.first).copied() else {
+            return Ok(None);
+        };
+        let path = self.path_of(run);
+        let before = first.path;
+        let number = first.line;
+        let words = format!(in alloc; "{path} is sourced in {before}:{number}, too")?;
+        Ok(Some(Finding::in_line(alloc, line.path, line.line, "", words)?))
+    }
+
+    /// The path of the file that is put in place the time of a number.
+    fn path_of(&self, run: usize) -> &'i str {
+        let file = self.files_by_run.get(&run).copied().unwrap_or(0);
+        match self.variables.files().get(file) {
+            Some(file) => file.path,
+            None => "",
         }
-        Ok(())
     }
 }

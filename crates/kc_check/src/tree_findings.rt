@@ -2,7 +2,7 @@
 
 use crate::finding::{Finding, Findings};
 use crate::inputs::{CheckInputs, Extent};
-use crate::missing_variables::MissingVariables;
+use crate::missing_variables::earlier_findings;
 use crate::tree_facts::{Here, TreeFacts};
 use crate::undefined_names::UndefinedNames;
 use crate::variables::Variables;
@@ -22,20 +22,24 @@ pub(crate) fn tree_findings(
     view: &View<'_>,
     index: &LineIndex<'_, '_>,
     inputs: &CheckInputs<'_, '_>,
-    variables: &Variables,
+    variables: &Variables<'_>,
     extent: Extent,
     findings: &mut Findings,
 ) -> Result<(), AllocError> {
     let tree = view.tree();
     let prefix = inputs.prefix.as_str();
-    let mut missing = MissingVariables::new(alloc, tree, variables, inputs)?;
+    let mut earlier = earlier_findings(alloc, tree, variables, inputs)?
+        .into_iter()
+        .peekable();
     let mut undefined = UndefinedNames::of(alloc, tree, inputs.lines, prefix, extent)?;
     let mut facts = TreeFacts::of(alloc, view, index, extent)?;
     let mut walk = Walk::new();
     let mut all = Vec::new(alloc);
     for (number, line) in inputs.lines.iter().enumerate() {
         let placed = walk.place(line);
-        missing.come_to(alloc, line, &mut all)?;
+        while let Some(next) = earlier.next_if(|next| next.before == number) {
+            all.push(next.finding)?;
+        }
         let here = Here { view, index, line };
         facts.come_to(alloc, &here, &placed, &mut all)?;
         undefined.check(alloc, line, number, &placed, &mut all)?;

@@ -5,6 +5,7 @@ pub mod FreshLaws
 pub mod HelpLaws
 pub mod HiddenLaws
 pub mod LoopLaws
+pub mod NearLaws
 pub mod NthLaws
 pub mod NumberLaws
 pub mod PartLaws
