@@ -2,10 +2,10 @@
 
 use crate::config_findings::config_findings;
 use crate::finding::Findings;
-use crate::inputs::{CheckInputs, Extent};
+use crate::inputs::CheckInputs;
 use crate::tree_findings::tree_findings;
 use crate::variables::Variables;
-use kc_facts::{LineIndex, View};
+use kc_facts::{Extent, LineIndex, View};
 use kc_files::ReadFault;
 use kc_text::Text;
 use std::alloc::Global;

@@ -26,12 +26,3 @@ pub struct CheckInputs<'a, 'l> {
     /// The files of the Kconfig, each once.
     pub sources: &'a [SourceText<'a>],
 }
-
-/// Which names that are defined nowhere are listed.
-#[derive(Clone, Copy, Debug, PartialEq, Eq)]
-pub enum Extent {
-    /// Those that are likely mistakes: near a defined name, with the prefix of names, or as the value of a symbol.
-    Near,
-    /// All.
-    All,
-}

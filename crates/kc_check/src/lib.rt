@@ -34,5 +34,5 @@ pub use how_lines::{
     HowCosts, HowCounts, LostLine, Need, how_costs, push_how_counts, push_needed_line,
     push_not_found, push_unusable_lines,
 };
-pub use inputs::{CheckInputs, Extent, SourceText};
+pub use inputs::{CheckInputs, SourceText};
 pub use merging::{MergeReport, merge_report};

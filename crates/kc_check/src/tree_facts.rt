@@ -1,16 +1,15 @@
 //! The facts of a tree that `check` reports, passed in the order of their lines.
 
 use crate::finding::Finding;
-use crate::inputs::Extent;
 use crate::selections::{add_forced, add_member};
 use crate::unset_symbols::{add_never_modules, add_unset};
 use crate::unused_defaults::{add_hidden_default, add_unused_default};
 use crate::values::{add_default, add_range};
 use crate::walk::{Part, Placed};
 use kc_facts::{
-    AttributePlace, FaultyDefault, Forced, LineIndex, UnusedDefault, View, exchanged_ranges,
-    faulty_defaults, forced_symbols, hidden_choices, never_modules, selected_members,
-    unset_definitions, unused_defaults,
+    AttributePlace, Extent, FaultyDefault, Forced, LineIndex, UnusedDefault, View,
+    exchanged_ranges, faulty_defaults, forced_symbols, hidden_choices, never_modules,
+    selected_members, unset_definitions, unused_defaults,
 };
 use kc_statement::Keyword;
 use kc_text::Line;

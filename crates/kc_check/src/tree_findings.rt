@@ -1,13 +1,13 @@
 //! What is found in a tree, line by line.
 
 use crate::finding::{Finding, Findings};
-use crate::inputs::{CheckInputs, Extent};
+use crate::inputs::CheckInputs;
 use crate::missing_variables::earlier_findings;
 use crate::tree_facts::{Here, TreeFacts};
 use crate::undefined_names::UndefinedNames;
 use crate::variables::Variables;
 use crate::walk::Walk;
-use kc_facts::{LineIndex, View};
+use kc_facts::{Extent, LineIndex, View};
 use std::alloc::{AllocError, Global};
 use std::collections::BTreeSet;
 

@@ -1,13 +1,12 @@
 //! Names in expressions, and after `select` and `imply`, that no line defines.
 
 use crate::finding::Finding;
-use crate::inputs::Extent;
 use crate::long_words::differ_in_long_word;
 use crate::selections::owner_name;
 use crate::walk::Placed;
 use kc_facts::{
-    DoubtfulName, NameReading, NearNames, doubtful_names, name_of, push_meant, symbol_names,
-    type_words,
+    DoubtfulName, Extent, NameReading, NearNames, doubtful_names, is_listed, name_of, push_meant,
+    symbol_names, type_words,
 };
 use kc_statement::is_name;
 use kc_text::Line;
@@ -89,7 +88,13 @@ impl<'i, 'l, 't> UndefinedNames<'i, 'l, 't> {
             };
             let name = name_of(self.lines, doubtful.used);
             let meant = self.meant(&doubtful, name, owner_of(self.tree, placed));
-            if self.is_listed(&doubtful, name, meant) {
+            if is_listed(
+                self.lines,
+                self.prefix,
+                self.extent,
+                meant.is_some(),
+                &doubtful,
+            ) {
                 self.unlisted.remove(&doubtful.first);
                 let words = words_of(alloc, name, doubtful.used.reading, meant)?;
                 let owner = owner_name(self.tree, placed);
@@ -105,17 +110,6 @@ impl<'i, 'l, 't> UndefinedNames<'i, 'l, 't> {
         left.iter()
             .take_while(|doubtful| doubtful.used.line <= line)
             .count()
-    }
-
-    /// Whether a name in a line is listed, by what it may have been meant as.
-    fn is_listed(&self, doubtful: &DoubtfulName, name: &str, meant: Option<&'t str>) -> bool {
-        let is_always = match doubtful.used.reading {
-            NameReading::Condition(_) | NameReading::Default => true,
-            NameReading::No | NameReading::Text | NameReading::Select | NameReading::Imply => {
-                self.extent == Extent::All && is_name(name)
-            }
-        };
-        is_always || meant.is_some() || self.bare(name).is_some()
     }
 
     /// What a name in a line may have been meant as: the name without the prefix, or one that it is near and differs from

@@ -10,6 +10,7 @@ pub mod Forced
 pub mod FreshNames
 pub mod HiddenChoices
 pub mod LineIndex
+pub mod ListedNames
 pub mod LoopSteps
 pub mod MenuTree
 pub mod NameReadings

@@ -21,6 +21,7 @@ mod forced_definitions;
 mod leaves;
 mod line_index;
 mod listed_definitions;
+mod listed_names;
 mod listed_reasons;
 mod listed_reverses;
 mod loop_step;
@@ -105,6 +106,7 @@ pub use default_faults::{DefaultFault, FaultyDefault, faulty_defaults, range_of}
 pub use defaults_after::{DefaultPlace, UnusedDefault, unused_defaults};
 pub use doubtful_uses::DoubtfulUse;
 pub use forced_definitions::{Forced, forced_symbols};
+pub use listed_names::{Extent, is_listed};
 pub use member_selections::{AttributePlace, selected_members, token_word};
 pub use name_readings::NameReading;
 pub use named_uses::name_of;

@@ -124,9 +124,9 @@ pub(crate) fn check_outcome(
         sources: sources.as_slice(),
     };
     let extent = if inputs.arguments.is_all {
-        kc_check::Extent::All
+        kc_facts::Extent::All
     } else {
-        kc_check::Extent::Near
+        kc_facts::Extent::Near
     };
     let findings = read_again(check(alloc, &view, &index, &checked, extent))?;
     let output = findings.to_text(alloc)?;
