@@ -1,23 +1,23 @@
 -- The variables to which the lines of a Kconfig file refer, and those that they define: kconfig-macro-language.rst,
 -- "Variables". Lines that are joined count as the first of them; a help text does neither.
-use Rattle.std.specs.Prelude.{ℕ, ◌+◌, Bool, false, ◌==◌, ◌||◌, ◌&&◌, List, [], ◌∷◌, ◌++◌, Some, None, codes, drop, if◌then◌else◌, map, nat_eq, option_map, option_to_list}
+use Rattle.std.specs.Prelude.{◌≡◌, ℕ, ◌+◌, Bool, false, ◌==◌, ◌||◌, ◌&&◌, List, [], ◌∷◌, ◌++◌, Some, None, codes, drop, if◌then◌else◌, map, nat_eq, option_map, option_to_list}
 use Rattle.std.specs.List.{starts_with}
 use Rattle.kc_text.specs.Bytes.{behind_blanks, is_blank}
 use Rattle.kc_text.specs.Defining.{definition_of}
 use Rattle.kc_text.specs.ItemLists.{ItemValue}
 use Rattle.kc_text.specs.LeadingItem.{BeginsWith}
-use Rattle.kc_text.specs.LineReferences.{line_references, value_references}
+use Rattle.kc_text.specs.LineReferences.{AreReferences, value_references}
 use Rattle.kc_facts.specs.declared.named_variables.NamedVariable.{NamedVariable}
 
 abbrev pub named_in : ℕ → List ℕ → NamedVariable
 named_in n name = record { line = n; name = name }
 
 -- the variables to which lines that are taken together refer: a definition those in its value
-abbrev pub names_used : ItemValue → List (List ℕ)
-names_used i = elim (definition_of i.text) [ Some d ↦ value_references d.value | None ↦ line_references i.text ]
+abbrev pub AreUsedIn : ItemValue → List (List ℕ) → Type 0
+AreUsedIn i names = elim (definition_of i.text) [ Some d ↦ names ≡ value_references d.value | None ↦ AreReferences i.text names ]
 
-abbrev pub uses_in : ℕ → ItemValue → List NamedVariable
-uses_in n i = map (named_in n) (names_used i)
+abbrev pub uses_at : ℕ → List (List ℕ) → List NamedVariable
+uses_at n names = map (named_in n) names
 
 -- the variable that they define, if they do
 abbrev pub definitions_in : ℕ → ItemValue → List NamedVariable
@@ -40,6 +40,6 @@ sources_in n i = elim (definition_of i.text) [ Some d ↦ [] | None ↦ if is_so
 -- lines after so many others of their file, with the uses of variables in them, their definitions, and the `source` lines
 pub data HaveVariables : ℕ → List (List ℕ) → List NamedVariable → List NamedVariable → List ℕ → Type 0 where
   no_lines : {n : ℕ} → HaveVariables n [] [] [] []
-  an_item : {n : ℕ} {lines after : List (List ℕ)} {i : ItemValue} {uses definitions : List NamedVariable} {sources : List ℕ}
-      → BeginsWith lines i after → HaveVariables (n + (i.more + 1)) after uses definitions sources
-      → HaveVariables n lines (uses_in (n + 1) i ++ uses) (definitions_in (n + 1) i ++ definitions) (sources_in (n + 1) i ++ sources)
+  an_item : {n : ℕ} {lines after : List (List ℕ)} {i : ItemValue} {names : List (List ℕ)} {uses definitions : List NamedVariable} {sources : List ℕ}
+      → BeginsWith lines i after → AreUsedIn i names → HaveVariables (n + (i.more + 1)) after uses definitions sources
+      → HaveVariables n lines (uses_at (n + 1) names ++ uses) (definitions_in (n + 1) i ++ definitions) (sources_in (n + 1) i ++ sources)

@@ -1,11 +1,11 @@
 //! The variables to which the lines of a Kconfig file refer, those that they define, and its `source` lines.
 
-ghost use Rattle.std.specs.Prelude.{◌≡◌, ◌≤◌, ◌++◌, ◌∷◌, [], length, map, if◌then◌else◌, IfOk, OnOk};
+ghost use Rattle.std.specs.Prelude.{◌≡◌, ◌≤◌, ◌++◌, ◌∷◌, [], ℕ, List, length, if◌then◌else◌, IfOk, OnOk};
 ghost use Rattle.std.specs.List.{prefix_len};
 ghost use Rattle.std.specs.Str.Lines.{lines};
 ghost use Rattle.kc_text.specs.Bytes.{is_blank};
-ghost use Rattle.kc_text.specs.Scanning.{names_of};
-ghost use Rattle.kc_facts.specs.FileVariables.{HaveVariables, begins_source, definitions_in, ends_word, is_source, named_in, sources_in, uses_in};
+ghost use Rattle.kc_text.specs.LineReferences.{lent_names};
+ghost use Rattle.kc_facts.specs.FileVariables.{AreUsedIn, HaveVariables, begins_source, definitions_in, ends_word, is_source, named_in, sources_in, uses_at};
 
 use kc_text::{FileItem, Text, leading_item, references_in, value_references_in};
 use std::alloc::{AllocError, Global};
@@ -47,7 +47,7 @@ fn push_names(
     line: usize,
     names: &[&str],
 ) -> Result<(), AllocError>
-    ensures { OnOk result (found.new.items ≡ found.old.items ++ map (named_in line) (names_of names.now)) }
+    ensures { OnOk result (found.new.items ≡ found.old.items ++ uses_at line (lent_names names.now)) }
 {
     for place in 0..names.len() {
         push_name(alloc, found, line, names[place])?;
@@ -104,7 +104,7 @@ fn push_item(
     line: usize,
     item: &FileItem<'_>,
 ) -> Result<(), AllocError>
-    ensures uses { OnOk result (found.new.uses.items ≡ found.old.uses.items ++ uses_in line item.now) }
+    ensures uses { OnOk result ((names : List (List ℕ)) × AreUsedIn item.now names × (found.new.uses.items ≡ found.old.uses.items ++ uses_at line names)) }
     ensures definitions { OnOk result (found.new.definitions.items ≡ found.old.definitions.items ++ definitions_in line item.now) }
     ensures sources { OnOk result (found.new.sources.items ≡ found.old.sources.items ++ sources_in line item.now) }
 {

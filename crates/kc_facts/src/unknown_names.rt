@@ -6,7 +6,7 @@ ghost use Rattle.std.specs.Cmp.Lexicographic.{slice_cmp};
 ghost use Rattle.std.specs.Option.{option_map_or};
 ghost use Rattle.std.specs.Ordering.{nat_cmp};
 ghost use Rattle.std.specs.Str.{bytes_eq};
-ghost use Rattle.kc_text.specs.Scanning.{names_of};
+ghost use Rattle.kc_text.specs.LineReferences.{lent_names};
 ghost use Rattle.kc_facts.specs.FreshNames.{fresh_places, is_among};
 
 use std::alloc::{AllocError, Global};
@@ -26,7 +26,7 @@ fn note<'n>(noted: &mut BTreeMap<&'n str, ()>, name: &'n str) -> Result<bool, Al
 /// Notes names.
 fn note_all<'n>(noted: &mut BTreeMap<&'n str, ()>, names: &[&'n str]) -> Result<(), AllocError>
     ensures { OnOk result ((q : List ℕ) → option_map_or (λ _. true) (get_by (λ k. slice_cmp nat_cmp q k.now) noted.new) false
-        ≡ (is_among (names_of names.now) q || option_map_or (λ _. true) (get_by (λ k. slice_cmp nat_cmp q k.now) noted.old) false)) }
+        ≡ (is_among (lent_names names.now) q || option_map_or (λ _. true) (get_by (λ k. slice_cmp nat_cmp q k.now) noted.old) false)) }
 {
     for place in 0..names.len() {
         let _ = note(noted, names[place])?;
@@ -50,7 +50,7 @@ fn add_place(fresh: &mut Vec<usize>, place: usize, is_fresh: bool) -> Result<(),
 ///
 /// `AllocError` where memory is refused.
 pub fn fresh_names(alloc: Global, names: &[&str], known: &[&str]) -> Result<Vec<usize>, AllocError>
-    ensures { IfOk result (λ r. r.items ≡ fresh_places (names_of names.now) (names_of known.now)) }
+    ensures { IfOk result (λ r. r.items ≡ fresh_places (lent_names names.now) (lent_names known.now)) }
 {
     let mut noted = BTreeMap::new(alloc);
     note_all(&mut noted, known)?;

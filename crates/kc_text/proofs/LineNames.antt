@@ -5,11 +5,12 @@ use Rattle.std.proofs.lemmas.List.{append-nil}
 use Rattle.std.proofs.lemmas.List.Concat.{flat_map-append}
 use Rattle.kc_text.specs.Bytes.{begins_with, is_blank, is_word}
 use Rattle.kc_text.specs.References.{Piece, byte, is_no_dollar}
-use Rattle.kc_text.specs.Lexing.{Raw, word, quoted, Mode, between, in_word, in_quotes, Step, on, stop, is_quote, word_dollar, sign_step, between_step, showing, quotes_dollar, quotes_backslash, quotes_step, step, ends, lexed}
-use Rattle.kc_text.specs.LineReferences.{names_in_pieces, piece_names, token_names, line_references}
+use Rattle.kc_text.specs.Lexing.{Raw, word, quoted, Mode, between, in_word, in_quotes, Step, on, stop, is_quote, word_dollar, sign_step, between_step, showing, quotes_dollar, quotes_backslash, quotes_step, step, ends, lexed, raw_tokens}
+use Rattle.kc_text.specs.LineReferences.{AreReferences, names_in_pieces, names_shown, piece_names, token_names}
 use Rattle.kc_text.specs.Scanning.{bytes_of}
 use Rattle.kc_text.proofs.Lexing.{after_step}
 use Rattle.kc_text.proofs.Runs.{prefix_len-yes, prefix_len-no}
+use Rattle.kc_text.proofs.ShownLaws.{shown}
 
 abbrev mode_names : Mode → List (List ℕ)
 mode_names between = []
@@ -110,7 +111,7 @@ lexed_clean (b ∷ bs) zero m all c =
     after_clean (step m b bs) bs (step_clean m b bs (first_plain b bs all) c)
     (λ n next d. lexed_clean bs n next (rest_plain b bs all) d)
 
-pub no_references : (bs : List ℕ) → prefix_len is_no_dollar bs ≡ length bs → line_references bs ≡ []
+pub no_references : (bs : List ℕ) → prefix_len is_no_dollar bs ≡ length bs → names_shown (raw_tokens bs) ≡ []
 no_references bs all = lexed_clean bs 0 between all refl
 
 -- bytes as they are refer to none
@@ -121,3 +122,6 @@ byte_names (b ∷ bs) = byte_names bs
 -- what adds no names
 pub adds_none : (names more : List (List ℕ)) → more ≡ [] → names ≡ names ++ more
 adds_none names more e = sym (append-nil names) ∙ ap (λ l. names ++ l) (sym e)
+
+pub shown_references : (line : List ℕ) (names : List (List ℕ)) → names ≡ names_shown (raw_tokens line) → AreReferences line names
+shown_references line names is = (raw_tokens line, shown line, is)

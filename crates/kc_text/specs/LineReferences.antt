@@ -1,10 +1,10 @@
 -- The references to variables in a line and in the text of a variable: kconfig-macro-language.rst, "Variables". These are
--- the references that the reading of the line comes to, in their order: none is in a comment, none after a backslash in
--- quotes, and none after a fault, where reading stops.
-use Rattle.std.specs.Prelude.{ℕ, List, [], ◌∷◌, flat_map}
+-- the references in what the line shows, in their order: none is in a comment, none after a backslash in quotes, and none
+-- after a fault, where reading stops.
+use Rattle.std.specs.Prelude.{◌≡◌, ℕ, List, [], ◌∷◌, flat_map, map}
+use denote.Ref.{Bor}
 use Rattle.kc_text.specs.References.{Piece, byte, reference, malformed, value_pieces}
-use Rattle.kc_text.specs.Shown.{Raw, word, quoted, operator, unclosed, not_allowed}
-use Rattle.kc_text.specs.Lexing.{raw_tokens}
+use Rattle.kc_text.specs.Shown.{Raw, word, quoted, operator, unclosed, not_allowed, Shows}
 
 -- the name in a part, if that is a reference
 abbrev pub piece_names : Piece → List (List ℕ)
@@ -22,10 +22,17 @@ token_names (operator o) = []
 token_names (unclosed ps) = names_in_pieces ps
 token_names not_allowed = []
 
+abbrev pub names_shown : List Raw → List (List ℕ)
+names_shown shown = flat_map token_names shown
+
 -- the names of the variables to which a line refers that defines none
-abbrev pub line_references : List ℕ → List (List ℕ)
-line_references bs = flat_map token_names (raw_tokens bs)
+abbrev pub AreReferences : List ℕ → List (List ℕ) → Type 0
+AreReferences line names = (shown : List Raw) × Shows line shown × (names ≡ names_shown shown)
 
 -- those to which the text of a variable refers
 abbrev pub value_references : List ℕ → List (List ℕ)
 value_references bs = names_in_pieces (value_pieces bs)
+
+-- names that are lent
+abbrev pub lent_names : List (Bor (List ℕ)) → List (List ℕ)
+lent_names names = map (λ n. n.now) names

@@ -1,8 +1,8 @@
 //! The variables to which a line and the text of a variable refer.
 
 ghost use Rattle.std.specs.Prelude.{◌≡◌, ◌++◌, IfOk, OnOk};
-ghost use Rattle.kc_text.specs.LineReferences.{line_references, names_in_pieces, piece_names, token_names, value_references};
-ghost use Rattle.kc_text.specs.Scanning.{names_of, piece_of, pieces_of, raw_of};
+ghost use Rattle.kc_text.specs.LineReferences.{AreReferences, lent_names, names_in_pieces, token_names, value_references};
+ghost use Rattle.kc_text.specs.Scanning.{piece_of, pieces_of, raw_of};
 
 use crate::reference::{Piece, plain_len, value_piece};
 use crate::scan::{RawToken, next_token};
@@ -10,7 +10,7 @@ use std::alloc::{AllocError, Global};
 
 /// Adds the name in a part, if that is a reference.
 fn push_piece<'t>(names: &mut Vec<&'t str>, piece: &Piece<'t>) -> Result<(), AllocError>
-    ensures { OnOk result (names_of names.new.items ≡ names_of names.old.items ++ names_in_pieces (piece_of piece.now)) }
+    ensures { OnOk result (lent_names names.new.items ≡ lent_names names.old.items ++ names_in_pieces (piece_of piece.now)) }
 {
     match piece {
         Piece::Text(_) => Ok(()),
@@ -24,7 +24,7 @@ fn push_piece<'t>(names: &mut Vec<&'t str>, piece: &Piece<'t>) -> Result<(), All
 
 /// Adds the names in the references among parts.
 fn push_pieces<'t>(names: &mut Vec<&'t str>, pieces: &[Piece<'t>]) -> Result<(), AllocError>
-    ensures { OnOk result (names_of names.new.items ≡ names_of names.old.items ++ names_in_pieces (pieces_of pieces.now)) }
+    ensures { OnOk result (lent_names names.new.items ≡ lent_names names.old.items ++ names_in_pieces (pieces_of pieces.now)) }
 {
     for piece in pieces {
         push_piece(names, piece)?;
@@ -34,7 +34,7 @@ fn push_pieces<'t>(names: &mut Vec<&'t str>, pieces: &[Piece<'t>]) -> Result<(),
 
 /// Adds the names in the references of a token.
 fn push_token<'t>(names: &mut Vec<&'t str>, token: &RawToken<'t>) -> Result<(), AllocError>
-    ensures { OnOk result (names_of names.new.items ≡ names_of names.old.items ++ token_names (raw_of token.now)) }
+    ensures { OnOk result (lent_names names.new.items ≡ lent_names names.old.items ++ token_names (raw_of token.now)) }
 {
     match token {
         RawToken::Word(_) => Ok(()),
@@ -55,7 +55,7 @@ fn push_token<'t>(names: &mut Vec<&'t str>, token: &RawToken<'t>) -> Result<(), 
 ///
 /// `AllocError` where memory is refused.
 pub fn references_in<'t>(alloc: Global, line: &'t str) -> Result<Vec<&'t str>, AllocError>
-    ensures { IfOk result (λ names. names_of names.items ≡ line_references line.now) }
+    ensures { IfOk result (λ names. AreReferences line.now (lent_names names.items)) }
 {
     let mut names = Vec::new(alloc);
     if plain_len(line) == line.len() {
@@ -76,7 +76,7 @@ pub fn references_in<'t>(alloc: Global, line: &'t str) -> Result<Vec<&'t str>, A
 ///
 /// `AllocError` where memory is refused.
 pub fn value_references_in<'t>(alloc: Global, value: &'t str) -> Result<Vec<&'t str>, AllocError>
-    ensures { IfOk result (λ names. names_of names.items ≡ value_references value.now) }
+    ensures { IfOk result (λ names. lent_names names.items ≡ value_references value.now) }
 {
     let mut names = Vec::new(alloc);
     let mut rest = value;

@@ -11,9 +11,9 @@ loop-found-preserved-in_ok-push_item c =
     record {
       utf8 = search rules;
       within = search rules;
-      have = have_more c.loop-found.before (lines c.loop-found.rest.now) (lines c.in-Some.after.now) (lines c.args.text.now) c.in-Some.item c.more.result
+      have = have_more c.loop-found.before (lines c.loop-found.rest.now) (lines c.in-Some.after.now) (lines c.args.text.now) c.in-Some.item c.more.result c.in_ok-push_item.ensures.uses.0
           c.loop-found.found.uses.items c.push_item.new.found.uses.items c.loop-found.found.definitions.items c.push_item.new.found.definitions.items
-          c.loop-found.found.sources.items c.push_item.new.found.sources.items begins c.more.ensures c.in_ok-push_item.ensures.uses
+          c.loop-found.found.sources.items c.push_item.new.found.sources.items begins c.in_ok-push_item.ensures.uses.1 c.more.ensures c.in_ok-push_item.ensures.uses.2
           c.in_ok-push_item.ensures.definitions c.in_ok-push_item.ensures.sources c.loop-found.invariant.have;
     }
 
@@ -23,9 +23,9 @@ loop-found-preserved c =
     record {
       utf8 = search rules;
       within = search rules;
-      have = have_more c.loop-found.before (lines c.loop-found.rest.now) (lines c.in-Some.after.now) (lines c.args.text.now) c.in-Some.item c.more.result
+      have = have_more c.loop-found.before (lines c.loop-found.rest.now) (lines c.in-Some.after.now) (lines c.args.text.now) c.in-Some.item c.more.result c.in_ok-push_item.ensures.uses.0
           c.loop-found.found.uses.items c.push_item.new.found.uses.items c.loop-found.found.definitions.items c.push_item.new.found.definitions.items
-          c.loop-found.found.sources.items c.push_item.new.found.sources.items begins c.more.ensures c.in_ok-push_item.ensures.uses
+          c.loop-found.found.sources.items c.push_item.new.found.sources.items begins c.in_ok-push_item.ensures.uses.1 c.more.ensures c.in_ok-push_item.ensures.uses.2
           c.in_ok-push_item.ensures.definitions c.in_ok-push_item.ensures.sources c.loop-found.invariant.have;
     }
 
