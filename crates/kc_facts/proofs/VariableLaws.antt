@@ -25,7 +25,7 @@ have_more n rest after whole i more names us vs ds es ss ts b used m u d s have 
     (sym (append_assoc us (uses_at (n + 1) names) uses) ∙ ap (λ l. l ++ uses) (sym u))
     (sym (append_assoc ds (definitions_in (n + 1) i) definitions) ∙ ap (λ l. l ++ definitions) (sym d))
     (sym (append_assoc ss (sources_in (n + 1) i) sources) ∙ ap (λ l. l ++ sources) (sym s))
-    (have _ _ _ (an_item b used (subst (λ k. HaveVariables (n + (k + 1)) after uses definitions sources) m h)))
+    (have _ _ _ (an_item names b used (subst (λ k. HaveVariables (n + (k + 1)) after uses definitions sources) m h)))
 
 pub have_all : (n : ℕ) (rest whole : List (List ℕ)) (us ds : List NamedVariable) (ss : List ℕ) → rest ≡ [] → Have n rest whole us ds ss → HaveVariables 0 whole us ds ss
 have_all n rest whole us ds ss none have =

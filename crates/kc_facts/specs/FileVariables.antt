@@ -40,6 +40,6 @@ sources_in n i = elim (definition_of i.text) [ Some d ↦ [] | None ↦ if is_so
 -- lines after so many others of their file, with the uses of variables in them, their definitions, and the `source` lines
 pub data HaveVariables : ℕ → List (List ℕ) → List NamedVariable → List NamedVariable → List ℕ → Type 0 where
   no_lines : {n : ℕ} → HaveVariables n [] [] [] []
-  an_item : {n : ℕ} {lines after : List (List ℕ)} {i : ItemValue} {names : List (List ℕ)} {uses definitions : List NamedVariable} {sources : List ℕ}
+  an_item : {n : ℕ} {lines after : List (List ℕ)} {i : ItemValue} (names : List (List ℕ)) {uses definitions : List NamedVariable} {sources : List ℕ}
       → BeginsWith lines i after → AreUsedIn i names → HaveVariables (n + (i.more + 1)) after uses definitions sources
       → HaveVariables n lines (uses_at (n + 1) names ++ uses) (definitions_in (n + 1) i ++ definitions) (sources_in (n + 1) i ++ sources)
