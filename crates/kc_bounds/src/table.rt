@@ -1,0 +1,151 @@
+//! The sets of a tree's cells.
+
+ghost use Rattle.std.specs.Prelude.{◌≡◌, ◌<◌, Bool, false, IfOk, replicate, slice_get};
+ghost use Rattle.std.specs.Option.{option_copied};
+ghost use Rattle.kc_tree.specs.Accepted.{IsAccepted};
+ghost use Rattle.kc_tree.specs.Cells.{IsCellOf, cell_at, cell_count};
+ghost use Rattle.kc_tree.specs.Nodes.{IsNodeOf};
+ghost use Rattle.kc_tree.specs.declared.node.Node.TheVariants.{Val};
+ghost use Rattle.kc_value.specs.Assignment.{as_tri};
+ghost use Rattle.kc_value.specs.Kept.{cell_worth};
+ghost use Rattle.kc_value.specs.Solution.{solution};
+ghost use Rattle.kc_value.specs.UserValues.{IsUserFor, UserValues};
+ghost use Rattle.kc_value.specs.declared.value.Value.TheVariants.{Shown};
+ghost use Rattle.kc_bounds.specs.Bounds.{AreBounds, Covers};
+ghost use Rattle.kc_bounds.specs.TriSets.{any_tri};
+
+use crate::tri_set::TriSet;
+use kc_tree::{
+    Block, BlockId, Cell, Choice, ChoiceId, Definition, Node, SymId, Symbol, Tree, UserVal,
+};
+use kc_value::User;
+use std::alloc::{AllocError, Global};
+use std::marker::Model;
+
+/// For each cell of a tree a set that has what the cell is worth, whatever the user gives and chooses. Contracts see the
+/// tree, and the sets by number.
+#[derive(Drop)]
+pub struct Bounds<'a> {
+    tree: &'a Tree,
+    sets: Vec<TriSet>,
+}
+
+impl<'a> Model for Bounds<'a> {
+    ghost use Rattle.std.specs.Coded.{codes};
+    ghost use Rattle.kc_statement.specs.contracts.expr.Expr as expr;
+    ghost use Rattle.kc_bounds.specs.Bounds.{AreBounds, BoundsValue};
+
+    ghost Value = { BoundsValue };
+
+    ghost coded = { Prim.hlevel (codes, expr.the_row.coded) };
+
+    ghost view = { λ b. record { tree = b.tree.now; sets = b.sets.items } };
+
+    ghost invariant = { λ b. AreBounds (record { tree = b.tree.now; sets = b.sets.items }) };
+}
+
+/// As many sets of all values. The error comes where memory is refused.
+fn all_of(alloc: Global, count: usize) -> Result<Vec<TriSet>, AllocError>
+    ensures { IfOk result (λ sets. sets.items ≡ replicate count any_tri) }
+{
+    vec![in alloc; TriSet::any(); count]
+}
+
+impl<'a> Bounds<'a> {
+    /// All values for each cell.
+    ///
+    /// The error comes where memory is refused.
+    pub(crate) fn any(alloc: Global, tree: &'a Tree) -> Result<Bounds<'a>, AllocError>
+        ensures { IfOk result (λ b. b.tree ≡ tree.entry.now) }
+    {
+        // The laws of the numbers of cells are a clause of this call.
+        let _ = tree.use_table();
+        // That the tree has one solution for all user values is a clause of this call.
+        let _ = User::empty(alloc, tree)?;
+        let sets = all_of(alloc, tree.cell_count())?;
+        Ok(Bounds { tree, sets })
+    }
+
+    /// The tree.
+    pub(crate) fn tree(&self) -> &'a Tree
+        ensures tree { result.now ≡ self.now.tree }
+        ensures bounds { AreBounds self.now }
+    {
+        self.tree
+    }
+
+    /// A symbol by number, if there is one.
+    pub(crate) fn symbol(&self, id: SymId) -> Option<&'a Symbol>
+        ensures { option_copied result ≡ slice_get self.now.tree.symbols id.0 }
+    {
+        self.tree.symbols().get(id.0 as usize)
+    }
+
+    /// A choice by number, if there is one.
+    pub(crate) fn choice(&self, id: ChoiceId) -> Option<&'a Choice>
+        ensures { option_copied result ≡ slice_get self.now.tree.choices id.0 }
+    {
+        self.tree.choices().get(id.0 as usize)
+    }
+
+    /// A definition by number, if there is one.
+    pub(crate) fn definition(&self, number: usize) -> Option<&'a Definition>
+        ensures { option_copied result ≡ slice_get self.now.tree.definitions number }
+    {
+        self.tree.definitions().get(number)
+    }
+
+    /// A block by number, if there is one. The blocks are nested, as those of each tree that was read.
+    pub(crate) fn block(&self, id: BlockId) -> Option<&'a Block>
+        ensures block { option_copied result ≡ slice_get self.now.tree.blocks id.0 }
+        ensures accepted { IsAccepted self.now.tree }
+    {
+        // That the tree is accepted is a clause of this call.
+        let _ = self.tree.symbols();
+        self.tree.blocks().get(id.0)
+    }
+
+    /// Which values a cell may have.
+    pub(crate) fn cell(&self, cell: Cell) -> TriSet
+        requires { IsCellOf self.now.tree cell }
+        ensures { Covers self.now.tree result (λ a. as_tri (cell_worth self.now.tree a cell)) }
+    {
+        match self.sets.get(self.tree.cell_number(cell)) {
+            Some(set) => *set,
+            None => TriSet::any(),
+        }
+    }
+
+    /// Which tristate values a node may have; a text is n.
+    pub(crate) fn node(&self, node: Node) -> TriSet
+        requires { IsNodeOf self.now.tree node }
+        ensures { Covers self.now.tree result (λ a. as_tri (a node)) }
+    {
+        self.cell(Cell::Node(node))
+    }
+
+    /// Puts a set that has what the cell of a number is worth in place of the one that is there.
+    pub(crate) fn put(&mut self, number: usize, set: TriSet)
+        requires inside { number < cell_count self.old.tree }
+        requires covers { Covers self.old.tree set (λ a. as_tri (cell_worth self.old.tree a (cell_at self.old.tree number))) }
+        ensures { self.new.tree ≡ self.old.tree }
+    {
+        // The laws of the numbers of cells are a clause of this call.
+        let _ = self.tree.use_table();
+        self.sets[number] = set;
+    }
+
+    /// Whether a symbol may have a value. Where it may not, no user values give it that value.
+    pub fn can_be(&self, symbol: SymId, value: &UserVal) -> bool
+        ensures { result ≡ false → (w : UserValues) → IsUserFor self.now.tree w → (written : Bool)
+            → solution self.now.tree w (Val symbol) ≡ Shown value.now written → ⊥ }
+    {
+        match value {
+            UserVal::Tri(tri) => match self.tree.symbols().get(symbol.0 as usize) {
+                Some(_) => self.node(Node::Val(symbol)).has(*tri),
+                None => true,
+            },
+            UserVal::Text(_) => true,
+        }
+    }
+}
