@@ -8,7 +8,7 @@ from fuzz_reports import EXCHANGED, LOST, PLACED, UNUSABLE_IN_MERGE, Run, line_p
 COUNTS = re.compile(rb"(\d+) wanted(?:, (\d+) kept)?: (\d+) lines?(?:; (\d+) lines? of (.*) lost)?")
 CHANGE = re.compile(rb"\w+: .* to .*(?:, wanted|, kept|, needed for \w+=.*|, needed to keep \w+=.*)", re.DOTALL)
 DEFINITION = re.compile(rb"  .+", re.DOTALL)
-NOT_FOUND = re.compile(rb"nothing was found that gives what is wanted|gave up: .*")
+NOT_FOUND = re.compile(rb"nothing was found that gives what is wanted|gave up: .*|impossible: no user values give \w+=.*", re.DOTALL)
 MISSED = re.compile(rb"\w+: wanted .*, is .*: .+", re.DOTALL)
 FRAGMENT_LINE = re.compile(rb"# \w+ is not set|\w+=.*", re.DOTALL)
 

@@ -193,6 +193,7 @@ FRAGMENT = b"CONFIG_B=y\nCONFIG_A=y\n"
 CHANGES = b"B: n to y, needed for A=y\nA: n to y, wanted\n"
 GIVEN = b"1 wanted: %d lines; %d lines of config lost\n"
 COST = b"config:2: C: was y, is n: needs D, which is n\n"
+NEVER = b"A: wanted y, is n: needs B, which is n\nimpossible: no user values give A=y: B is not defined\n"
 MISSED = b"A: wanted y, is n: needs B, which is n\nnothing was found that gives what is wanted\n"
 
 # What `how` writes for a CONFIG and a fragment of two lines: its status, standard output and standard error, its
@@ -213,6 +214,8 @@ HOWS: List[Tuple[int, bytes, bytes, Tuple[bytes, ...], bool]] = [
     (0, FRAGMENT, CHANGES + b"1 wanted, 1 kept: 2 lines\n", (), True),
     (0, FRAGMENT, CHANGES + b"1 wanted, 1 kept: 2 lines\n", (b"--keep",), False),
     (1, b"", MISSED, (), False),
+    (1, b"", NEVER, (), False),
+    (1, b"", NEVER.replace(b"A=y", b"A"), (), True),
     (0, b"", MISSED, (), True),
     (1, FRAGMENT, MISSED, (), True),
     (1, b"", MISSED.replace(b"wanted y", b"asked y"), (), True),

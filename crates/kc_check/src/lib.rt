@@ -13,6 +13,7 @@ mod meant_lines;
 mod merge_lines;
 mod merging;
 mod missing_variables;
+mod obstacles;
 mod reading_order;
 mod selections;
 mod shown_values;
@@ -36,3 +37,4 @@ pub use how_lines::{
 };
 pub use inputs::{CheckInputs, SourceText};
 pub use merging::{MergeReport, merge_report};
+pub use obstacles::push_impossible;

@@ -6,6 +6,7 @@ mod apart;
 mod copies;
 mod fewest;
 mod fragment;
+mod impossible;
 mod line_test;
 mod needed;
 mod plain;
@@ -13,5 +14,6 @@ mod question;
 
 pub use answering::answer;
 pub use fragment::fragment_text;
+pub use impossible::first_impossible;
 pub use needed::needed_for;
 pub use plain::plain_candidates;

@@ -3,20 +3,22 @@
 ghost use Rattle.std.specs.Prelude.{All, IfOk, IfSome};
 ghost use Rattle.kc_files.specs.LineReading.{IsAssignFor};
 ghost use Rattle.kc_how.specs.Answer.{IsAnswer, IsLine};
+ghost use Rattle.kc_program.specs.SearchEndings.{IsRightEnding};
 
 use crate::how_kept::with_values_kept;
 use crate::messages::Status;
 use crate::report_texts::{input_of, read_again, status_of, unusable_words_of_files};
 use crate::reports::{Outcome, ReportInputs};
+use kc_bounds::bounds;
 use kc_check::{
     EffectsBefore, HowCounts, LostLine, Need, effects_before, how_costs, push_how_counts,
-    push_needed_line, push_not_found, push_unusable_lines,
+    push_impossible, push_needed_line, push_not_found, push_unusable_lines,
 };
 use kc_facts::{LineIndex, View};
 use kc_files::{
     Assign, Input, Prefix, ReadFault, Warning, WarningKind, has_effect, read_config, read_fragments,
 };
-use kc_how::{answer, fragment_text, needed_for, plain_candidates};
+use kc_how::{answer, first_impossible, fragment_text, needed_for, plain_candidates};
 use kc_how_search::{Search, candidates};
 use kc_report::push_definitions_of;
 use kc_session::{Body, Command, Reply, Session};
@@ -186,7 +188,7 @@ fn how(
     let wanted = wanted.as_slice();
     let searched = answer_of(alloc, solved, wanted)?;
     let Some(lines) = searched.lines else {
-        return not_found(alloc, words.view, wanted, searched.gave_up);
+        return not_found(alloc, words.view, wanted, searched.ending);
     };
     let lines = lines.as_slice();
     let asked = asked_symbols(alloc, wanted, words.kept)?;
@@ -220,30 +222,63 @@ fn asked_symbols(alloc: Global, wanted: &[Assign], kept: usize) -> Result<Vec<Sy
 struct Searched {
     /// The lines, where some were found.
     lines: Option<Vec<Assign>>,
-    /// Whether the search ended before it had tried all that it looks at.
-    gave_up: bool,
+    /// How it ended, where none were found.
+    ending: Ending,
+}
+
+/// How a search ends that finds no lines.
+#[derive(Clone, Copy)]
+enum Ending {
+    /// All that it looks at was tried.
+    NotFound,
+    /// It ended before that.
+    GaveUp,
+    /// The wanted value of an index is one that no user values give.
+    Impossible(usize),
 }
 
 /// The lines that give wanted values: the wanted values themselves, where these are enough, else what a search finds.
+/// Nothing is searched for where no user values give one of the wanted values.
 fn answer_of(alloc: Global, solved: &Solved<'_>, wanted: &[Assign]) -> Result<Searched, AllocError>
     requires { All (IsAssignFor solved.now.tree) wanted.now }
-    ensures { IfOk result (λ found. IfSome found.lines (λ lines. IsAnswer solved.now.tree solved.now.user wanted.now lines.items)) }
+    ensures lines { IfOk result (λ found. IfSome found.lines (λ lines. IsAnswer solved.now.tree solved.now.user wanted.now lines.items)) }
+    ensures ending { IfOk result (λ found. IsRightEnding solved.now.tree wanted.now found.ending) }
 {
     let plain = plain_candidates(alloc, wanted)?;
     if let Some(lines) = answer(alloc, solved, wanted, plain.as_slice())? {
         return Ok(Searched {
             lines: Some(lines),
-            gave_up: false,
+            ending: Ending::NotFound,
         });
     }
-    let (lists, gave_up) = match candidates(alloc, solved.tree(), solved.user(), wanted)? {
-        Search::Candidates(lists) => (lists, false),
-        Search::NotFound(_) => (Vec::new(alloc), false),
-        Search::GaveUp(_) => (Vec::new(alloc), true),
+    let limits = bounds(alloc, solved.tree())?;
+    if let Some(index) = first_impossible(&limits, wanted) {
+        return Ok(Searched {
+            lines: None,
+            ending: Ending::Impossible(index),
+        });
+    }
+    searched_answer(alloc, solved, wanted)
+}
+
+/// The lines that a search finds.
+fn searched_answer(
+    alloc: Global,
+    solved: &Solved<'_>,
+    wanted: &[Assign],
+) -> Result<Searched, AllocError>
+    requires { All (IsAssignFor solved.now.tree) wanted.now }
+    ensures lines { IfOk result (λ found. IfSome found.lines (λ lines. IsAnswer solved.now.tree solved.now.user wanted.now lines.items)) }
+    ensures ending { IfOk result (λ found. IsRightEnding solved.now.tree wanted.now found.ending) }
+{
+    let (lists, ending) = match candidates(alloc, solved.tree(), solved.user(), wanted)? {
+        Search::Candidates(lists) => (lists, Ending::NotFound),
+        Search::NotFound(_) => (Vec::new(alloc), Ending::NotFound),
+        Search::GaveUp(_) => (Vec::new(alloc), Ending::GaveUp),
     };
     Ok(Searched {
         lines: answer(alloc, solved, wanted, lists.as_slice())?,
-        gave_up,
+        ending,
     })
 }
 
@@ -310,12 +345,12 @@ fn too_long(alloc: Global) -> Result<WantedAnswer, AllocError> {
     Ok(WantedAnswer::NotFound(String::from_str(alloc, TOO_LONG)?))
 }
 
-/// What comes of a search that found nothing: a line for each wanted value that the symbol has not.
+/// What comes of a search that found nothing: a line for each wanted value that the symbol has not, and how it ended.
 fn not_found(
     alloc: Global,
     view: &View<'_>,
     wanted: &[Assign],
-    gave_up: bool,
+    ending: Ending,
 ) -> Result<WantedAnswer, AllocError> {
     let mut text = String::new(alloc);
     for line in wanted {
@@ -323,8 +358,26 @@ fn not_found(
             push_not_found(alloc, &mut text, view, line)?;
         }
     }
-    text.push_str(if gave_up { GAVE_UP } else { NOT_FOUND })?;
+    push_ending(alloc, &mut text, view, wanted, ending)?;
     Ok(WantedAnswer::NotFound(text))
+}
+
+/// Adds how a search ended that found nothing.
+fn push_ending(
+    alloc: Global,
+    text: &mut String,
+    view: &View<'_>,
+    wanted: &[Assign],
+    ending: Ending,
+) -> Result<(), AllocError> {
+    match ending {
+        Ending::NotFound => text.push_str(NOT_FOUND),
+        Ending::GaveUp => text.push_str(GAVE_UP),
+        Ending::Impossible(index) => match wanted.get(index) {
+            Some(line) => push_impossible(text, view, &bounds(alloc, view.tree())?, line),
+            None => text.push_str(NOT_FOUND),
+        },
+    }
 }
 
 /// The same lines, with what they cost. They are merged in the session.

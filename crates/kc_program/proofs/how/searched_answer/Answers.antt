@@ -1,7 +1,7 @@
 use Rattle.std.proofs.Common.{sym, subst}
 use Rattle.kc_outline.specs.TreeValue.{TreeValue}
 use Rattle.kc_value.specs.UserValues.{UserValues, IsUserFor}
-use Rattle.kc_program.proofs.how.answer_of.Goals as goal
+use Rattle.kc_program.proofs.how.searched_answer.Goals as goal
 
 pub candidates-requires : goal.candidates-requires
 candidates-requires c =
