@@ -1,5 +1,5 @@
 -- The blocks around a place, and the rows that open them.
-use Rattle.std.proofs.Common.{◌≡◌, ◌⊎◌, ℕ, zero, suc, ◌+◌, ◌<◌, ◌≤◌, Bool, true, false, List, [], ◌∷◌, ◌++◌, Option, Some, None, unwrap_or, length, get_or, slice_get, slice_set, nat_lt, reverse, filter_map, refl, sym, ap, ◌∙◌, subst, ⊎_elim, cond, if◌then◌else◌, ◌==◌, get_or-set_other, append_assoc, drop, map, length-append, length-set, arith}
+use Rattle.std.proofs.Common.{◌≡◌, ℕ, zero, suc, ◌+◌, ◌<◌, ◌≤◌, Bool, true, false, List, [], ◌∷◌, ◌++◌, Option, Some, None, unwrap_or, length, get_or, slice_get, slice_set, nat_lt, reverse, filter_map, refl, sym, ap, ◌∙◌, subst, ⊎_elim, cond, if◌then◌else◌, ◌==◌, get_or-set_other, append_assoc, drop, map, length-append, length-set, arith}
 use Rattle.std.specs.List.{count_by, filter, find}
 use Rattle.std.specs.Option.{option_map, option_map_or}
 use Rattle.std.proofs.lemmas.Bool.{eq-eqb, eqb-true, ltb-false, ltb-true}

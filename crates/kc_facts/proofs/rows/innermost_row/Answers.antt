@@ -1,4 +1,4 @@
-use Rattle.std.proofs.Common.{◌-◌, ◌+◌, Some, sym, ap, ◌∙◌, arith}
+use Rattle.std.proofs.Common.{◌-◌, ◌+◌, sym, ap, ◌∙◌, arith}
 use Rattle.std.specs.Option.{option_copied}
 use Rattle.kc_facts.proofs.RowLemmas.{first_end, step_end, step_missing, step_found, step_later}
 use Rattle.kc_facts.proofs.rows.innermost_row.Goals as goal
