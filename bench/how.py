@@ -7,8 +7,8 @@ TREE is a folder with a Kconfig of a kernel, as tools/expand_kconfig.py writes i
 printed. Of the symbols with a prompt that are n, N are drawn (200 without a number, by seed 1), and `how` is asked for y
 of each. It compares user and system time with the median of eleven runs of `olddefconfig` (wanted: at most 1.4 times at
 the median, at most 3 times at all), and counts lines (wanted: at most 8 at the 95th percentile). In one session of
-PROGRAM each answer is merged, whole and without each of its lines: the symbol has to be y, and then not. The status is 0
-where all is kept, else 1.
+PROGRAM each answer is merged, whole and without each of its lines: the symbol has to be y, and then not. It counts what
+is called impossible, too. The status is 0 where all is kept, else 1.
 """
 
 from __future__ import annotations
@@ -31,10 +31,11 @@ MOST_LINES = 8
 
 @dataclass
 class Answer:
-    """What `how` answered for a symbol: its lines, none where it found nothing, and the time in seconds."""
+    """What `how` answered for a symbol: its lines, none where it found nothing, its last words, and the time in seconds."""
 
     name: str
     lines: list[str]
+    words: str
     seconds: float
 
 
@@ -47,18 +48,21 @@ class Program:
         self.config = str(Path(config).resolve())
         self.words = words
 
+    def ran(self, target: str, *words: str, commands: str = "") -> subprocess.CompletedProcess[str]:
+        """A run of a target."""
+        command = [self.program, target, "Kconfig", self.config, *words, *self.words]
+        return subprocess.run(command, cwd=self.tree, input=commands, capture_output=True, text=True, check=False)
+
     def run(self, target: str, *words: str, commands: str = "") -> str:
         """What a target writes; nothing where it fails."""
-        command = [self.program, target, "Kconfig", self.config, *words, *self.words]
-        ran = subprocess.run(command, cwd=self.tree, input=commands, capture_output=True, text=True, check=False)
-        return ran.stdout
+        return self.ran(target, *words, commands=commands).stdout
 
-    def timed(self, target: str, *words: str) -> tuple[str, float]:
-        """What a target writes, and its user and system time in seconds."""
+    def timed(self, target: str, *words: str) -> tuple[subprocess.CompletedProcess[str], float]:
+        """A run of a target, and its user and system time in seconds."""
         before = os.times()
-        text = self.run(target, *words)
+        ran = self.ran(target, *words)
         after = os.times()
-        return text, after.children_user + after.children_system - before.children_user - before.children_system
+        return ran, after.children_user + after.children_system - before.children_user - before.children_system
 
     def prompts_that_are_n(self) -> list[str]:
         """The names of the bools and tristates with a prompt whose value is n."""
@@ -123,8 +127,9 @@ def main() -> int:
     base = statistics.median(program.timed("olddefconfig")[1] for _ in range(RUNS))
     answers = []
     for name in names:
-        text, seconds = program.timed("how", f"CONFIG_{name}=y")
-        answers.append(Answer(name, text.splitlines(), seconds))
+        ran, seconds = program.timed("how", f"CONFIG_{name}=y")
+        words = ran.stderr.splitlines()[-1] if ran.stderr else ""
+        answers.append(Answer(name, ran.stdout.splitlines(), words, seconds))
         print(f"{name}: {len(answers[-1].lines)} lines, {seconds / base:.2f} of olddefconfig", flush=True)
     found = [answer for answer in answers if answer.lines]
     faults = faults_of(program, found)
@@ -132,7 +137,9 @@ def main() -> int:
         print(fault)
     ratios = [answer.seconds / base for answer in answers]
     lines = [float(len(answer.lines)) for answer in found]
-    print(f"{len(answers)} asked, {len(found)} found, {len(faults)} faults; olddefconfig: {base * 1000:.1f} ms")
+    never = sum(answer.words.startswith("impossible: ") for answer in answers)
+    print(f"{len(answers)} asked, {len(found)} found, {never} impossible, {len(faults)} faults")
+    print(f"olddefconfig: {base * 1000:.1f} ms")
     print(f"time, of that of olddefconfig, median, 95th percentile and most: {shares(ratios)}")
     print(f"lines: {shares(lines)}")
     is_kept = statistics.median(ratios) <= MOST_AT_MEDIAN and max(ratios) <= MOST
