@@ -236,6 +236,43 @@ def named(groups):
     return tree
 
 
+def undefined_names(size):
+    """A condition of so many names that no line defines."""
+    return BOOL.format("A") + "\tdepends on " + " || ".join(f"U{at}" for at in range(size)) + "\n"
+
+
+def selected_again(size):
+    """A symbol that another selects in so many lines."""
+    return BOOL.format("T") + BOOL.format("A") + "\tdefault y\n" + "\tselect T\n" * size
+
+
+def forced(size):
+    """So many symbols that one selects, while what they depend on is n."""
+    symbols = bools(size, "\tdepends on N\n")
+    selects = "".join(f"\tselect S{at}\n" for at in range(size))
+    return BOOL.format("N") + symbols + BOOL.format("A") + "\tdefault y\n" + selects
+
+
+def forced_in_menu(size):
+    """So many symbols that one selects, in a menu with as many conditions, of which the last is n."""
+    lines = "\tdepends on Y\n" * size + "\tdepends on N\n"
+    selects = "".join(f"\tselect S{at}\n" for at in range(size))
+    chosen = BOOL.format("N") + BOOL.format("Y") + "\tdefault y\n" + BOOL.format("A") + "\tdefault y\n" + selects
+    return f'{chosen}menu "m"\n{lines}{bools(size)}endmenu\n'
+
+
+def unused_defaults(size):
+    """So many defaults after one without a condition."""
+    return BOOL.format("A") + "\tdefault y\n" * (size + 1)
+
+
+def near_names(size):
+    """5,000 names of 60 bytes, and so many lines each with a name that is near one of them and defined nowhere."""
+    name = "A_LONG_NAME_THAT_MANY_OTHERS_BEGIN_WITH_AND_DIFFER_AT_ITS_END"
+    defined = "".join(f'config {name[:55]}{at:05}\n\tbool "s"\n' for at in range(5_000))
+    return defined + BOOL.format("A") + "".join(f"\tdepends on !{name[:54]}X{at % 5_000:05}\n" for at in range(size))
+
+
 def expressions(size):
     """So many bytes of lines that are as long as they may be, each one expression."""
     line = f"\tdefault y if {repeated_term('A', '&&', LINE)}\n"
@@ -311,6 +348,16 @@ KCONFIGS = {
     "parentheses": parentheses,
     "comparisons": with_expression('A = "y"', " && "),
     "long lines": long_lines,
+    "undefined names, check": undefined_names,
+    "selected again, why": selected_again,
+    "forced, check": forced,
+    "forced in a menu, check": forced_in_menu,
+    "unused defaults, check": unused_defaults,
+    "definitions of one symbol, menu": definitions,
+    "long condition, check": long_condition,
+    "long condition, merge": long_condition,
+    "flat, why": bools,
+    "near names, check": near_names,
 }
 
 # The shapes of a `.config` or a stream, over one symbol.
@@ -360,7 +407,7 @@ def write_all(shape, size):
     files = {"Kconfig": KCONFIGS[shape](size).encode()}
     if shape in QUERIES:
         files["stdin"] = QUERIES[shape]
-    if shape == "long condition, savedefconfig":
+    if shape in ("long condition, savedefconfig", "long condition, check", "long condition, merge"):
         files["config"] = "".join(f"CONFIG_S{at}=y\n" for at in range(size)).encode()
     if shape == "one file sourced":
         files["part"] = b"comment \"c\"\n"

@@ -94,8 +94,27 @@ SHAPES = [
     ("session: small loads", "session", "command", 10_000, 100_000, 0),
     ("session: a load", "session", "byte", MIB16 // 10, MIB16, 0),
 ]
+SHAPES += [
+    ("undefined names, check", "check", "name", 900, 9_000, 0),
+    ("selected again, why", "why", "line", 2_000, 20_000, 0),
+    ("forced, check", "check", "symbol", 2_000, 20_000, 0),
+    ("forced in a menu, check", "check", "symbol", 400, 4_000, 0),
+    ("unused defaults, check", "check", "line", 2_000, 20_000, 0),
+    ("definitions of one symbol, menu", "menu", "line", 2_000, 20_000, 0),
+    ("long condition, check", "check", "symbol", 400, 4_000, 0),
+    ("long condition, merge", "merge", "symbol", 400, 4_000, 0),
+    ("flat, why", "why", "symbol", 400, 4_000, 0),
+    ("near names, check", "check", "name", 500, 5_000, 0),
+]
 LINES = ("empty lines", "blanks", "`#`", "`config A`", "`default y`", '`comment "c"`', "menus", "`if A`", "`A&&A`", "variables")
 SHAPES += [(f"all {what}", "olddefconfig", "byte", MIB16 // 10, MIB16, 0) for what in LINES]
+
+# The words after the .config that a report takes.
+WORDS = {
+    "selected again, why": lambda size: ["T", "--all"],
+    "flat, why": lambda size: [f"S{at}" for at in range(size)],
+    "long condition, merge": lambda size: ["config"],
+}
 
 # What makes conf do the same.
 CONF_OPTIONS = {
@@ -167,10 +186,10 @@ def make(shape, size):
     return folder
 
 
-def kconf_cost(folder, target, status):
-    """What a target costs on what a folder has."""
+def kconf_cost(folder, target, status, words):
+    """What a target costs on what a folder has, with these words."""
     config = "config" if os.path.exists(os.path.join(folder, "config")) else "-"
-    return middle_cost(folder, [program, target, "Kconfig", config], wanted_status=status)
+    return middle_cost(folder, [program, target, "Kconfig", config, *words], wanted_status=status)
 
 
 def conf_cost(folder, target):
@@ -211,7 +230,8 @@ def measure(shape, target, unit, few, many, status, base):
     for size in (few, many):
         folder = make(shape, size)
         try:
-            seconds, memory = kconf_cost(folder, target, status)
+            words = WORDS[shape](size) if shape in WORDS else []
+            seconds, memory = kconf_cost(folder, target, status, words)
         except Failed as failed:
             beside = conf_cost(folder, target)[1]
             print(f"| {shape} | {few:,}, {many:,} | {size:,}: {failed} | | | | {beside} | | no |", flush=True)
