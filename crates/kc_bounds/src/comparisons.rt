@@ -3,15 +3,17 @@
 ghost use Rattle.std.specs.Prelude.{◌≡◌, true, IfSome};
 ghost use Rattle.std.specs.Ordering.{int_cmp};
 ghost use Rattle.kc_statement.specs.declared.tri.Tri.{Tri};
-ghost use Rattle.kc_value.specs.ExprValue.{constant_of, is_related, term_order, tri_number, yes_if};
+ghost use Rattle.kc_statement.specs.Formula.{compare};
+ghost use Rattle.kc_value.specs.ExprValue.{constant_of, expr_value, is_related, term_order, tri_number, yes_if};
 ghost use Rattle.kc_bounds.specs.Bounds.{Covers};
-ghost use Rattle.kc_bounds.specs.Counting.{CountsWithin};
+ghost use Rattle.kc_bounds.specs.Counting.{CountsWithin, is_fixed};
 ghost use Rattle.kc_bounds.specs.TriSets.{IsIn};
 ghost use Rattle.kc_statement.specs.declared.expr.Term.TheVariants.{Symbol};
 
 use crate::table::Bounds;
 use crate::tri_set::TriSet;
-use kc_tree::{Comparison, Node, Operands, SymId, SymbolType, Term, Tri};
+use kc_tree::{Comparison, Expr, Node, Operands, SymId, SymbolType, Term, Tri};
+use kc_value::tri;
 use std::cmp::Ordering;
 
 /// The constant that a text in quotes is.
@@ -113,12 +115,50 @@ fn counted(bounds: &Bounds<'_>, term: &Term) -> Option<TriSet>
     }
 }
 
-/// Which values a comparison may have: those that the values of its sides give, where both count as tristate values.
-pub(crate) fn comparison_set(
+/// Whether a term is no symbol, so that it counts the same whatever the values are.
+fn is_fixed(term: &Term) -> bool
+    ensures { result ≡ is_fixed term.now }
+{
+    match term {
+        Term::Tri(_) | Term::Text(_) | Term::Undefined(_) => true,
+        Term::Symbol(_) => false,
+    }
+}
+
+/// The value of a comparison without symbols.
+fn fixed_set(
     bounds: &Bounds<'_>,
+    expr: &Expr,
     comparison: Comparison,
     operands: &Operands,
 ) -> TriSet
+    requires written { expr.now ≡ compare comparison operands.now.left operands.now.right }
+    requires left { is_fixed operands.now.left ≡ true }
+    requires right { is_fixed operands.now.right ≡ true }
+    ensures { Covers bounds.now.tree result (λ a. expr_value bounds.now.tree a expr.now) }
+{
+    TriSet::only(tri(&bounds.nothing(), expr))
+}
+
+/// Which values a comparison may have, which is the expression: its own without symbols, those that the values of its
+/// sides give, where both count as tristate values, and else n and y.
+pub(crate) fn comparison_set(
+    bounds: &Bounds<'_>,
+    expr: &Expr,
+    comparison: Comparison,
+    operands: &Operands,
+) -> TriSet
+    requires { expr.now ≡ compare comparison operands.now.left operands.now.right }
+    ensures { Covers bounds.now.tree result (λ a. expr_value bounds.now.tree a expr.now) }
+{
+    if is_fixed(&operands.left) && is_fixed(&operands.right) {
+        return fixed_set(bounds, expr, comparison, operands);
+    }
+    counted_set(bounds, comparison, operands)
+}
+
+/// Which values a comparison may have by those of its sides.
+fn counted_set(bounds: &Bounds<'_>, comparison: Comparison, operands: &Operands) -> TriSet
     ensures { Covers bounds.now.tree result (λ a. yes_if (is_related comparison
         (term_order bounds.now.tree a operands.now.left operands.now.right))) }
 {

@@ -64,7 +64,9 @@ pub fn expr_set(bounds: &Bounds<'_>, expr: &Expr) -> TriSet
     match expr.node() {
         ExprNode::Term(term) => term_set(bounds, term),
         ExprNode::BareModule(_) => TriSet::only(Tri::Module).and(modules_set(bounds)),
-        ExprNode::Compare(comparison, operands) => comparison_set(bounds, *comparison, operands),
+        ExprNode::Compare(comparison, operands) => {
+            comparison_set(bounds, expr, *comparison, operands)
+        }
         ExprNode::Not(count, inner) => negated(expr_set(bounds, inner), *count),
         ExprNode::Group(inner) => expr_set(bounds, inner),
         ExprNode::All(parts) => conditions_set(bounds, parts.as_slice()),

@@ -18,7 +18,7 @@ use crate::tri_set::TriSet;
 use kc_tree::{
     Block, BlockId, Cell, Choice, ChoiceId, Definition, Node, SymId, Symbol, Tree, UserVal,
 };
-use kc_value::User;
+use kc_value::{KeptValues, Known, NodeValues};
 use std::alloc::{AllocError, Global};
 use std::marker::Model;
 
@@ -28,6 +28,8 @@ use std::marker::Model;
 pub struct Bounds<'a> {
     tree: &'a Tree,
     sets: Vec<TriSet>,
+    /// No values of nodes, for what is computed from none.
+    nothing: NodeValues,
 }
 
 impl<'a> Model for Bounds<'a> {
@@ -61,9 +63,13 @@ impl<'a> Bounds<'a> {
         // The laws of the numbers of cells are a clause of this call.
         let _ = tree.use_table();
         // That the tree has one solution for all user values is a clause of this call.
-        let _ = User::empty(alloc, tree)?;
+        let (nothing, _) = KeptValues::new(alloc, tree)?.into_parts();
         let sets = all_of(alloc, tree.cell_count())?;
-        Ok(Bounds { tree, sets })
+        Ok(Bounds {
+            tree,
+            sets,
+            nothing,
+        })
     }
 
     /// The tree.
@@ -72,6 +78,13 @@ impl<'a> Bounds<'a> {
         ensures bounds { AreBounds self.now }
     {
         self.tree
+    }
+
+    /// What rules read where no node has a value.
+    pub(crate) fn nothing(&self) -> Known<'_>
+        ensures { result.tree ≡ self.now.tree }
+    {
+        Known::of_nodes(self.tree, &self.nothing)
     }
 
     /// A symbol by number, if there is one.

@@ -8,4 +8,4 @@ use Rattle.kc_bounds.proofs.table.Bounds.any.Goals as goal
 pub invariant_of-result : goal.invariant_of-result
 invariant_of-result c =
     let all = c.in_ok-sets.ensures ∙ ap (λ n. replicate n any_tri) c.cell_count.ensures.count in
-    subst (λ xs. AreBounds (record { tree = c.args.tree.now; sets = xs })) (sym all) (at_first c.args.tree.now c.use_table.ensures.laws c.empty.ensures.solved)
+    subst (λ xs. AreBounds (record { tree = c.args.tree.now; sets = xs })) (sym all) (at_first c.args.tree.now c.use_table.ensures.laws c.new.ensures.solved)
