@@ -74,10 +74,10 @@ fn source_line<'v>(variables: &'v Variables<'_>, file: usize, line: usize) -> So
 }
 
 /// The places, among all uses of variables that the reader comes to, of the first ones of those that are missing.
-fn missing_places(
+fn missing_places<'v>(
     alloc: Global,
-    variables: &Variables<'_>,
-    given: &[&str],
+    variables: &'v Variables<'_>,
+    given: &[&'v str],
     reached: &[Reached],
 ) -> Result<Vec<usize>, AllocError> {
     let mut known = variables.defined_names(alloc)?;

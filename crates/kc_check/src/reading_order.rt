@@ -60,14 +60,18 @@ impl Reading<'_, '_> {
 
     /// Begins the file that is put in place of the next `source` line of the file that is open.
     fn begin(&mut self, before: usize, run: usize) -> Result<(), AllocError> {
-        let outer = self.open.last().copied();
-        if let Some((file, line)) = outer.and_then(|file| self.next_source(file)) {
+        let next = match self.open.last().copied() {
+            Some(file) => self.next_source(file),
+            None => None,
+        };
+        if let Some((file, line)) = next {
             self.pass_uses(before, file, line)?;
             self.pass_source(file);
             let mark = Mark::Source { line, run };
             self.reached.push(Reached { before, file, mark })?;
         }
-        self.open.push(self.file_of(run))?;
+        let file = self.file_of(run);
+        self.open.push(file)?;
         self.begun = run.saturating_add(1);
         Ok(())
     }

@@ -2,7 +2,7 @@
 
 use crate::finding::{Finding, Findings};
 use crate::inputs::CheckInputs;
-use crate::missing_variables::earlier_findings;
+use crate::missing_variables::{EarlierFinding, earlier_findings};
 use crate::tree_facts::{Here, TreeFacts};
 use crate::undefined_names::UndefinedNames;
 use crate::variables::Variables;
@@ -28,24 +28,40 @@ pub(crate) fn tree_findings(
 ) -> Result<(), AllocError> {
     let tree = view.tree();
     let prefix = inputs.prefix.as_str();
-    let mut earlier = earlier_findings(alloc, tree, variables, inputs)?
-        .into_iter()
-        .peekable();
+    let mut earlier = earlier_findings(alloc, tree, variables, inputs)?;
+    earlier.reverse();
     let mut undefined = UndefinedNames::of(alloc, tree, inputs.lines, prefix, extent)?;
     let mut facts = TreeFacts::of(alloc, view, index, extent)?;
     let mut walk = Walk::new();
     let mut all = Vec::new(alloc);
     for (number, line) in inputs.lines.iter().enumerate() {
         let placed = walk.place(line);
-        while let Some(next) = earlier.next_if(|next| next.before == number) {
-            all.push(next.finding)?;
-        }
+        push_earlier(&mut earlier, number, &mut all)?;
         let here = Here { view, index, line };
         facts.come_to(alloc, &here, &placed, &mut all)?;
         undefined.check(alloc, line, number, &placed, &mut all)?;
     }
     findings.unlisted = undefined.unlisted();
     add_once(alloc, all, &mut findings.of_tree)
+}
+
+/// Adds the findings before the line of an index, which are the last ones of some, in the order from the last.
+fn push_earlier(
+    earlier: &mut Vec<EarlierFinding>,
+    index: usize,
+    all: &mut Vec<Finding>,
+) -> Result<(), AllocError> {
+    let count = earlier
+        .iter()
+        .rev()
+        .take_while(|next| next.before == index)
+        .count();
+    for _ in 0..count {
+        if let Some(next) = earlier.pop() {
+            all.push(next.finding)?;
+        }
+    }
+    Ok(())
 }
 
 /// Adds findings without those that an earlier one says, word for word: the lines of a file that is put in place twice
