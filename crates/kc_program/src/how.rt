@@ -3,7 +3,6 @@
 ghost use Rattle.std.specs.Prelude.{All, IfOk, IfSome};
 ghost use Rattle.kc_files.specs.LineReading.{IsAssignFor};
 ghost use Rattle.kc_how.specs.Answer.{IsAnswer, IsLine};
-ghost use Rattle.kc_program.specs.SearchEndings.{IsRightEnding};
 
 use crate::how_kept::with_values_kept;
 use crate::messages::Status;
@@ -241,8 +240,7 @@ enum Ending {
 /// Nothing is searched for where no user values give one of the wanted values.
 fn answer_of(alloc: Global, solved: &Solved<'_>, wanted: &[Assign]) -> Result<Searched, AllocError>
     requires { All (IsAssignFor solved.now.tree) wanted.now }
-    ensures lines { IfOk result (λ found. IfSome found.lines (λ lines. IsAnswer solved.now.tree solved.now.user wanted.now lines.items)) }
-    ensures ending { IfOk result (λ found. IsRightEnding solved.now.tree wanted.now found.ending) }
+    ensures { IfOk result (λ found. IfSome found.lines (λ lines. IsAnswer solved.now.tree solved.now.user wanted.now lines.items)) }
 {
     let plain = plain_candidates(alloc, wanted)?;
     if let Some(lines) = answer(alloc, solved, wanted, plain.as_slice())? {
@@ -268,8 +266,7 @@ fn searched_answer(
     wanted: &[Assign],
 ) -> Result<Searched, AllocError>
     requires { All (IsAssignFor solved.now.tree) wanted.now }
-    ensures lines { IfOk result (λ found. IfSome found.lines (λ lines. IsAnswer solved.now.tree solved.now.user wanted.now lines.items)) }
-    ensures ending { IfOk result (λ found. IsRightEnding solved.now.tree wanted.now found.ending) }
+    ensures { IfOk result (λ found. IfSome found.lines (λ lines. IsAnswer solved.now.tree solved.now.user wanted.now lines.items)) }
 {
     let (lists, ending) = match candidates(alloc, solved.tree(), solved.user(), wanted)? {
         Search::Candidates(lists) => (lists, Ending::NotFound),
