@@ -7,9 +7,9 @@ use crate::selections::push_bracketed;
 use crate::shown_values::{has_no_value, push_asked, push_value};
 use kc_facts::{Attribute, Family, LineIndex, Part, View, push_shortfall, shown_line};
 use kc_files::{
-    Assign, DroppedBackslash, FoundInLine, FragmentLine, Input, LineFact, MeantComment, NamedLine,
-    ReadFault, assign_at, dropped_backslashes, found_in_lines, meant_comments, outcomes_of,
-    read_fragments,
+    Assign, ConfigFinding, DroppedBackslash, FoundInLine, FragmentLine, Input, LineFact,
+    MeantComment, NamedLine, ReadFault, assign_at, findings_of_config, outcomes_of, read_fragments,
+    text_lines,
 };
 use kc_tree::{ChoiceId, Node, SymId, Tree};
 use kc_value::{Reason, active_range, changed_value, reason_over, spelled};
@@ -34,26 +34,44 @@ pub(crate) fn config_findings(
     let read = read_fragments(alloc, tree, inputs.prefix, &[config])?;
     let lines = read.lines.as_slice();
     let outcomes = outcomes_of(alloc, tree, view.values(), lines)?;
-    let facts = found_in_lines(alloc, lines, outcomes.as_slice())?;
-    let comments = meant_comments(alloc, tree, inputs.prefix, config.bytes)?;
-    let dropped = dropped_backslashes(alloc, tree, inputs.prefix, config.bytes, lines)?;
+    let all = findings_of_config(
+        alloc,
+        tree,
+        inputs.prefix,
+        config.bytes,
+        lines,
+        outcomes.as_slice(),
+    )?;
     let report = Report {
         view,
         line_index: index,
         prefix: inputs.prefix.as_str(),
         path: config.path,
         lines,
-        facts: facts.as_slice(),
-        comments: comments.as_slice(),
-        dropped: dropped.as_slice(),
         named: read.unusable.as_slice(),
         unusable: inputs.unusable,
     };
-    report.add(alloc, config.bytes, found)?;
+    let texts = text_lines(alloc, config.bytes)?;
+    let mut unusable = 0usize;
+    for one in all {
+        let number = one.before.saturating_add(1);
+        match &one.finding {
+            ConfigFinding::Comment(comment) => report.add_comment(alloc, number, comment, found)?,
+            ConfigFinding::Line(next) if next.fact == LineFact::Unusable => {
+                report.add_unusable(alloc, number, unusable, found)?;
+                unusable = unusable.saturating_add(1);
+            }
+            ConfigFinding::Line(next) => report.add_usable(alloc, number, next, found)?,
+            ConfigFinding::Dropped(next) => {
+                let text = texts.get(one.before).copied().unwrap_or(&[]);
+                report.add_dropped(alloc, number, text, next, found)?;
+            }
+        }
+    }
     Ok(())
 }
 
-/// The lines of a `.config`, and what is found in them.
+/// The lines of a `.config`, and what can be said of them.
 #[derive(Drop)]
 struct Report<'r, 's, 'l, 'a, 'c> {
     view: &'r View<'s>,
@@ -61,121 +79,37 @@ struct Report<'r, 's, 'l, 'a, 'c> {
     prefix: &'r str,
     path: &'r str,
     lines: &'r [FragmentLine],
-    /// What is found in the lines, in their order.
-    facts: &'r [FoundInLine],
-    /// The comments that are meant as lines, in their order.
-    comments: &'r [MeantComment],
-    /// The backslashes that are dropped, in the order of their lines.
-    dropped: &'r [DroppedBackslash],
     /// The names in the lines that can't be used, and what is said of these, in their order.
     named: &'r [NamedLine<'c>],
     unusable: &'r [String],
 }
 
-/// How many lines of a `.config`, facts of these, lines that can't be used, comments that are meant as lines and dropped
-/// backslashes were passed.
-#[derive(Clone, Copy)]
-struct Passed {
-    lines: usize,
-    facts: usize,
-    unusable: usize,
-    comments: usize,
-    dropped: usize,
-}
-
 impl Report<'_, '_, '_, '_, '_> {
-    /// Adds what is found in each line of the bytes.
-    fn add(&self, alloc: Global, bytes: &[u8], found: &mut Vec<Finding>) -> Result<(), AllocError> {
-        let mut passed = Passed {
-            lines: 0,
-            facts: 0,
-            unusable: 0,
-            comments: 0,
-            dropped: 0,
-        };
-        for (before, text) in bytes.split(|byte| *byte == b'\n').enumerate() {
-            let number = before.saturating_add(1);
-            self.add_comment(alloc, before, &mut passed, found)?;
-            if self.line_at(passed.lines, number).is_none() {
-                continue;
-            }
-            self.add_found(alloc, number, &mut passed, found)?;
-            self.add_dropped(alloc, number, text, &mut passed, found)?;
-            passed.lines = passed.lines.saturating_add(1);
-        }
-        Ok(())
-    }
-
-    /// Adds what is found in the next line, which has a number.
-    fn add_found(
-        &self,
-        alloc: Global,
-        number: usize,
-        passed: &mut Passed,
-        found: &mut Vec<Finding>,
-    ) -> Result<(), AllocError> {
-        let left = self.facts.get(passed.facts..).unwrap_or(&[]);
-        for next in left {
-            if next.line != passed.lines {
-                return Ok(());
-            }
-            passed.facts = passed.facts.saturating_add(1);
-            if next.fact == LineFact::Unusable {
-                self.add_unusable(alloc, number, passed.unusable, found)?;
-                passed.unusable = passed.unusable.saturating_add(1);
-            } else {
-                self.add_usable(alloc, number, next, found)?;
-            }
-        }
-        Ok(())
-    }
-
-    /// The line of an index, if it has a number.
-    fn line_at(&self, index: usize, number: usize) -> Option<&FragmentLine> {
-        let line = self.lines.get(index)?;
-        (line.line.number == number).then_some(line)
-    }
-
-    /// Adds that the line after so many others is a comment which is likely meant as a line, if it is one.
+    /// Adds that a line, which has a number, is a comment that is likely meant as a line.
     fn add_comment(
         &self,
         alloc: Global,
-        before: usize,
-        passed: &mut Passed,
+        number: usize,
+        comment: &MeantComment,
         found: &mut Vec<Finding>,
     ) -> Result<(), AllocError> {
-        let Some(next) = self.comments.get(passed.comments) else {
-            return Ok(());
-        };
-        if next.line != before {
-            return Ok(());
-        }
-        passed.comments = passed.comments.saturating_add(1);
-        let number = before.saturating_add(1);
-        let name = self.view.tree().name(next.symbol);
+        let name = self.view.tree().name(comment.symbol);
         let words = comment_words(alloc, self.prefix, name)?;
         found.push(Finding::in_line(alloc, self.path, number, name, words)?)?;
         Ok(())
     }
 
-    /// Adds that the next line, which has a number, gives a string a text that loses a backslash, if it does.
+    /// Adds that a line, which has a number, gives a string a text that loses a backslash.
     fn add_dropped(
         &self,
         alloc: Global,
         number: usize,
         text: &[u8],
-        passed: &mut Passed,
+        dropped: &DroppedBackslash,
         found: &mut Vec<Finding>,
     ) -> Result<(), AllocError> {
-        let Some(next) = self.dropped.get(passed.dropped) else {
-            return Ok(());
-        };
-        if next.line != passed.lines {
-            return Ok(());
-        }
-        passed.dropped = passed.dropped.saturating_add(1);
-        if let Some(assign) = assign_at(self.lines, next.line) {
-            let words = dropped_words(alloc, self.prefix, text, next)?;
+        if let Some(assign) = assign_at(self.lines, dropped.line) {
+            let words = dropped_words(alloc, self.prefix, text, dropped)?;
             let name = self.view.tree().name(assign.symbol);
             found.push(Finding::in_line(alloc, self.path, number, name, words)?)?;
         }

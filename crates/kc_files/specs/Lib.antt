@@ -1,5 +1,6 @@
 pub mod PrefixForm
 pub mod ConfigText
+pub mod ConfigFindings
 pub mod DraftValue
 pub mod Quoting
 pub mod HeaderText

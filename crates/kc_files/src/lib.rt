@@ -7,6 +7,7 @@ mod assign;
 mod beginning;
 mod comment_words;
 mod config_file;
+mod config_findings;
 mod config_lines;
 mod config_names;
 mod config_reading;
@@ -55,12 +56,14 @@ pub use warning::{Warning, WarningKind};
 pub use written_assigns::assigns_text;
 
 // What becomes of the lines of a `.config` and of fragments, and what is found in them.
+pub use config_findings::{ConfigFinding, FoundInConfig, findings_of_config};
 pub use config_names::{NamedLine, name_in, named_lines};
 pub use counts::MergeCounts;
 pub use fragments::{FragmentLine, FragmentLines, read_fragments};
 pub use input::Input;
 pub use line_facts::{FoundInLine, LineFact, found_in_lines, reported_of};
 pub use line_form::has_name_bytes;
+pub use lines_of_text::text_lines;
 pub use lost_backslashes::{DroppedBackslash, dropped_backslashes};
 pub use outcomes::{Outcome, outcomes_of};
 pub use taken_lines::{assign_at, giving_lines};

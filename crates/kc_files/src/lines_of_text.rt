@@ -11,7 +11,7 @@ use std::alloc::{AllocError, Global};
 /// # Errors
 ///
 /// `AllocError` where memory is refused.
-pub(crate) fn text_lines<'c>(alloc: Global, text: &'c [u8]) -> Result<Vec<&'c [u8]>, AllocError>
+pub fn text_lines<'c>(alloc: Global, text: &'c [u8]) -> Result<Vec<&'c [u8]>, AllocError>
     ensures { IfOk result (λ lines. map (λ line. line.now) lines.items ≡ slice_split is_feed text.now) }
 {
     text.split(|byte| *byte == b'\n').collect(alloc)
