@@ -18,14 +18,12 @@ mod reading_order;
 mod selections;
 mod shown_values;
 mod sourced_files;
-mod tree_facts;
 mod tree_findings;
 mod undefined_names;
 mod unset_symbols;
 mod unused_defaults;
 mod values;
 mod variables;
-mod walk;
 
 pub use checking::check;
 pub use earlier_effects::{EffectsBefore, effects_before};

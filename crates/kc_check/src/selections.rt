@@ -1,7 +1,6 @@
 //! Selects that have no effect, and symbols that are selected for more than their dependencies are worth.
 
 use crate::finding::Finding;
-use crate::walk::Placed;
 use kc_facts::{
     Attribute, FactorLines, Family, Forced, LineIndex, Part, View, is_if, push_expr, push_place,
     shown_line, token_word,
@@ -44,14 +43,6 @@ pub(crate) fn add_member(
 pub(crate) fn name_at(tree: &Tree, definition: usize) -> &str {
     match tree.definitions().get(definition) {
         Some(definition) => tree.name(definition.symbol()),
-        None => "",
-    }
-}
-
-/// The name of the symbol that a line belongs to, empty for other lines.
-pub(crate) fn owner_name<'t>(tree: &'t Tree, placed: &Placed) -> &'t str {
-    match placed.definition {
-        Some(definition) => name_at(tree, definition),
         None => "",
     }
 }

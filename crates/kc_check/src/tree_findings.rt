@@ -3,11 +3,13 @@
 use crate::finding::{Finding, Findings};
 use crate::inputs::CheckInputs;
 use crate::missing_variables::{EarlierFinding, earlier_findings};
-use crate::tree_facts::{Here, TreeFacts};
-use crate::undefined_names::UndefinedNames;
+use crate::selections::{add_forced, add_member};
+use crate::undefined_names::{ListedNames, listed_names};
+use crate::unset_symbols::{add_never_modules, add_unset};
+use crate::unused_defaults::{add_hidden_default, add_unused_default};
+use crate::values::{add_default, add_range};
 use crate::variables::Variables;
-use crate::walk::Walk;
-use kc_facts::{Extent, LineIndex, View};
+use kc_facts::{Extent, FoundInTree, FoundLines, LineIndex, TreeFinding, View, findings_by_line};
 use std::alloc::{AllocError, Global};
 use std::collections::BTreeSet;
 
@@ -28,40 +30,93 @@ pub(crate) fn tree_findings(
 ) -> Result<(), AllocError> {
     let tree = view.tree();
     let prefix = inputs.prefix.as_str();
-    let mut earlier = earlier_findings(alloc, tree, variables, inputs)?;
-    earlier.reverse();
-    let mut undefined = UndefinedNames::of(alloc, tree, inputs.lines, prefix, extent)?;
-    let mut facts = TreeFacts::of(alloc, view, index, extent)?;
-    let mut walk = Walk::new();
-    let mut all = Vec::new(alloc);
-    for (number, line) in inputs.lines.iter().enumerate() {
-        let placed = walk.place(line);
-        push_earlier(&mut earlier, number, &mut all)?;
-        let here = Here { view, index, line };
-        facts.come_to(alloc, &here, &placed, &mut all)?;
-        undefined.check(alloc, line, number, &placed, &mut all)?;
+    let earlier = earlier_findings(alloc, tree, variables, inputs)?;
+    let names = listed_names(alloc, tree, inputs.lines, prefix, extent)?;
+    let befores = befores_of(alloc, earlier.as_slice())?;
+    let lines = FoundLines {
+        earlier: befores.as_slice(),
+        names: names.lines(),
+    };
+    let found = findings_by_line(alloc, view, index, lines, extent)?;
+    let mut worded = Worded {
+        view,
+        index,
+        earlier: some_of(alloc, earlier)?,
+        names: &names,
+        all: Vec::with_capacity(alloc, found.len())?,
+    };
+    for found in found {
+        worded.add(alloc, &found)?;
     }
-    findings.unlisted = undefined.unlisted();
-    add_once(alloc, all, &mut findings.of_tree)
+    findings.unlisted = names.unlisted();
+    add_once(alloc, worded.all, &mut findings.of_tree)
 }
 
-/// Adds the findings before the line of an index, which are the last ones of some, in the order from the last.
-fn push_earlier(
-    earlier: &mut Vec<EarlierFinding>,
-    index: usize,
-    all: &mut Vec<Finding>,
-) -> Result<(), AllocError> {
-    let count = earlier
-        .iter()
-        .rev()
-        .take_while(|next| next.before == index)
-        .count();
-    for _ in 0..count {
-        if let Some(next) = earlier.pop() {
-            all.push(next.finding)?;
+/// The numbers of the lines that findings come before.
+fn befores_of(alloc: Global, earlier: &[EarlierFinding]) -> Result<Vec<usize>, AllocError> {
+    let mut befores = Vec::with_capacity(alloc, earlier.len())?;
+    for earlier in earlier {
+        befores.push(earlier.before)?;
+    }
+    Ok(befores)
+}
+
+/// The findings, each of which is there.
+fn some_of(
+    alloc: Global,
+    earlier: Vec<EarlierFinding>,
+) -> Result<Vec<Option<Finding>>, AllocError> {
+    let mut findings = Vec::with_capacity(alloc, earlier.len())?;
+    for earlier in earlier {
+        findings.push(Some(earlier.finding))?;
+    }
+    Ok(findings)
+}
+
+/// What is found in a tree, in words.
+#[derive(Drop)]
+struct Worded<'w, 's, 'l, 'a, 't> {
+    view: &'w View<'s>,
+    index: &'w LineIndex<'l, 'a>,
+    /// What comes before lines, until it is added.
+    earlier: Vec<Option<Finding>>,
+    names: &'w ListedNames<'t>,
+    all: Vec<Finding>,
+}
+
+impl Worded<'_, '_, '_, '_, '_> {
+    /// Adds what is found in a line.
+    fn add(&mut self, alloc: Global, found: &FoundInTree) -> Result<(), AllocError> {
+        let (view, tree, index) = (self.view, self.view.tree(), self.index);
+        let Some(line) = index.lines().get(found.line) else {
+            return Ok(());
+        };
+        let all = &mut self.all;
+        match &found.finding {
+            TreeFinding::Earlier(number) => self.add_earlier(*number),
+            TreeFinding::Forced(forced) => add_forced(alloc, view, index, line, forced, all),
+            TreeFinding::Unset(number) => add_unset(alloc, tree, line, *number, all),
+            TreeFinding::FaultyDefault(faulty) => add_default(alloc, tree, line, faulty, all),
+            TreeFinding::NeverModules(number) => add_never_modules(alloc, tree, line, *number, all),
+            TreeFinding::UnusedDefault(unused) => {
+                add_unused_default(alloc, tree, index, line, unused, all)
+            }
+            TreeFinding::ExchangedRange(range) => add_range(alloc, tree, line, *range, all),
+            TreeFinding::SelectedMember(number) => add_member(alloc, tree, line, *number, all),
+            TreeFinding::HiddenDefault => add_hidden_default(alloc, line, all),
+            TreeFinding::Name(number) => self.names.add(alloc, tree, line, *number, all),
         }
     }
-    Ok(())
+
+    /// Adds what comes before a line, by its number.
+    fn add_earlier(&mut self, number: usize) -> Result<(), AllocError> {
+        if let Some(earlier) = self.earlier.get_mut(number) {
+            if let Some(finding) = earlier.take() {
+                self.all.push(finding)?;
+            }
+        }
+        Ok(())
+    }
 }
 
 /// Adds findings without those that an earlier one says, word for word: the lines of a file that is put in place twice

@@ -2,64 +2,38 @@
 
 use crate::finding::Finding;
 use crate::long_words::differ_in_long_word;
-use crate::selections::owner_name;
-use crate::walk::Placed;
 use kc_facts::{
     DoubtfulName, Extent, NameReading, NearNames, doubtful_names, is_listed, name_of, push_meant,
     symbol_names, type_words,
 };
 use kc_statement::is_name;
 use kc_text::Line;
-use kc_tree::{SymId, Tree};
+use kc_tree::Tree;
 use std::alloc::{AllocError, Global};
 use std::collections::BTreeSet;
 
-/// The names in expressions that no line defines, and those of strings, ints and hexes that are conditions.
+/// A name that is listed, and what it may have been meant as.
+#[derive(Clone, Copy)]
+struct ListedName<'t> {
+    name: &'t str,
+    doubtful: DoubtfulName,
+    meant: Option<&'t str>,
+}
+
+/// The names that are listed, in the order of their lines.
 #[derive(Drop)]
-pub(crate) struct UndefinedNames<'i, 'l, 't> {
-    tree: &'t Tree,
-    lines: &'i [Line<'l>],
-    prefix: &'i str,
-    extent: Extent,
-    near: NearNames<'t>,
-    /// In the order of the lines.
-    doubtful: Vec<DoubtfulName>,
-    /// How many of these were passed.
-    passed: usize,
-    /// The names that no line defines and that are in no finding so far, by their first uses.
+pub(crate) struct ListedNames<'t> {
+    names: Vec<ListedName<'t>>,
+    /// The numbers of their lines, among all lines from 0.
+    lines: Vec<usize>,
+    /// The names that no line defines and that are not listed, by their first uses.
     unlisted: BTreeSet<usize>,
 }
 
-impl<'i, 'l, 't> UndefinedNames<'i, 'l, 't> {
-    /// Those of lines.
-    ///
-    /// # Errors
-    ///
-    /// `AllocError` where memory is refused.
-    pub fn of(
-        alloc: Global,
-        tree: &'t Tree,
-        lines: &'i [Line<'l>],
-        prefix: &'i str,
-        extent: Extent,
-    ) -> Result<UndefinedNames<'i, 'l, 't>, AllocError> {
-        let doubtful = doubtful_names(alloc, tree, lines)?;
-        let mut unlisted = BTreeSet::new(alloc);
-        for name in &doubtful {
-            if is_undefined(name.used.reading) && is_name(name_of(lines, name.used)) {
-                unlisted.insert(name.first)?;
-            }
-        }
-        Ok(UndefinedNames {
-            tree,
-            lines,
-            prefix,
-            extent,
-            near: NearNames::of(alloc, symbol_names(alloc, tree)?)?,
-            doubtful,
-            passed: 0,
-            unlisted,
-        })
+impl<'t> ListedNames<'t> {
+    /// The number of the line of each, among all lines from 0.
+    pub fn lines(&self) -> &[usize] {
+        self.lines.as_slice()
     }
 
     /// How many names that no line defines are not listed.
@@ -67,87 +41,129 @@ impl<'i, 'l, 't> UndefinedNames<'i, 'l, 't> {
         self.unlisted.len()
     }
 
-    /// Comes to the line of an index: adds the doubtful names in it that are listed.
+    /// Adds what is said of the name of a number, in its line.
     ///
     /// # Errors
     ///
     /// `AllocError` where memory is refused.
-    pub fn check(
-        &mut self,
+    pub fn add(
+        &self,
         alloc: Global,
+        tree: &Tree,
         line: &Line<'_>,
-        index: usize,
-        placed: &Placed,
+        number: usize,
         found: &mut Vec<Finding>,
     ) -> Result<(), AllocError> {
-        let passed = self.passed;
-        self.passed = passed.saturating_add(self.count_up_to(index));
-        for number in passed..self.passed {
-            let Some(doubtful) = self.doubtful.get(number).copied() else {
-                continue;
-            };
-            let name = name_of(self.lines, doubtful.used);
-            let meant = self.meant(&doubtful, name, owner_of(self.tree, placed));
-            if is_listed(
-                self.lines,
-                self.prefix,
-                self.extent,
-                meant.is_some(),
-                &doubtful,
-            ) {
-                self.unlisted.remove(&doubtful.first);
-                let words = words_of(alloc, name, doubtful.used.reading, meant)?;
-                let owner = owner_name(self.tree, placed);
-                found.push(Finding::in_line(alloc, line.path(), line.number(), owner, words)?)?;
-            }
-        }
+        let Some(listed) = self.names.get(number) else {
+            return Ok(());
+        };
+        let used = listed.doubtful.used;
+        let words = words_of(alloc, listed.name, used.reading, listed.meant)?;
+        let owner = match used.owner {
+            Some(symbol) => tree.name(symbol),
+            None => "",
+        };
+        found.push(Finding::in_line(alloc, line.path(), line.number(), owner, words)?)?;
         Ok(())
     }
 
-    /// How many doubtful names, after those that were passed, are in lines up to that of an index.
-    fn count_up_to(&self, line: usize) -> usize {
-        let left = self.doubtful.as_slice().get(self.passed..).unwrap_or(&[]);
-        left.iter()
-            .take_while(|doubtful| doubtful.used.line <= line)
-            .count()
+    /// Adds a name, if it is listed.
+    fn list(&mut self, listed: ListedName<'t>, is_listed: bool) -> Result<(), AllocError> {
+        if is_listed {
+            self.unlisted.remove(&listed.doubtful.first);
+            self.lines.push(listed.doubtful.used.line)?;
+            self.names.push(listed)?;
+        }
+        Ok(())
     }
+}
 
-    /// What a name in a line may have been meant as: the name without the prefix, or one that it is near and differs from
-    /// in a long word, if it is in one place; but not the symbol that the line belongs to.
-    fn meant(&self, doubtful: &DoubtfulName, name: &str, owner: Option<SymId>) -> Option<&'t str> {
-        if !is_undefined(doubtful.used.reading) {
-            return None;
-        }
-        let bare = self.bare(name);
-        if let Some(symbol) = bare.and_then(|bare| self.tree.find(bare)) {
-            return (Some(symbol) != owner).then_some(self.tree.name(symbol));
-        }
-        if !doubtful.is_in_one_line {
-            return None;
-        }
-        let excepted = owner.map(|symbol| self.tree.name(symbol));
-        let name = bare.unwrap_or(name);
-        let near = self.near.nearest(name, excepted)?;
-        differ_in_long_word(name, near).then_some(near)
+/// The names in expressions that no line defines, and those of strings, ints and hexes that are conditions, of which each
+/// that is listed.
+///
+/// # Errors
+///
+/// `AllocError` where memory is refused.
+pub(crate) fn listed_names<'t>(
+    alloc: Global,
+    tree: &'t Tree,
+    lines: &'t [Line<'t>],
+    prefix: &str,
+    extent: Extent,
+) -> Result<ListedNames<'t>, AllocError> {
+    let doubtful = doubtful_names(alloc, tree, lines)?;
+    let near = NearNames::of(alloc, symbol_names(alloc, tree)?)?;
+    let mut listed = ListedNames {
+        names: Vec::new(alloc),
+        lines: Vec::new(alloc),
+        unlisted: undefined_uses(alloc, lines, doubtful.as_slice())?,
+    };
+    for doubtful in doubtful {
+        let name = name_of(lines, doubtful.used);
+        let meant = meant_name(tree, &near, prefix, &doubtful, name);
+        let is_one = is_listed(lines, prefix, extent, meant.is_some(), &doubtful);
+        let one = ListedName {
+            name,
+            doubtful,
+            meant,
+        };
+        listed.list(one, is_one)?;
     }
+    Ok(listed)
+}
 
-    /// A name without the prefix that it has.
-    fn bare<'n>(&self, name: &'n str) -> Option<&'n str> {
-        if self.prefix == "" {
-            return None;
+/// The first uses of the names that no line defines.
+fn undefined_uses(
+    alloc: Global,
+    lines: &[Line<'_>],
+    doubtful: &[DoubtfulName],
+) -> Result<BTreeSet<usize>, AllocError> {
+    let mut uses = BTreeSet::new(alloc);
+    for name in doubtful {
+        if is_undefined(name.used.reading) && is_name(name_of(lines, name.used)) {
+            uses.insert(name.first)?;
         }
-        name.strip_prefix(self.prefix)
     }
+    Ok(uses)
+}
+
+/// What a name in a line may have been meant as: the name without the prefix, or one that it is near and differs from in a
+/// long word, if it is in one place; but not the symbol that the line belongs to.
+fn meant_name<'t>(
+    tree: &'t Tree,
+    near: &NearNames<'t>,
+    prefix: &str,
+    doubtful: &DoubtfulName,
+    name: &str,
+) -> Option<&'t str> {
+    if !is_undefined(doubtful.used.reading) {
+        return None;
+    }
+    let owner = doubtful.used.owner;
+    let bare = without_prefix(name, prefix);
+    if let Some(symbol) = bare.and_then(|bare| tree.find(bare)) {
+        return (Some(symbol) != owner).then_some(tree.name(symbol));
+    }
+    if !doubtful.is_in_one_line {
+        return None;
+    }
+    let excepted = owner.map(|symbol| tree.name(symbol));
+    let name = bare.unwrap_or(name);
+    let near = near.nearest(name, excepted)?;
+    differ_in_long_word(name, near).then_some(near)
+}
+
+/// A name without the prefix that it has.
+fn without_prefix<'n>(name: &'n str, prefix: &str) -> Option<&'n str> {
+    if prefix == "" {
+        return None;
+    }
+    name.strip_prefix(prefix)
 }
 
 /// Whether a name is read as one that no line defines.
 fn is_undefined(reading: NameReading) -> bool {
     !matches!(reading, NameReading::Condition(_))
-}
-
-/// The symbol that a line belongs to.
-fn owner_of(tree: &Tree, placed: &Placed) -> Option<SymId> {
-    Some(tree.definitions().get(placed.definition?)?.symbol())
 }
 
 /// What is said of a name in a line, by how it is read, and of what it may have been meant as.

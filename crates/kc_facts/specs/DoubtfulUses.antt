@@ -37,7 +37,7 @@ abbrev pub owner_of : List LineValue → TreeValue → ℕ → Option SymId
 owner_of lines t i = owner_at t (before lines (i + 1))
 
 abbrev pub context_of : TreeValue → Option SymId → Keyword → List Token → LineContext
-context_of t owner word tokens = record { keyword = word; kind = option_map (type_of t) owner; lone_len = lone_len word tokens }
+context_of t owner word tokens = record { owner = owner; keyword = word; kind = option_map (type_of t) owner; lone_len = lone_len word tokens }
 
 -- ---- words that are no names
 -- it begins with `0x` or `0X`
@@ -91,12 +91,12 @@ read_at t u tokens p =
     if is_place u.keyword p then option_and_then (read_word t u tokens p) (option_and_then token_word (slice_get tokens p)) else None
 
 -- ---- these names, in the order of the lines and of their tokens
-abbrev pub use_if : ℕ → ℕ → Option NameReading → List DoubtfulUse
-use_if i p r = option_to_list (option_map (λ x. record { line = i; token = p; reading = x }) r)
+abbrev pub use_if : ℕ → Option SymId → ℕ → Option NameReading → List DoubtfulUse
+use_if i owner p r = option_to_list (option_map (λ x. record { line = i; owner = owner; token = p; reading = x }) r)
 
 -- the one at a place of the line of an index
 abbrev pub use_in : TreeValue → ℕ → LineContext → List Token → ℕ → List DoubtfulUse
-use_in t i u tokens p = use_if i p (read_at t u tokens p)
+use_in t i u tokens p = use_if i u.owner p (read_at t u tokens p)
 
 abbrev pub uses_in : TreeValue → ℕ → LineContext → List Token → List DoubtfulUse
 uses_in t i u tokens = flat_map (use_in t i u tokens) (range_with_len 0 (length tokens))

@@ -23,6 +23,7 @@ pub mod RowSteps
 pub mod SelectedMembers
 pub mod Shown
 pub mod SourcedFiles
+pub mod TreeFindings
 pub mod Unset
 pub mod UnusedDefaults
 pub mod WhyRows

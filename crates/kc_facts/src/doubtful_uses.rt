@@ -18,10 +18,12 @@ use kc_tree::{SymId, Tree};
 use std::alloc::{AllocError, Global};
 
 /// A name that is read as something other than the value of its symbol: the index of its line, and its place among the
-/// tokens of that.
+/// tokens of that (this project's own).
 #[derive(Clone, Copy, Debug, PartialEq, Eq)]
 pub struct DoubtfulUse {
     pub line: usize,
+    /// The symbol that the line belongs to.
+    pub owner: Option<SymId>,
     pub token: usize,
     pub reading: NameReading,
 }
@@ -59,6 +61,7 @@ fn context_of(tree: &Tree, owner: Option<SymId>, word: Keyword, tokens: &[Token<
     ensures { result ≡ context_of tree.now owner word tokens.now }
 {
     LineContext {
+        owner,
         keyword: word,
         kind: kind_of(tree, owner),
         lone_len: lone_len(word, tokens),
@@ -190,18 +193,20 @@ fn read_at(
     read_word(tree, line, tokens, place, word)
 }
 
-/// Adds the name at a place of the line of an index, if it is read as this.
+/// Adds the name at a place of the line of an index, which belongs to a symbol, if it is read as this.
 fn add_use(
     found: &mut Vec<DoubtfulUse>,
     line: usize,
+    owner: Option<SymId>,
     token: usize,
     reading: Option<NameReading>,
 ) -> Result<(), AllocError>
-    ensures { OnOk result (found.new.items ≡ found.old.items ++ use_if line token reading) }
+    ensures { OnOk result (found.new.items ≡ found.old.items ++ use_if line owner token reading) }
 {
     if let Some(reading) = reading {
         found.push(DoubtfulUse {
             line,
+            owner,
             token,
             reading,
         })?;
@@ -220,7 +225,8 @@ fn add_uses(
     ensures { OnOk result (found.new.items ≡ found.old.items ++ uses_in tree.now index line.now tokens.now) }
 {
     for place in 0..tokens.len() {
-        add_use(found, index, place, read_at(tree, line, tokens, place))?;
+        let reading = read_at(tree, line, tokens, place);
+        add_use(found, index, line.owner, place, reading)?;
     }
     Ok(())
 }

@@ -1,13 +1,15 @@
 //! Which line each part of a tree comes from.
 
-ghost use Rattle.std.specs.Prelude.{◌≡◌, ◌≤◌, length, ◌++◌, [], ◌∷◌, false, drop, option_and_then, slice_get, IfOk, OnOk, if◌then◌else◌};
+ghost use Rattle.std.specs.Prelude.{◌≡◌, ◌≤◌, ◌<◌, ◌+◌, length, ◌++◌, [], ◌∷◌, false, drop, option_and_then, slice_get, IfOk, OnOk, if◌then◌else◌};
 ghost use Rattle.std.specs.List.{prefix_len, take_while};
 ghost use Rattle.std.specs.Option.{option_copied, option_map_or};
 ghost use Rattle.kc_statement.specs.Keywords.{is_attribute};
-ghost use Rattle.kc_facts.specs.LineIndex.{AreStarts, attributes_of, begins, line_of};
+ghost use Rattle.kc_facts.specs.Attributes.{says};
+ghost use Rattle.kc_facts.specs.LineIndex.{AreStarts, attribute_number, attributes_of, begins, line_of, number_of, numbers_from, numbers_saying};
+ghost use Rattle.kc_facts.specs.declared.parts.Part.TheVariants.{Owner};
 
 use crate::attributes::nth_saying;
-use crate::parts::{Family, Part, begins};
+use crate::parts::{Attribute, Family, Part, begins, says};
 use kc_statement::read_keyword;
 use kc_text::Line;
 use std::alloc::{AllocError, Global};
@@ -96,11 +98,52 @@ impl<'l, 'a> LineIndex<'l, 'a> {
     }
 
     /// The attribute lines of the one of a number of a family, which come after its line; an `if` has none.
-    #[tactic(auto, using(crate::proofs::StartLaws::started_attributes))]
     pub fn attributes(&self, family: Family, number: usize) -> &'l [Line<'a>]
         ensures { result.now ≡ attributes_of (begins family) self.now number }
     {
         attributes_at(self.lines, self.starts(family), number)
+    }
+
+    /// The number of the line, among all lines from 0, that begins the one of a number of a family.
+    pub fn start(&self, family: Family, number: usize) -> Option<usize>
+        ensures { result ≡ number_of self.now (Owner family number) }
+    {
+        self.starts(family).get(number).copied()
+    }
+
+    /// The numbers of the lines, among all lines from 0, that say an attribute of the one of a number of a family, in
+    /// their order.
+    ///
+    /// # Errors
+    ///
+    /// `AllocError` where memory is refused.
+    pub fn numbers_saying(
+        &self,
+        alloc: Global,
+        family: Family,
+        number: usize,
+        attribute: Attribute,
+    ) -> Result<Vec<usize>, AllocError>
+        ensures { IfOk result (λ r. r.items ≡ numbers_saying self.now family number attribute) }
+    {
+        match self.start(family, number) {
+            Some(start) => numbers_after(alloc, self.lines(), start, attribute),
+            None => Ok(Vec::new(alloc)),
+        }
+    }
+
+    /// The number of an attribute line, among all lines from 0, by its number among those of the one of a number of a
+    /// family.
+    pub fn attribute_number(&self, family: Family, number: usize, nth: usize) -> Option<usize>
+        ensures { result ≡ attribute_number self.now family number nth }
+    {
+        let start = self.start(family, number)?;
+        let starts = self.starts(family);
+        let attributes = attributes_at(self.lines, starts, number);
+        if nth < attributes.len() {
+            return Some(start + 1 + nth);
+        }
+        None
     }
 
     /// The lines.
@@ -139,6 +182,28 @@ fn attributes_at<'l, 'a>(lines: &'l [Line<'a>], starts: &[usize], part: usize) -
         Some(start) => leading_attributes(after_first(from_start(lines, *start))),
         None => &lines[..0],
     }
+}
+
+/// The numbers of the lines that say an attribute, among the attribute lines after the line of a number.
+fn numbers_after(
+    alloc: Global,
+    lines: &[Line<'_>],
+    start: usize,
+    attribute: Attribute,
+) -> Result<Vec<usize>, AllocError>
+    requires { start < length lines.now }
+    ensures { IfOk result (λ r. r.items
+        ≡ numbers_from (says attribute) (start + 1) (take_while is_attribute (drop 1 (drop start lines.now)))) }
+{
+    let mut numbers = Vec::new(alloc);
+    for number in start + 1..lines.len() {
+        let line = &lines[number];
+        if !is_attribute(line) {
+            break;
+        }
+        note(&mut numbers, number, says(attribute, line))?;
+    }
+    Ok(numbers)
 }
 
 /// The lines from a number on.

@@ -8,6 +8,7 @@ ghost use Rattle.kc_facts.specs.NameReadings.{first_place, is_bound, is_comparis
 use crate::parts::{Attribute, is_of};
 use kc_statement::{Keyword, SymbolType, is_word};
 use kc_text::{Operator, Token};
+use kc_tree::SymId;
 
 /// How the name of a symbol is read in a line, where it is not read as the value of that symbol.
 #[derive(Clone, Copy, Debug, PartialEq, Eq)]
@@ -29,6 +30,8 @@ pub enum NameReading {
 /// What the readings of the words in a line depend on, beside its tokens.
 #[derive(Clone, Copy)]
 pub(crate) struct LineContext {
+    /// The symbol that the line belongs to.
+    pub owner: Option<SymId>,
     pub keyword: Keyword,
     /// The type of the symbol that the line belongs to.
     pub kind: Option<SymbolType>,

@@ -9,4 +9,4 @@ loop-place-preserved c =
     let p = c.loop-place.place in
     let now = c.loop-place.found.items in
     flat_map_after (use_in c.args.tree.now i c.args.line.now c.args.tokens.now) p c.args.found.now.items now c.add_use.new.found.items c.loop-place.invariant
-    (c.in_ok-add_use.ensures ∙ ap (λ r. now ++ use_if i p r) c.read_at.ensures)
+    (c.in_ok-add_use.ensures ∙ ap (λ r. now ++ use_if i c.args.line.now.owner p r) c.read_at-reading.ensures)

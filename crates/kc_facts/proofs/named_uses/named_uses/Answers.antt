@@ -32,10 +32,10 @@ loop-place-preserved c =
     let names = c.loop-place.names in
     let now = c.loop-place.found.items in
     let known = c.loop-place.invariant in
-    let used = get_or us i (record { line = 0; token = 0; reading = reading.No }) in
+    let used = get_or us i (record { line = 0; owner = None; token = 0; reading = reading.No }) in
     let name = c.name_of.result.now in
     let own = get_by (λ k. slice_cmp nat_cmp name k.now) names in
-    let is : slice_get us i ≡ Some used = slice_get-get_or us i (record { line = 0; token = 0; reading = reading.No }) c.loop-place-test.true in
+    let is : slice_get us i ≡ Some used = slice_get-get_or us i (record { line = 0; owner = None; token = 0; reading = reading.No }) c.loop-place-test.true in
     let test : (q : List ℕ) → is_named lines us q i ≡ bytes_eq name q =
     λ q. ap (λ o. option_map_or (λ u. bytes_eq (name_of lines u) q) o false) is ∙ ap (λ w. bytes_eq w q) (sym c.name_of.ensures) in
     record {

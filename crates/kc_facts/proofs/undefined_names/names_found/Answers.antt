@@ -7,7 +7,7 @@ use Rattle.kc_facts.proofs.DoubtfulLaws.{flat_map_take}
 use Rattle.kc_facts.proofs.undefined_names.names_found.Goals as goal
 
 abbrev no_use : NamedUse
-no_use = record { used = record { line = 0; token = 0; reading = reading.No }; first = 0; before = None }
+no_use = record { used = record { line = 0; owner = None; token = 0; reading = reading.No }; first = 0; before = None }
 
 pub loop-place-preserved : goal.loop-place-preserved
 loop-place-preserved c =

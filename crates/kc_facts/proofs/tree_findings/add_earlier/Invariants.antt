@@ -1,0 +1,8 @@
+use Rattle.std.proofs.Common.{◌≡◌, ◌++◌}
+use Rattle.std.specs.List.{flat_map, range_with_len}
+use Rattle.kc_facts.specs.TreeFindings.{earlier_found}
+use Rattle.kc_facts.proofs.tree_findings.add_earlier.Given as goal
+
+-- those so far
+abbrev pub invariant-loop-number : goal.invariant-loop-number
+invariant-loop-number l = l.found.items ≡ l.initial.found.items ++ flat_map (earlier_found l.earlier) (range_with_len 0 l.number)

@@ -1,0 +1,13 @@
+use Rattle.std.proofs.Common.{◌≡◌, ◌++◌, drop}
+use Rattle.std.specs.List.{flat_map}
+use Rattle.kc_facts.specs.declared.parts.Attribute.TheVariants.{Default}
+use Rattle.kc_facts.specs.TreeFindings.{faulty_found}
+use Rattle.kc_facts.proofs.tree_findings.add_faulty.Given as goal
+
+-- with those that are left they are all
+abbrev pub invariant-loop-one : goal.invariant-loop-one
+invariant-loop-one l = record {
+  all : l.found.items ++ flat_map (faulty_found l.index) (drop l.one-index l.faulty) ≡ l.initial.found.items ++ flat_map (faulty_found l.index) l.faulty;
+  lines : l.lines.lines ≡ l.index;
+  attribute : l.lines.attribute ≡ Default;
+}
