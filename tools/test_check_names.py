@@ -63,8 +63,8 @@ WRONG = {
 TABLE = """\
 | What | CRATE/FILE | Function |
 |---|---|---|
-| a line becomes words | kc_text/tokens | `tokens` |
-| a line becomes rows | kc_text/tokens | `token_rows` |
+| a line becomes words | kc_text/lexer | `tokens` |
+| a line becomes rows | kc_text/lexer | `token_rows` |
 
 | What | Name |
 |---|---|

@@ -15,7 +15,7 @@ use Rattle.std.proofs.lemmas.Map.Text.{is_eq-slice_cmp}
 use Rattle.std.proofs.lemmas.Slice.Eq.{bytes_eq-Decides}
 use Rattle.kc_text.specs.FileList.{file_of, file_list, bytes_in, IsCounted}
 use Rattle.kc_text.specs.Sources.{other_bytes}
-use Rattle.kc_text.proofs.Files.{other_bytes-cons}
+use Rattle.kc_text.proofs.FileLists.{other_bytes-cons}
 
 abbrev Text : Type 0
 Text = String Global

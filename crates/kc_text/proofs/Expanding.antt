@@ -8,8 +8,8 @@ use Rattle.kc_text.specs.declared.fault.TextProblem.{TextProblem}
 use Rattle.kc_text.specs.declared.fault.TextProblem.TheVariants.{Limit, BadReference}
 use Rattle.kc_text.specs.declared.fault.LineFault.{LineFault}
 use Rattle.kc_text.specs.declared.fault.LineFault.TheVariants.{Problem, NoMemory}
-use Rattle.kc_text.specs.declared.reference.Piece.{Piece as Part}
-use Rattle.kc_text.specs.declared.reference.Piece.TheVariants.{Text, Reference, Malformed}
+use Rattle.kc_text.specs.declared.expansion.Piece.{Piece as Part}
+use Rattle.kc_text.specs.declared.expansion.Piece.TheVariants.{Text, Reference, Malformed}
 use Rattle.kc_text.specs.Faults.{ReadsAfter}
 use Rattle.kc_text.specs.declared.variables.Value.TheVariants.{Recursive}
 use Rattle.kc_text.specs.References.{Piece, byte, value_pieces}

@@ -2,7 +2,7 @@
 use Rattle.std.proofs.Common.{◌≡◌, ◌∙◌, ℕ, List, [], ◌∷◌, Bool, true, false, ◌==◌, ◌||◌, drop, if◌then◌else◌, Option, Some, None, IfSome, Bor, refl, ap, sym, arith}
 use Rattle.std.specs.List.{prefix_len}
 use Rattle.std.proofs.lemmas.Bool.Decides.{nat_tests}
-use Rattle.kc_text.specs.declared.definition.Definition.{Definition}
+use Rattle.kc_text.specs.declared.variables.Definition.{Definition}
 use Rattle.kc_text.specs.declared.line.Token.{Token}
 use Rattle.kc_text.specs.Bytes.{is_blank, is_name, is_word, behind_blanks}
 use Rattle.kc_text.specs.Definitions.{assignment_in, definition_after_blanks, definition_of, may_assign}

@@ -7,7 +7,7 @@ use Rattle.std.proofs.lemmas.List.{get_or-reverse, take-append-drop}
 use Rattle.std.proofs.lemmas.List.Sums.{prefix_len_passes, suffix_len-le-length}
 use Rattle.std.proofs.lemmas.Slice.Eq.{bytes_eq-Decides}
 use Rattle.kc_text.specs.declared.line.Token.TheVariants.{Word}
-use Rattle.kc_text.specs.declared.definition.Definition.{Definition}
+use Rattle.kc_text.specs.declared.variables.Definition.{Definition}
 use Rattle.kc_text.specs.Bytes.{is_blank, is_name, is_word, behind_blanks, trimmed}
 use Rattle.kc_text.specs.Definitions.{assignment_in, definition_after_blanks, definition_of}
 use Rattle.kc_text.specs.Expansion.{Names, Environment}

@@ -16,7 +16,7 @@ use Rattle.kc_text.specs.MoreFiles.{Extends}
 use Rattle.kc_text.specs.Sources.{text_of, count_with, other_bytes, put, added}
 use Rattle.kc_text.specs.declared.fault.TextProblem.TheVariants.{Limit}
 use Rattle.kc_text.specs.declared.fault.TextFault.TheVariants.{At}
-use Rattle.kc_text.proofs.Files.{added-ok, other_bytes-cons}
+use Rattle.kc_text.proofs.FileLists.{added-ok, other_bytes-cons}
 
 abbrev pub Lent : Type 0
 Lent = Bor (List ℕ)

@@ -5,7 +5,7 @@ pub mod Cutting
 pub mod EntryLaws
 pub mod Examples
 pub mod Expanding
-pub mod Files
+pub mod FileLists
 pub mod FirstLines
 pub mod FirstWords
 pub mod HelpLines

@@ -10,7 +10,7 @@ use Rattle.kc_text.specs.declared.fault.TextProblem.TheVariants.{MissingSource}
 use Rattle.kc_text.specs.declared.fault.TextFault.{TextFault}
 use Rattle.kc_text.specs.declared.fault.TextFault.TheVariants.{At}
 use Rattle.kc_text.specs.declared.reading.TheConstants.{MOST_LINES}
-use Rattle.kc_text.specs.declared.sources.TheConstants.{MAX_BYTES}
+use Rattle.kc_text.specs.declared.files.TheConstants.{MAX_BYTES}
 use Rattle.kc_text.specs.Bytes.{is_feed}
 use Rattle.kc_text.specs.FileList.{File}
 use Rattle.kc_text.specs.Sources.{text_of}

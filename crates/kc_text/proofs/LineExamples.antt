@@ -4,9 +4,9 @@ use Rattle.std.proofs.Common.{◌≡◌, ℕ, List, [], ◌∷◌, map, take, So
 use Rattle.kc_text.specs.declared.fault.TextProblem.{TextProblem}
 use Rattle.kc_text.specs.declared.fault.TextProblem.TheVariants.{UnclosedQuote, BadReference, RecursiveVariable}
 use Rattle.kc_text.specs.declared.fault.TextFault.TheVariants.{At}
-use Rattle.kc_text.specs.declared.definition.Assignment.{Assignment}
-use Rattle.kc_text.specs.declared.definition.Assignment.TheVariants.{Later, AtOnce, Append}
-use Rattle.kc_text.specs.declared.definition.Definition.{Definition}
+use Rattle.kc_text.specs.declared.variables.Assignment.{Assignment}
+use Rattle.kc_text.specs.declared.variables.Assignment.TheVariants.{Later, AtOnce, Append}
+use Rattle.kc_text.specs.declared.variables.Definition.{Definition}
 use Rattle.kc_text.specs.declared.line.LineKind.TheVariants.{Statement, EndOfFile}
 use Rattle.kc_text.specs.declared.line.Operator.TheVariants.{Not, Equal, NotEqual}
 use Rattle.kc_text.specs.declared.line.Token.TheVariants.{Word}

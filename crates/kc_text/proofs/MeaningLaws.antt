@@ -7,9 +7,9 @@ use Rattle.std.proofs.lemmas.List.Elements.{filter-append}
 use Rattle.std.proofs.lemmas.Slice.Eq.{bytes_eq-Decides}
 use Rattle.kc_text.specs.declared.fault.TextProblem.{TextProblem}
 use Rattle.kc_text.specs.declared.fault.TextProblem.TheVariants.{Limit}
-use Rattle.kc_text.specs.declared.definition.Assignment.{Assignment}
-use Rattle.kc_text.specs.declared.definition.Assignment.TheVariants.{Later, AtOnce, Append}
-use Rattle.kc_text.specs.declared.definition.Definition.{Definition}
+use Rattle.kc_text.specs.declared.variables.Assignment.{Assignment}
+use Rattle.kc_text.specs.declared.variables.Assignment.TheVariants.{Later, AtOnce, Append}
+use Rattle.kc_text.specs.declared.variables.Definition.{Definition}
 use Rattle.kc_text.specs.declared.variables.Value.{Value}
 use Rattle.kc_text.specs.declared.variables.Value.TheVariants.{Recursive, Simple}
 use Rattle.kc_text.specs.References.{value_pieces}

@@ -14,7 +14,7 @@ use Rattle.kc_text.specs.Expansion.{Environment, texts_in}
 use Rattle.kc_text.specs.Faults.{Fails, IsFaultAt}
 use Rattle.kc_text.specs.FileList.{file_list}
 use Rattle.kc_text.specs.Vars.{Pair, pair_fault, last_text, text_problem, vars_of}
-use Rattle.kc_text.proofs.Files.{text_of-updated}
+use Rattle.kc_text.proofs.FileLists.{text_of-updated}
 
 -- the texts with one for a name
 abbrev given : Pair → Environment → Environment

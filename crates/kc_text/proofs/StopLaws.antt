@@ -5,8 +5,8 @@ use Rattle.std.proofs.lemmas.List.{append-nil}
 use Rattle.std.proofs.lemmas.List.Folds.{list_any-append}
 use Rattle.std.proofs.lemmas.Option.{none-some}
 use Rattle.kc_text.specs.declared.line.Operator.{Operator}
-use Rattle.kc_text.specs.declared.reference.Piece.{Piece as Part}
-use Rattle.kc_text.specs.declared.reference.Piece.TheVariants.{Text, Reference, Malformed}
+use Rattle.kc_text.specs.declared.expansion.Piece.{Piece as Part}
+use Rattle.kc_text.specs.declared.expansion.Piece.TheVariants.{Text, Reference, Malformed}
 use Rattle.kc_text.specs.declared.stops.StopKind.{StopKind}
 use Rattle.kc_text.specs.declared.stops.StopKind.TheVariants.{UnclosedQuote, BadReference}
 use Rattle.kc_text.specs.declared.stops.Stop.{Stop}

@@ -9,7 +9,7 @@ use Rattle.kc_text.specs.declared.fault.LineFault.{LineFault}
 use Rattle.kc_text.specs.declared.fault.LineFault.TheVariants.{Problem, NoMemory}
 use Rattle.kc_text.specs.declared.line.Token.{Token}
 use Rattle.kc_text.specs.declared.line.Token.TheVariants.{Word, Expanded, Quoted}
-use Rattle.kc_text.specs.declared.reference.Piece.{Piece as Part}
+use Rattle.kc_text.specs.declared.expansion.Piece.{Piece as Part}
 use Rattle.kc_text.specs.Faults.{ReadsBy}
 use Rattle.kc_text.specs.References.{Piece}
 use Rattle.kc_text.specs.Lexing.{Raw, word, quoted, raw_tokens}

@@ -2,8 +2,8 @@
 -- name, blanks, one of = := +=, and the value up to the end of the line.
 use Rattle.std.specs.Prelude.{ℕ, List, [], ◌∷◌, Option, Some, None, if◌then◌else◌, ◌==◌, ◌&&◌, drop}
 use Rattle.std.specs.List.{prefix_len}
-use Rattle.kc_text.specs.declared.definition.Assignment.TheVariants.{Later, AtOnce, Append}
-use Rattle.kc_text.specs.declared.definition.Definition.{Definition}
+use Rattle.kc_text.specs.declared.variables.Assignment.TheVariants.{Later, AtOnce, Append}
+use Rattle.kc_text.specs.declared.variables.Definition.{Definition}
 use Rattle.kc_text.specs.Bytes.{is_name, begins_with, behind_blanks, trimmed}
 use Rattle.kc_text.specs.References.{leading_name}
 

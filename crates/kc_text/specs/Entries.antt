@@ -11,9 +11,9 @@ use Rattle.kc_text.specs.declared.fault.TextProblem.{TextProblem}
 use Rattle.kc_text.specs.declared.fault.TextProblem.TheVariants.{Limit, BadCharacter, UnclosedQuote, MissingSource, RecursiveSource}
 use Rattle.kc_text.specs.declared.fault.TextFault.{TextFault}
 use Rattle.kc_text.specs.declared.fault.TextFault.TheVariants.{At, NoMemory}
-use Rattle.kc_text.specs.declared.definition.Assignment.{Assignment}
-use Rattle.kc_text.specs.declared.definition.Assignment.TheVariants.{Later, AtOnce, Append}
-use Rattle.kc_text.specs.declared.definition.Definition.{Definition}
+use Rattle.kc_text.specs.declared.variables.Assignment.{Assignment}
+use Rattle.kc_text.specs.declared.variables.Assignment.TheVariants.{Later, AtOnce, Append}
+use Rattle.kc_text.specs.declared.variables.Definition.{Definition}
 use Rattle.kc_text.specs.declared.variables.Value.{Value}
 use Rattle.kc_text.specs.declared.variables.Value.TheVariants.{Recursive, Simple}
 use Rattle.kc_text.specs.FileList.{File}

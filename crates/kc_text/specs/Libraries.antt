@@ -3,8 +3,8 @@ use Rattle.std.specs.Prelude.{◌≡◌, ℕ, List, Option, Some, None, Result, 
 use denote.Ref.{Bor}
 use Rattle.kc_text.specs.declared.fault.FileFault.{FileFault}
 use Rattle.kc_text.specs.declared.fault.FileFault.TheVariants.{Files, Folder}
-use Rattle.kc_text.specs.declared.library.Texts.{Texts}
-use Rattle.kc_text.specs.declared.library.Texts.TheVariants.{Given, Read}
+use Rattle.kc_text.specs.declared.files.Texts.{Texts}
+use Rattle.kc_text.specs.declared.files.Texts.TheVariants.{Given, Read}
 use Rattle.kc_text.specs.Faults.{Fails}
 use Rattle.kc_text.specs.FileList.{File}
 use Rattle.kc_text.specs.Folders.{FolderAnswer, has, lacks, refuses}

@@ -3,9 +3,9 @@ use Rattle.std.specs.Prelude.{◌≡◌, ℕ, ◌≤◌, Bool, true, false, List
 use Rattle.std.specs.List.{filter, list_any, enumerate_from}
 use Rattle.std.specs.Str.{bytes_eq}
 use Rattle.kc_text.specs.declared.fault.TextProblem.{TextProblem}
-use Rattle.kc_text.specs.declared.definition.Assignment.{Assignment}
-use Rattle.kc_text.specs.declared.definition.Assignment.TheVariants.{Later, AtOnce, Append}
-use Rattle.kc_text.specs.declared.definition.Definition.{Definition}
+use Rattle.kc_text.specs.declared.variables.Assignment.{Assignment}
+use Rattle.kc_text.specs.declared.variables.Assignment.TheVariants.{Later, AtOnce, Append}
+use Rattle.kc_text.specs.declared.variables.Definition.{Definition}
 use Rattle.kc_text.specs.declared.variables.Value.{Value}
 use Rattle.kc_text.specs.declared.variables.Value.TheVariants.{Recursive, Simple}
 use Rattle.kc_text.specs.References.{value_pieces}

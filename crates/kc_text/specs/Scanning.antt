@@ -8,16 +8,16 @@ use Rattle.kc_text.specs.declared.fault.LineFault.TheVariants.{Problem, NoMemory
 use Rattle.kc_text.specs.declared.fault.TextFault.{TextFault}
 use Rattle.kc_text.specs.declared.fault.TextFault.TheVariants.{NoMemory}
 use Rattle.kc_text.specs.declared.reading.Reader.{Reader}
-use Rattle.kc_text.specs.declared.state.State.{State}
+use Rattle.kc_text.specs.declared.reading.State.{State}
 use Rattle.kc_text.specs.declared.place.Place.{Place as CodePlace}
 use Rattle.kc_text.specs.FileList.{File}
 use Rattle.kc_text.specs.Faults.{IsFaultAt}
 pub use Rattle.kc_text.specs.ItemContent.{item_of, joined_text}
 use Rattle.kc_text.specs.Reading.{ReadState, Place, Placing, placed}
-use Rattle.kc_text.specs.declared.reference.Piece.{Piece as Part}
-use Rattle.kc_text.specs.declared.reference.Piece.TheVariants.{Text, Reference, Malformed}
-use Rattle.kc_text.specs.declared.scan.RawToken.{RawToken}
-use Rattle.kc_text.specs.declared.scan.RawToken.TheVariants.{Word, Spliced, Quoted, QuotedParts, Operator, Unclosed, NotAllowed}
+use Rattle.kc_text.specs.declared.expansion.Piece.{Piece as Part}
+use Rattle.kc_text.specs.declared.expansion.Piece.TheVariants.{Text, Reference, Malformed}
+use Rattle.kc_text.specs.declared.lexer.RawToken.{RawToken}
+use Rattle.kc_text.specs.declared.lexer.RawToken.TheVariants.{Word, Spliced, Quoted, QuotedParts, Operator, Unclosed, NotAllowed}
 use Rattle.kc_text.specs.declared.expansion.Expansion.{Expansion}
 use Rattle.kc_text.specs.References.{Piece, byte, reference, malformed}
 use Rattle.kc_text.specs.Lexing.{Raw, word, quoted, operator, unclosed, not_allowed}

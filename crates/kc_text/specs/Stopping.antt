@@ -1,7 +1,7 @@
 -- Steps: how the reading of a line comes to where it stops: this project's own.
 use Rattle.std.specs.Prelude.{ℕ, ◌<◌, ◌≡◌, false, List, [], ◌∷◌, Some, None, length, slice_index}
-use Rattle.kc_text.specs.declared.reference.Piece.{Piece as Part}
-use Rattle.kc_text.specs.declared.reference.Piece.TheVariants.{Text, Reference, Malformed}
+use Rattle.kc_text.specs.declared.expansion.Piece.{Piece as Part}
+use Rattle.kc_text.specs.declared.expansion.Piece.TheVariants.{Text, Reference, Malformed}
 use Rattle.kc_text.specs.declared.stops.Stop.{Stop}
 use Rattle.kc_text.specs.declared.stops.Passed.{Passed}
 use Rattle.kc_text.specs.declared.stops.Passed.TheVariants.{Read, Stopped}

@@ -1,12 +1,25 @@
-//! Help texts.
+//! Help texts, and the lines that begin them.
 
-ghost use Rattle.std.specs.Prelude.{◌≡◌, ◌+◌, ◌^◌, ◌<◌, ◌≤◌, ◌==◌, ◌||◌, drop, length, slice_index};
+ghost use Rattle.std.specs.Prelude.{◌≡◌, ◌+◌, ◌^◌, ◌<◌, ◌≤◌, ◌==◌, ◌||◌, drop, length, slice_index, ◌++◌, string_bytes, take, IfOk, OnOk, ◌∷◌, [], codes, true, None, Ok};
 ghost use Rattle.std.specs.Str.Lines.{lines};
 ghost use Rattle.kc_text.specs.Bytes.{behind_blanks};
-ghost use Rattle.kc_text.specs.Help.{before_comment, begins_with_end, column_after, first_indentation, first_of, help_len, indentation, is_blank_line, is_help, is_inside, len_inside, passed_lines};
+ghost use Rattle.kc_text.specs.Help.{before_comment, begins_with_end, column_after, first_indentation, first_of, help_len, indentation, is_blank_line, is_help, is_inside, len_inside, passed_lines, help_line, help_text};
+ghost use Rattle.std.specs.List.{suffix_len};
+ghost use Rattle.kc_text.specs.Scanning.{texts_of};
+ghost use Rattle.kc_text.specs.Definitions.{definition_of};
+ghost use Rattle.kc_text.specs.Expansion.{Environment, Names};
+ghost use Rattle.kc_text.specs.Reading.{source_path};
+ghost use Rattle.kc_text.specs.Tokens.{line_tokens};
+ghost use Rattle.kc_text.specs.declared.line.Token.TheVariants.{Word};
 
-use crate::bytes::{behind_blanks, blank_len, is_blank, trimmed};
-use crate::physical::first_line;
+use crate::bytes::{before_blanks, behind_blanks, blank_len, is_blank, trimmed};
+use crate::items::first_line;
+use crate::line::{LineTokens, Token};
+use crate::text::{Text, TextRef};
+use bumpalo::Bump;
+use bumpalo::collections::into_bump_slice;
+use std::alloc::{AllocError, Global};
+use std::marker::Model;
 
 /// The columns from one tab stop to the next.
 const TAB: u128 = 8;
@@ -175,4 +188,142 @@ pub(crate) fn skip_help(text: &str) -> (usize, &str)
     let (passed, behind) = skip_blank_lines(text);
     let (len, rest) = skip_inside(first_indentation(behind), behind);
     (passed + len, rest)
+}
+
+/// A help text, which is found in the file behind its `help` line, lent. Contracts see the bytes of the text.
+#[derive(Debug, Drop)]
+pub struct HelpText<'a> {
+    behind: &'a str,
+}
+
+impl<'a> Model for HelpText<'a> {
+    ghost use Rattle.std.specs.Prelude.{List, ℕ};
+    ghost use Rattle.std.specs.Str.Lines.{lines};
+    ghost use Rattle.kc_text.specs.Help.{help_text};
+
+    ghost Value = { List ℕ };
+
+    ghost view = { λ h. help_text (lines h.behind.now) };
+}
+
+impl<'a> HelpText<'a> {
+    /// The help text of the `help` line that stands before a text.
+    pub(crate) fn new(behind: &'a str) -> HelpText<'a>
+        ensures { result ≡ help_text (lines behind.entry.now) }
+    {
+        HelpText { behind }
+    }
+
+    /// The text, each of its lines with a line feed.
+    pub fn to_text(&self, alloc: Global) -> Result<Text, AllocError>
+        ensures { IfOk result (λ t. t ≡ self.now) }
+    {
+        let (_, behind) = skip_blank_lines(self.behind);
+        let column = first_indentation(behind);
+        let (len, _) = skip_inside(column, behind);
+        let taken = first_lines(alloc, len, behind)?;
+        let taken = taken.as_slice();
+        let (lines, _) = taken.split_at(taken.len() - blank_lines_at_end(taken));
+        let mut out = String::with_capacity(alloc, room_for(lines))?;
+        for line in lines {
+            push_help_line(&mut out, column, line)?;
+        }
+        Ok(Text::new(out))
+    }
+}
+
+/// The first lines of a text, so many.
+fn first_lines<'a>(alloc: Global, count: usize, text: &'a str) -> Result<Vec<&'a str>, AllocError>
+    ensures { IfOk result (λ v. texts_of v.items ≡ take count (lines text.now)) }
+{
+    let mut taken = Vec::with_capacity(alloc, count)?;
+    taken.extend(text.lines().take(count))?;
+    Ok(taken)
+}
+
+/// How many lines of blanks stand last.
+fn blank_lines_at_end(lines: &[&str]) -> usize
+    ensures count { result ≡ suffix_len is_blank_line (texts_of lines.now) }
+    ensures within { result ≤ length lines.now }
+{
+    lines
+        .iter()
+        .rev()
+        .take_while(|line| is_blank_line(line))
+        .count()
+}
+
+/// Puts a line behind a help text of an indentation: its own indentation is spelt in spaces, and blanks at its end
+/// are dropped.
+fn push_help_line(out: &mut String, column: u128, line: &str) -> Result<(), AllocError>
+    ensures { OnOk result (string_bytes out.new ≡ string_bytes out.old ++ help_line column line.now) }
+{
+    if is_blank_line(line) {
+        return out.push('\n');
+    }
+    for _ in column..indentation(line) {
+        out.push(' ')?;
+    }
+    out.push_str(before_blanks(behind_blanks(line)))?;
+    out.push('\n')
+}
+
+/// How many bytes lines have with their ends, which their help text passes by tabs alone.
+fn room_for(lines: &[&str]) -> usize {
+    let mut total: usize = 0;
+    for line in lines {
+        total = total.saturating_add(line.len()).saturating_add(1);
+    }
+    total
+}
+
+/// The tokens of the lines `help` and `---help---`, which the arena keeps once for all of them.
+#[derive(Drop)]
+pub(crate) struct HelpTokens<'a> {
+    help: &'a [Token<'a>],
+    dashed: &'a [Token<'a>],
+}
+
+impl<'a> Model for HelpTokens<'a> {
+    ghost use Rattle.std.specs.Prelude.{◌≡◌, ◌∷◌, [], codes, ⊤};
+    ghost use Rattle.kc_text.specs.declared.line.Token.TheVariants.{Word};
+
+    ghost Value = { ⊤ };
+
+    ghost view = { λ _. tt };
+
+    ghost invariant = { λ h. (h.help.now ≡ Word (codes "help") ∷ []) × (h.dashed.now ≡ Word (codes "---help---") ∷ []) };
+}
+
+/// The token of a word, which the arena keeps.
+fn kept_word<'a>(arena: &'a Bump, word: &'a str) -> Result<&'a [Token<'a>], AllocError>
+    ensures { IfOk result (λ tokens. tokens.now ≡ Word word.entry.now ∷ []) }
+{
+    let mut tokens = Vec::with_capacity(arena, 1)?;
+    tokens.push(Token::Word(TextRef::new(word)))?;
+    Ok(into_bump_slice(tokens))
+}
+
+impl<'a> HelpTokens<'a> {
+    /// The tokens, kept by an arena.
+    pub(crate) fn new(arena: &'a Bump) -> Result<HelpTokens<'a>, AllocError> {
+        Ok(HelpTokens {
+            help: kept_word(arena, "help")?,
+            dashed: kept_word(arena, "---help---")?,
+        })
+    }
+
+    /// The tokens of a `help` line, which is no definition and names no file.
+    pub(crate) fn of(&self, line: &str) -> LineTokens<'a>
+        requires help { is_help line.now ≡ true }
+        ensures statement { definition_of line.now ≡ None }
+        ensures tokens { (names : Names) (outside : Environment) → line_tokens names outside line.now ≡ Ok result }
+        ensures no_source { source_path result ≡ None }
+    {
+        if begins_dash(line) {
+            LineTokens::new(self.dashed)
+        } else {
+            LineTokens::new(self.help)
+        }
+    }
 }

@@ -1,18 +1,118 @@
-//! How the lines of a file are taken together.
+//! The lines of a file, and which of them are taken together.
 
-ghost use Rattle.std.specs.Prelude.{◌≡◌, ◌+◌, ◌<◌, ◌≤◌, ◌∷◌, drop, length, false, true, IfOk, IfSome};
-ghost use Rattle.std.specs.Str.Lines.{lines};
+ghost use Rattle.std.specs.Prelude.{◌≡◌, ◌<◌, ◌∷◌, length, false, slice_index, ◌+◌, ◌≤◌, drop, true, IfOk, IfSome, [], IfNone, MatchOption, None, Some};
+ghost use Rattle.std.specs.List.{position_or_len};
+ghost use Rattle.std.specs.Str.Lines.{lines, strip_carriage_return};
+ghost use Rattle.kc_text.specs.Bytes.{is_feed, behind_blanks};
 ghost use Rattle.kc_text.specs.Help.{is_help};
+ghost use Rattle.kc_text.specs.declared.items.Start.TheVariants.{Silent, Other};
 ghost use Rattle.kc_text.specs.Items.{before_backslash, behind_joined, ends_in_backslash, first_item, joined, joined_more};
 ghost use Rattle.kc_text.specs.Scanning.{item_of, joined_text};
-ghost use Rattle.kc_text.specs.declared.front.Start.TheVariants.{Other};
+ghost use Rattle.kc_text.specs.Defining.{definition_of};
+ghost use Rattle.kc_text.specs.LeadingItem.{BeginsWith};
 
-use crate::front::{Front, Start};
-use crate::help::{is_help, skip_help};
-use crate::help_text::HelpText;
-use crate::physical::first_line;
+use crate::bytes::{behind, behind_blanks};
+use crate::help::{HelpText, is_help, skip_help};
 use crate::text::Text;
+use crate::variables::{Definition, definition_of};
+use memchr::memchr;
 use std::alloc::{AllocError, Global};
+use std::marker::Model;
+
+/// A line without the carriage return at its end.
+fn before_return(line: &str) -> &str
+    ensures { result.now ≡ strip_carriage_return line.now }
+{
+    if line.as_bytes().last() == Some(&b'\r') {
+        &line[..line.len() - 1]
+    } else {
+        line
+    }
+}
+
+/// How many bytes stand before the first line feed of a text: all of them where there is none.
+fn line_len(text: &str) -> usize
+    ensures { result ≡ position_or_len is_feed text.now }
+{
+    match memchr(b'\n', text.as_bytes()) {
+        Some(len) => len,
+        None => text.len(),
+    }
+}
+
+/// The first line of a text, without its end, and the text behind it.
+pub(crate) fn first_line(text: &str) -> (&str, &str)
+    requires some { 0 < length text.now }
+    ensures lines { lines text.now ≡ result.0.now ∷ lines result.1.now }
+    ensures shorter { length result.1.now < length text.now }
+{
+    if let [b'\n', ..] = text.as_bytes() {
+        return ("", behind(text, 0));
+    }
+    let len = line_len(text);
+    if len == text.len() {
+        // the last line, where no line feed ends it, keeps its carriage return
+        return (text, "");
+    }
+    let (line, end) = text.split_at(len);
+    (before_return(line), behind(end, 0))
+}
+
+/// What a line may be, by its first byte that is no blank.
+#[derive(Clone, Copy)]
+pub(crate) enum Start {
+    /// A line of blanks, or a comment.
+    Silent,
+    /// A line that may be `help` or `---help---`.
+    MaybeHelp,
+    /// Any other line.
+    Other,
+}
+
+/// The first line of a file.
+#[derive(Clone, Copy)]
+pub(crate) struct Front<'a> {
+    /// The line without its end.
+    pub(crate) line: &'a str,
+    pub(crate) start: Start,
+    /// The file after the line.
+    pub(crate) rest: &'a str,
+}
+
+/// What a line may be.
+fn start_of(line: &str) -> Start
+    ensures silent { result ≡ Silent → 0 < length (behind_blanks line.now) → slice_index (behind_blanks line.now) 0 ≡ 35 }
+    ensures other { result ≡ Other → is_help line.now ≡ false }
+{
+    let [first, ..] = behind_blanks(line).as_bytes() else {
+        return Start::Silent;
+    };
+    if *first == b'#' {
+        return Start::Silent;
+    }
+    if *first == b'h' || *first == b'-' {
+        return Start::MaybeHelp;
+    }
+    Start::Other
+}
+
+impl<'a> Front<'a> {
+    /// The first line of a file.
+    pub(crate) fn of(file: &'a str) -> Front<'a>
+        requires some { 0 < length file.now }
+        ensures lines { lines file.now ≡ result.line.now ∷ lines result.rest.now }
+        ensures shorter { length result.rest.now < length file.now }
+        ensures silent { result.start ≡ Silent → 0 < length (behind_blanks result.line.now) → slice_index (behind_blanks result.line.now) 0 ≡ 35 }
+        ensures other { result.start ≡ Other → is_help result.line.now ≡ false }
+    {
+        let (line, rest) = first_line(file);
+        Front {
+            line,
+            start: start_of(line),
+            rest,
+        }
+    }
+}
 
 /// The text of lines that are joined.
 #[derive(Drop)]
@@ -146,4 +246,74 @@ pub(crate) fn first_item<'a>(
         more: more + taken,
         rest,
     })
+}
+
+/// Lines of a file that are taken together: a line with those that are joined to it, and where it is `help` the lines of
+/// its help text. Contracts see the record of its text, its help text and the number of its further lines.
+#[derive(Drop)]
+pub struct FileItem<'a> {
+    item: Item<'a>,
+}
+
+impl<'a> Model for FileItem<'a> {
+    ghost use Rattle.kc_text.specs.ItemLists.{ItemValue};
+    ghost use Rattle.kc_text.specs.ItemContent.{item_of};
+
+    ghost Value = { ItemValue };
+
+    ghost view = { λ i. item_of i.item };
+}
+
+impl<'a> FileItem<'a> {
+    /// The text of the joined lines, each without the backslash at its end.
+    pub fn text(&self) -> &str
+        ensures { result.now ≡ self.now.text }
+    {
+        self.item.text.as_str()
+    }
+
+    /// The definition of a variable that the text is, which has a value up to its end, `#` and backslashes included.
+    pub fn definition(&self) -> Option<Definition<'_>>
+        ensures { result ≡ definition_of self.now.text }
+    {
+        definition_of(self.item.text.as_str())
+    }
+
+    /// The help text, where the text is `help` or `---help---`.
+    pub fn help(&self) -> Option<&HelpText<'a>>
+        ensures { MatchOption result (self.now.help ≡ None) (λ text. self.now.help ≡ Some text.now) }
+    {
+        self.item.help.as_ref()
+    }
+
+    /// How many lines it has after the first.
+    pub fn more(&self) -> usize
+        ensures { result ≡ self.now.more }
+    {
+        self.item.more
+    }
+}
+
+/// What a text of a Kconfig file begins with, as its reader takes the lines together, and the text after it. There is
+/// nothing in an empty text.
+///
+/// # Errors
+///
+/// `AllocError` where memory is refused.
+#[tactic(auto, using(crate::proofs::LeadingItems::begins))]
+pub fn leading_item<'a>(
+    alloc: Global,
+    text: &'a str,
+) -> Result<Option<(FileItem<'a>, &'a str)>, AllocError>
+    ensures none { IfOk result (λ found. IfNone found (text.now ≡ [])) }
+    ensures begins { IfOk result (λ found. IfSome found (λ i. BeginsWith (lines text.now) i.0 (lines i.1.now))) }
+    ensures shorter { IfOk result (λ found. IfSome found (λ i. length i.1.now < length text.now)) }
+    ensures within { IfOk result (λ found. IfSome found (λ i. i.0.more + length i.1.now < length text.now)) }
+{
+    if text.is_empty() {
+        return Ok(None);
+    }
+    let item = first_item(alloc, text, Front::of(text))?;
+    let rest = item.rest;
+    Ok(Some((FileItem { item }, rest)))
 }

@@ -1,6 +1,6 @@
 ghost use Rattle.std.specs.Prelude.{◌≡◌, None, MatchOption, Some};
 
-use crate::help_text::HelpText;
+use crate::help::HelpText;
 use crate::text::TextRef;
 use std::marker::Model;
 

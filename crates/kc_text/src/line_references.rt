@@ -4,8 +4,8 @@ ghost use Rattle.std.specs.Prelude.{◌≡◌, ◌++◌, IfOk, OnOk};
 ghost use Rattle.kc_text.specs.LineReferences.{AreReferences, lent_names, names_in_pieces, token_names, value_references};
 ghost use Rattle.kc_text.specs.Scanning.{piece_of, pieces_of, raw_of};
 
-use crate::reference::{Piece, plain_len, value_piece};
-use crate::scan::{RawToken, next_token};
+use crate::expansion::{Piece, plain_len, value_piece};
+use crate::lexer::{RawToken, next_token};
 use std::alloc::{AllocError, Global};
 
 /// Adds the name in a part, if that is a reference.

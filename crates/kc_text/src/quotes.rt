@@ -8,8 +8,8 @@ ghost use Rattle.kc_text.specs.Scanning.{bytes_of, piece_of, raw_of};
 ghost use Rattle.kc_text.specs.Stopping.{Leaves};
 
 use crate::bytes::behind;
-use crate::reference::{Piece, reference};
-use crate::scan::RawToken;
+use crate::expansion::{Piece, reference};
+use crate::lexer::RawToken;
 use memchr::memchr3;
 use std::alloc::{AllocError, Global};
 

@@ -1,6 +1,10 @@
-//! Files that are read line by line, each `source` line with the file that it names in its place.
+//! The logical lines of a file, with those of the files that its `source` lines name in their place.
 
-ghost use Rattle.std.specs.Prelude.{◌≡◌, ◌≤◌, length, false, true, IfOk, IfSome, OnOk, MatchOption, None, Some, Ok};
+ghost use Rattle.std.specs.Prelude.{◌≡◌, ◌∷◌, [], IfOk, OnOk, ◌≤◌, length, false, true, IfSome, MatchOption, None, Some, Ok, IfErr, List};
+ghost use Rattle.kc_text.specs.declared.line.LineKind.TheVariants.{Statement};
+ghost use Rattle.kc_text.specs.LineContent.{help_of, kind_of, tokens_of};
+ghost use Rattle.kc_text.specs.Reading.{end_of_file, nothing_read, statement, with_lines, at_place, file_read, item_read, logical_lines_of, source_path, with_names};
+ghost use Rattle.kc_text.specs.Scanning.{place_of, state_of, item_of, joined_text, names_of, outside_of, placing};
 ghost use Rattle.kc_text.specs.Faults.{GivesAfter, GivesBy, IsFaultAt};
 ghost use Rattle.kc_text.specs.declared.fault.TextProblem.TheVariants.{MissingSource};
 ghost use Rattle.kc_text.specs.Libraries.{StaysGiven, known_files};
@@ -9,28 +13,115 @@ ghost use Rattle.kc_text.specs.Definitions.{defined};
 ghost use Rattle.kc_text.specs.Expansion.{is_among, names_in, then_on};
 ghost use Rattle.kc_text.specs.Help.{is_help};
 ghost use Rattle.kc_text.specs.Items.{ends_in_backslash};
-ghost use Rattle.kc_text.specs.declared.front.Start.TheVariants.{Silent};
+ghost use Rattle.kc_text.specs.declared.items.Start.TheVariants.{Silent};
 ghost use Rattle.kc_text.specs.Tokens.{ahead, line_tokens};
-ghost use Rattle.kc_text.specs.Reading.{at_place, file_read, item_read, logical_lines_of, source_path, with_names};
-ghost use Rattle.kc_text.specs.Scanning.{item_of, joined_text, names_of, outside_of, place_of, placing, state_of};
+ghost use Rattle.kc_text.specs.Entries.{AreLines, HasOneReading, IsTextFault};
+ghost use Rattle.kc_text.specs.FileList.{File};
+ghost use Rattle.kc_text.specs.LinesFaults.{IsLinesFault};
+ghost use Rattle.kc_text.specs.Names.{texts_in};
+ghost use Rattle.kc_text.specs.ValueLaw.{ValueLaw};
 
-use crate::defining::define;
-use crate::definition::{Definition, definition_of};
 use crate::expansion::Scope;
 use crate::fault::{LinesFault, TextFault, TextProblem};
-use crate::folder::Folder;
-use crate::front::{Front, Start};
-use crate::items::{Item, Joined, ends_in_backslash, first_item};
-use crate::library::Texts;
-use crate::line::{Line, LineTokens, PlacedFile, Token};
+use crate::files::{Folder, MAX_BYTES, NoFolder, Sources, Texts};
+use crate::help::{HelpText, HelpTokens};
+use crate::items::{Front, Item, Joined, Start, ends_in_backslash, first_item};
+use crate::lexer::{Begun, KeptTexts, begin, tokens};
+use crate::line::{Content, HelpLine, Line, LineTokens, PlacedFile, Token};
 use crate::place::Place;
-use crate::sources::MAX_BYTES;
-use crate::state::State;
 use crate::text::TextRef;
-use crate::tokens::{Begun, begin, tokens};
-use crate::vars::Vars;
+use crate::variables::{Definition, Variables, Vars, define, definition_of};
 use bumpalo::Bump;
 use std::alloc::{AllocError, Global};
+
+/// How many bytes of a file there are for each logical line in most files, at least.
+const USUAL_LINE_BYTES: usize = 64;
+
+/// What was read so far.
+#[derive(Drop)]
+pub(crate) struct State<'a> {
+    pub(crate) lines: Vec<Line<'a>>,
+    pub(crate) variables: Variables,
+    /// Texts of tokens, in the arena.
+    pub(crate) texts: KeptTexts<'a>,
+    /// Where the tokens of a line are gathered.
+    pub(crate) gathered: Vec<Token<'a>, &'a Bump>,
+    /// The tokens of `help` lines.
+    pub(crate) help: HelpTokens<'a>,
+    /// How many `source` lines were followed.
+    pub(crate) followed: usize,
+    /// How many bytes these put in place.
+    pub(crate) placed: usize,
+}
+
+impl<'a> State<'a> {
+    /// Nothing read, with room for the logical lines of a top file.
+    pub(crate) fn with_room(
+        alloc: Global,
+        arena: &'a Bump,
+        top: &str,
+    ) -> Result<State<'a>, AllocError>
+        ensures { IfOk result (λ s. state_of s ≡ nothing_read) }
+    {
+        let lines = Vec::with_capacity(alloc, top.len() / USUAL_LINE_BYTES + 1)?;
+        Ok(State {
+            lines,
+            variables: Variables::new(alloc),
+            texts: KeptTexts::new(alloc, arena),
+            gathered: Vec::new(arena),
+            help: HelpTokens::new(arena)?,
+            followed: 0,
+            placed: 0,
+        })
+    }
+
+    /// Puts the line of tokens behind the lines, unless there are none.
+    pub(crate) fn push_statement(
+        &mut self,
+        arena: &'a Bump,
+        place: Place<'a>,
+        tokens: LineTokens<'a>,
+        help: Option<HelpText<'a>>,
+    ) -> Result<(), AllocError>
+        ensures { OnOk result (state_of self.new ≡ with_lines (statement (place_of place.entry) tokens.entry help.entry) (state_of self.old)) }
+    {
+        if tokens.as_slice().is_empty() {
+            return Ok(());
+        }
+        let content = content_of(arena, tokens, help)?;
+        self.lines
+            .push(Line::new(place.file, place.number, content))?;
+        Ok(())
+    }
+
+    /// Puts the end of a file behind the lines.
+    pub(crate) fn push_end(&mut self, place: Place<'a>) -> Result<(), AllocError>
+        ensures { OnOk result (state_of self.new ≡ with_lines (end_of_file (place_of place.entry) ∷ []) (state_of self.old)) }
+    {
+        let end = Line::new(place.file, place.number, Content::EndOfFile);
+        self.lines.push(end)?;
+        Ok(())
+    }
+}
+
+/// What a line with tokens holds, and with the text of a help where it is a `help` line.
+fn content_of<'a>(
+    arena: &'a Bump,
+    tokens: LineTokens<'a>,
+    help: Option<HelpText<'a>>,
+) -> Result<Content<'a>, AllocError>
+    ensures kind { IfOk result (λ c. kind_of c ≡ Statement) }
+    ensures tokens { IfOk result (λ c. tokens_of c ≡ tokens.entry) }
+    ensures help { IfOk result (λ c. help_of c ≡ help.entry) }
+{
+    let Some(text) = help else {
+        return Ok(Content::Statement(tokens));
+    };
+    match arena.try_alloc(HelpLine { tokens, text }) {
+        Ok(line) => Ok(Content::Help(line)),
+        Err(_) => Err(AllocError),
+    }
+}
 
 /// The most bytes of a logical line.
 const MAX_LINE_BYTES: usize = 65_536;
@@ -318,4 +409,74 @@ pub(crate) fn read_top<'a, F: Folder>(
     let file = placed_file(reader.arena, path, 0)?;
     read_file(reader, texts, &mut around, file, text, &mut state)?;
     Ok(state.lines)
+}
+
+/// The logical lines of a top file and of all files that it sources, each with its tokens.
+///
+/// A line that ends in a backslash is joined with the next one. A line without tokens, as one of blanks or a
+/// comment, and one that defines a variable are none. A line `help` has its help text. In place of a `source` line
+/// stand the lines of its file. Behind the lines of each file stands its end. There are [`MOST_LINES`] lines at most.
+///
+/// The first fault in the order of lines decides, with the path of the file and the number of the line: a limit
+/// that is passed (K01), a character that may not stand where it does (K02), a quote that its line does not close
+/// (K03), a file that is not among the sources (K08) or within itself (K09), a dollar that begins no reference to
+/// a variable (K10), a variable that its own expansion needs (K11). On one line the length comes first, then
+/// faults go from left to right. A top file that is not among the sources is K08 at line 0. `NoMemory` comes where
+/// memory is refused.
+///
+/// The arena keeps the tokens, so it has to be there as long as the lines.
+pub fn logical_lines<'a>(
+    alloc: Global,
+    arena: &'a Bump,
+    sources: &'a Sources,
+    vars: &'a Vars,
+    top: &str,
+) -> Result<Vec<Line<'a>>, TextFault>
+    ensures few { IfOk result (λ lines. length lines.items ≤ MOST_LINES) }
+    ensures are { IfOk result (λ lines. AreLines sources.now (texts_in vars.now) top.now lines.items) }
+    ensures fault { IfErr result (IsTextFault sources.now (texts_in vars.now) top.now) }
+    ensures one { HasOneReading sources.now (texts_in vars.now) top.now }
+    ensures values { ValueLaw }
+{
+    given_lines(Reader { alloc, arena, vars }, sources, top)
+}
+
+/// The logical lines where all texts are there from the start.
+fn given_lines<'a>(
+    reader: Reader<'a>,
+    sources: &'a Sources,
+    top: &str,
+) -> Result<Vec<Line<'a>>, TextFault>
+    ensures few { IfOk result (λ lines. length lines.items ≤ MOST_LINES) }
+    ensures gives { GivesBy (λ v. v.items) result (logical_lines_of sources.now (outside_of reader.entry) top.now) }
+{
+    let mut texts: Texts<'a, NoFolder> = Texts::Given(sources);
+    match read_top(reader, &mut texts, top) {
+        Ok(lines) => Ok(lines),
+        Err(LinesFault::Text(fault)) => Err(fault),
+        Err(LinesFault::Stopped(_, missing)) => Err(missing),
+    }
+}
+
+/// The logical lines of a top file and of all files that it sources, as [`logical_lines`] gives them, where the texts
+/// of files are read as they are asked for: that of the top file, and then that of each file when its `source` line
+/// comes and it is not known.
+///
+/// The lines are those of the files that are known after that, and of these with any files more. Where the text of a
+/// file is not there, this is `Stopped`, and the fault that the file is missing is the first fault of the files that
+/// are known.
+pub fn lines_from<'a, F: Folder>(
+    alloc: Global,
+    arena: &'a Bump,
+    texts: &mut Texts<'a, F>,
+    vars: &'a Vars,
+    top: &str,
+) -> Result<Vec<Line<'a>>, LinesFault<F::Fault>>
+    ensures few { IfOk result (λ lines. length lines.items ≤ MOST_LINES) }
+    ensures are { IfOk result (λ lines. (more : List File) → Extends (known_files texts.new) more → AreLines more (texts_in vars.now) top.now lines.items) }
+    ensures fault { IfErr result (IsLinesFault (known_files texts.new) (texts_in vars.now) top.now) }
+    ensures kept { Extends (known_files texts.old) (known_files texts.new) }
+    ensures given { StaysGiven texts.old texts.new }
+{
+    read_top(Reader { alloc, arena, vars }, texts, top)
 }

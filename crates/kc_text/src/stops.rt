@@ -9,9 +9,9 @@ ghost use Rattle.kc_text.specs.Stopping.{IsPassed};
 ghost use Rattle.kc_text.specs.Stops.{Stops, StopsInValue, first_stop, is_bad};
 
 use crate::bytes::behind;
+use crate::expansion::{is_malformed, value_piece};
+use crate::lexer::{begins_word, operator, skip_blanks, word_piece};
 use crate::quotes::quoted_piece;
-use crate::reference::{is_malformed, value_piece};
-use crate::scan::{begins_word, operator, skip_blanks, word_piece};
 
 /// What a line is not read past.
 #[derive(Clone, Copy, Debug, PartialEq, Eq)]

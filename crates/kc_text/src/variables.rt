@@ -1,14 +1,158 @@
-//! What names stand for that lines have defined.
+//! Variables: those that are passed in, the lines that define others, and what these do.
 
-ghost use Rattle.std.specs.Prelude.{◌≡◌, [], None, Some, MatchOption, OnOk};
+ghost use Rattle.std.specs.Prelude.{◌≡◌, [], None, Some, map, MatchOption, OnOk, ◌++◌, ◌∷◌, IfOk, Ok};
+ghost use Rattle.kc_text.specs.Bytes.{behind_blanks};
+ghost use Rattle.kc_text.specs.Definitions.{assignment_in, definition_of, may_assign, with, assigned, appended, behind_recursive, behind_simple, defined, text_behind};
+ghost use Rattle.kc_text.specs.Faults.{GivesBy, ReadsAfter, ReadsBy};
+ghost use Rattle.kc_text.specs.Names.{texts_in};
+ghost use Rattle.kc_text.specs.Vars.{text_problem, vars_of};
 ghost use Rattle.kc_text.specs.declared.variables.Value.{Value as NameValue};
-ghost use Rattle.kc_text.specs.Expansion.{names_in};
-ghost use Rattle.kc_text.specs.Definitions.{with};
+ghost use Rattle.kc_text.specs.Expansion.{names_in, expansion, then_on};
+ghost use Rattle.std.specs.String.{string_bytes};
+ghost use Rattle.kc_text.specs.declared.variables.Assignment.TheVariants.{AtOnce};
+ghost use Rattle.kc_text.specs.declared.variables.Value.TheVariants.{Recursive, Simple};
+ghost use Rattle.kc_text.specs.References.{value_pieces};
+ghost use Rattle.kc_text.specs.Scanning.{progress_of};
 
-use crate::text::Text;
+use crate::bytes::{behind, behind_blanks, name_len, trimmed};
+use crate::expansion::{Expansion, Scope, expand, value_pieces};
+use crate::fault::{LineFault, TextFault, TextProblem};
+use crate::text::{Text, TextRef};
 use std::alloc::{AllocError, Global};
 use std::collections::BTreeMap;
 use std::marker::Model;
+
+/// How a line gives a variable its text.
+#[derive(Clone, Copy, PartialEq, Eq)]
+pub enum Assignment {
+    /// `=`: the text is expanded at each use.
+    Later,
+    /// `:=`: the text is expanded at the line.
+    AtOnce,
+    /// `+=`: the text goes behind the one so far.
+    Append,
+}
+
+/// What a line gives a variable.
+#[derive(Drop)]
+pub struct Definition<'a> {
+    pub name: TextRef<'a>,
+    pub assignment: Assignment,
+    pub value: TextRef<'a>,
+}
+
+/// Whether a text after a name may give the name a value: after blanks it begins as one of `=`, `:=` and `+=`.
+pub(crate) fn may_assign(text: &str) -> bool
+    ensures { result ≡ may_assign (behind_blanks text.now) }
+{
+    matches!(behind_blanks(text).as_bytes(), [b'=' | b':' | b'+', ..])
+}
+
+/// The definition that a line makes: blanks, a name, blanks, one of `=`, `:=` and `+=`, and the value, which has
+/// no blanks at its ends.
+pub(crate) fn definition_of(line: &str) -> Option<Definition<'_>>
+    ensures { result ≡ definition_of line.now }
+{
+    let line = behind_blanks(line);
+    let len = name_len(line);
+    if len == 0 {
+        return None;
+    }
+    let (name, rest) = line.split_at(len);
+    assignment_in(name, behind_blanks(rest))
+}
+
+/// The definition of a name, from the text behind it and its blanks.
+fn assignment_in<'a>(name: &'a str, text: &'a str) -> Option<Definition<'a>>
+    ensures { result ≡ assignment_in name.now text.now }
+{
+    let (assignment, value) = match text.as_bytes() {
+        [b'=', ..] => (Assignment::Later, behind(text, 0)),
+        [b':', b'=', ..] => (Assignment::AtOnce, behind(text, 1)),
+        [b'+', b'=', ..] => (Assignment::Append, behind(text, 1)),
+        _ => return None,
+    };
+    Some(Definition {
+        name: TextRef::new(name),
+        assignment,
+        value: TextRef::new(trimmed(value)),
+    })
+}
+
+/// The most bytes of a variable's text.
+const MAX_TEXT_BYTES: usize = 65_536;
+
+/// The texts of variables that are passed in, by their names. Contracts see the list of the names in
+/// the order of their bytes, each with its text.
+#[derive(Drop)]
+pub struct Vars {
+    texts: BTreeMap<String, String>,
+}
+
+impl Model for Vars {
+    ghost use Rattle.std.specs.Prelude.{List, ℕ};
+    ghost use Rattle.kc_text.specs.FileList.{file_list};
+
+    ghost Value = { List (List ℕ × List ℕ) };
+
+    ghost view = { λ v. file_list v.texts };
+}
+
+impl Vars {
+    /// No variables.
+    pub fn none(alloc: Global) -> Vars
+        ensures { result ≡ [] }
+    {
+        Vars {
+            texts: BTreeMap::new(alloc),
+        }
+    }
+
+    /// The variables of pairs of a name and a text. Of pairs with one name the last counts.
+    ///
+    /// The first pair at fault decides, also one that a later pair replaces: a text with a line feed, a
+    /// carriage return or a NUL is K02, and one of more than 65,536 bytes K01, both with the name in place of
+    /// a path, at line 0. `NoMemory` comes where memory is refused.
+    pub fn from_pairs(alloc: Global, pairs: &[(&str, &str)]) -> Result<Vars, TextFault>
+        ensures { GivesBy texts_in result (vars_of (map (λ p. (p.0.now, p.1.now)) pairs.now)) }
+    {
+        let mut texts = BTreeMap::new(alloc);
+        for (name, text) in pairs {
+            if let Some(problem) = text_problem(text) {
+                return Err(TextFault::at(alloc, problem, name, 0));
+            }
+            let key = String::from_str(alloc, name)?;
+            let content = String::from_str(alloc, text)?;
+            texts.insert(key, content)?;
+        }
+        Ok(Vars { texts })
+    }
+
+    /// The text of a name.
+    pub(crate) fn get(&self, name: &str) -> Option<&str>
+        ensures { MatchOption result (texts_in self.now name.now ≡ None) (λ text. texts_in self.now name.now ≡ Some text.now) }
+    {
+        let text = self.texts.get(name)?;
+        Some(text.as_str())
+    }
+}
+
+/// What is wrong with the text of a variable.
+fn text_problem(text: &str) -> Option<TextProblem>
+    ensures { result ≡ text_problem text.now }
+{
+    let bytes = text.as_bytes();
+    if bytes
+        .iter()
+        .any(|byte| *byte == b'\n' || *byte == b'\r' || *byte == 0)
+    {
+        return Some(TextProblem::BadCharacter);
+    }
+    if bytes.len() > MAX_TEXT_BYTES {
+        return Some(TextProblem::Limit);
+    }
+    None
+}
 
 /// What a name stands for.
 #[derive(Drop)]
@@ -71,4 +215,167 @@ impl Variables {
         self.values.insert(key, value)?;
         Ok(())
     }
+}
+
+/// Gives the name of a definition its value.
+pub(crate) fn define(
+    alloc: Global,
+    outside: &Vars,
+    variables: &mut Variables,
+    definition: &Definition<'_>,
+) -> Result<(), LineFault>
+    ensures { ReadsAfter result (names_in variables.new) (defined (texts_in outside.now) (names_in variables.old) definition.now) }
+{
+    let name = definition.name.as_str();
+    let value = definition.value.as_str();
+    match definition.assignment {
+        Assignment::Later => {
+            let text = Text::copy_of(alloc, value)?;
+            variables.define(name, Value::Recursive(text))?;
+            Ok(())
+        }
+        Assignment::AtOnce => define_at_once(alloc, outside, variables, name, value),
+        Assignment::Append => append(alloc, outside, variables, name, value),
+    }
+}
+
+/// Gives a name the expanded text of a value.
+fn define_at_once(
+    alloc: Global,
+    outside: &Vars,
+    variables: &mut Variables,
+    name: &str,
+    value: &str,
+) -> Result<(), LineFault>
+    ensures { ReadsAfter result (names_in variables.new) (assigned (texts_in outside.now) (names_in variables.old) AtOnce name.now value.now) }
+{
+    let mut out = Expansion::behind(alloc, "");
+    expand_value(alloc, outside, variables, value, &mut out)?;
+    variables.define(name, Value::Simple(Text::new(out.text)))?;
+    Ok(())
+}
+
+/// Puts the expanded text of a value behind a text.
+fn expand_value(
+    alloc: Global,
+    outside: &Vars,
+    variables: &Variables,
+    value: &str,
+    out: &mut Expansion<'_>,
+) -> Result<(), LineFault>
+    ensures expands { ReadsAfter result (progress_of out.new) (expansion (names_in variables.now) (texts_in outside.now) (value_pieces value.now) (progress_of out.old)) }
+    ensures before { OnOk result (out.new.before.now ≡ out.old.before.now) }
+{
+    let scope = Scope {
+        alloc,
+        variables,
+        outside,
+    };
+    let pieces = value_pieces(alloc, value)?;
+    expand(scope, pieces.as_slice(), out)
+}
+
+/// Puts a value behind the one of a name: after one space, and expanded at once where the text so far was. A name
+/// without definition gets the value alone.
+fn append(
+    alloc: Global,
+    outside: &Vars,
+    variables: &mut Variables,
+    name: &str,
+    value: &str,
+) -> Result<(), LineFault>
+    ensures { ReadsAfter result (names_in variables.new) (appended (texts_in outside.now) (names_in variables.old) name.now value.now) }
+{
+    if let Some(Value::Simple(text)) = variables.get(name) {
+        let addition = addition_behind(alloc, outside, variables, text.as_str(), value)?;
+        append_to_simple(alloc, variables, name, addition.as_str())?;
+        return Ok(());
+    }
+    append_later(alloc, variables, name, value)?;
+    Ok(())
+}
+
+/// Puts a value behind the text of a name that is expanded at each use; else the name gets the value alone.
+fn append_later(
+    alloc: Global,
+    variables: &mut Variables,
+    name: &str,
+    value: &str,
+) -> Result<(), AllocError>
+    ensures { OnOk result (names_in variables.new ≡ with name.now (Recursive (behind_recursive (names_in variables.old name.now) value.now)) (names_in variables.old)) }
+{
+    let meant = variables.take(name);
+    let text = behind_recursive(alloc, meant, value)?;
+    variables.define(name, Value::Recursive(text))
+}
+
+/// A value behind the text that a name stands for where each use expands it; else the value alone.
+fn behind_recursive(alloc: Global, meant: Option<Value>, value: &str) -> Result<Text, AllocError>
+    ensures { IfOk result (λ t. t ≡ behind_recursive meant value.now) }
+{
+    match meant {
+        Some(Value::Recursive(text)) => behind_space(text, value),
+        Some(Value::Simple(_text)) => Text::copy_of(alloc, value),
+        None => Text::copy_of(alloc, value),
+    }
+}
+
+/// A text with one space and another behind it, in place.
+fn behind_space(text: Text, other: &str) -> Result<Text, AllocError>
+    ensures { IfOk result (λ t. t ≡ text ++ 32 ∷ other.now) }
+{
+    let mut joined = text.into_string();
+    joined.push(' ')?;
+    joined.push_str(other)?;
+    Ok(Text::new(joined))
+}
+
+/// Puts bytes behind the text of a name that is as it is, in its place; else the name gets the bytes alone.
+fn append_to_simple(
+    alloc: Global,
+    variables: &mut Variables,
+    name: &str,
+    bytes: &str,
+) -> Result<(), AllocError>
+    ensures { OnOk result (names_in variables.new ≡ with name.now (Simple (behind_simple (names_in variables.old name.now) bytes.now)) (names_in variables.old)) }
+{
+    let meant = variables.take(name);
+    let text = behind_simple(alloc, meant, bytes)?;
+    variables.define(name, Value::Simple(text))
+}
+
+/// Bytes behind the text that a name stands for as it is, without a copy of the text; else the bytes alone.
+fn behind_simple(alloc: Global, meant: Option<Value>, bytes: &str) -> Result<Text, AllocError>
+    ensures { IfOk result (λ t. t ≡ behind_simple meant bytes.now) }
+{
+    match meant {
+        Some(Value::Simple(text)) => joined_behind(text, bytes),
+        Some(Value::Recursive(_text)) => Text::copy_of(alloc, bytes),
+        None => Text::copy_of(alloc, bytes),
+    }
+}
+
+/// A text with bytes behind it, in place.
+fn joined_behind(text: Text, bytes: &str) -> Result<Text, AllocError>
+    ensures { IfOk result (λ t. t ≡ text ++ bytes.now) }
+{
+    let mut joined = text.into_string();
+    joined.push_str(bytes)?;
+    Ok(Text::new(joined))
+}
+
+/// What is put behind a text: one space and the expanded text of a value. The text is not copied.
+fn addition_behind(
+    alloc: Global,
+    outside: &Vars,
+    variables: &Variables,
+    text: &str,
+    value: &str,
+) -> Result<String, LineFault>
+    ensures { ReadsBy (λ s. text.now ++ string_bytes s) result (then_on (text_behind (texts_in outside.now) (names_in variables.now) text.now value.now) (λ p. Ok p.text)) }
+{
+    let mut out = Expansion::behind(alloc, text);
+    out.put(" ")?;
+    expand_value(alloc, outside, variables, value, &mut out)?;
+    Ok(out.text)
 }

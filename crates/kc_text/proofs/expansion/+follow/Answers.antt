@@ -1,6 +1,6 @@
 use Rattle.std.proofs.Common.{arith, drop, ◌+◌, Some, ap, sym, refl, ◌∙◌}
 use Rattle.std.proofs.lemmas.Result.{err_from_is_err_and}
-use Rattle.kc_text.specs.declared.reference.Piece.TheVariants.{Text, Reference}
+use Rattle.kc_text.specs.declared.expansion.Piece.TheVariants.{Text, Reference}
 use Rattle.kc_text.specs.References.{value_pieces}
 use Rattle.kc_text.specs.Expansion.{expanded, put, is_among, names_in, texts_in}
 use Rattle.kc_text.specs.Scanning.{names_of, pieces_of, progress_of}

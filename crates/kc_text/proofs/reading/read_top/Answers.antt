@@ -1,7 +1,7 @@
 use Rattle.std.proofs.Common.{◌≡◌, ◌≤◌, ◌∷◌, ◌++◌, [], ℕ, List, length, Bor, Some, Ok, ap, sym, ◌∙◌}
 use Rattle.std.proofs.lemmas.Result.{err_from_is_err_and}
 use Rattle.kc_text.specs.declared.line.PlacedFile.{PlacedFile}
-use Rattle.kc_text.specs.declared.sources.TheConstants.{MAX_BYTES}
+use Rattle.kc_text.specs.declared.files.TheConstants.{MAX_BYTES}
 use Rattle.kc_text.specs.Expansion.{then_on}
 use Rattle.kc_text.specs.Libraries.{known_files}
 use Rattle.kc_text.specs.Reading.{file_read}

@@ -1,0 +1,43 @@
+use Rattle.std.proofs.Common.{◌≡◌, ◌++◌, ◌∷◌, [], ◌<◌, length, take, drop, slice_index, IsCharBoundary, subst, sym, ap, ◌∙◌, rules}
+use Rattle.kc_text.specs.Bytes.{is_word}
+use Rattle.kc_text.specs.Lexing.{in_word, lexed}
+use Rattle.kc_text.specs.References.{reference, reference_after_dollar, reference_len}
+use Rattle.kc_text.specs.Scanning.{bytes_of}
+use Rattle.kc_text.proofs.Cuts.{boundary_after_run, word_is_ascii}
+use Rattle.kc_text.proofs.Lexing.{lexed-word_run, lexed-word_reference, first_is}
+use Rattle.kc_text.proofs.StopLaws.{ends_behind, ends_through}
+use Rattle.kc_text.proofs.lexer.word_piece.Goals as goal
+
+pub split_at-requires : goal.split_at-requires
+split_at-requires c =
+    let text = c.args.text.now in
+    subst (IsCharBoundary text) (sym c.word_len-len.ensures.count) (boundary_after_run is_word word_is_ascii text c.utf8.text)
+
+pub returns-then-len-gt0-clause-lexes : goal.returns-then-len-gt0-clause-lexes
+returns-then-len-gt0-clause-lexes c = λ ps.
+    let text = c.args.text.now in
+    let front = c.split_at.ensures.front ∙ ap (λ n. take n text) c.word_len-len.ensures.count in
+    let back = c.split_at.ensures.back ∙ ap (λ n. drop n text) c.word_len-len.ensures.count in
+    lexed-word_run ps text ∙ (λ i. lexed 0 (in_word (ps ++ bytes_of (sym front i))) (sym back i))
+
+pub returns-in-Some-clause-lexes : goal.returns-in-Some-clause-lexes
+returns-in-Some-clause-lexes c = λ ps.
+    let text = c.args.text.now in
+    let name = c.in-Some.name.now in
+    let some : 0 < length text = search rules in
+    let dollar : slice_index text 0 ≡ 36 = search rules in
+    let found = c.in-Some.ensures in
+    let named = ap reference_after_dollar (sym c.behind.ensures) ∙ found.finds.0 in
+    let rest = found.finds.1 ∙ ap (drop (reference_len name)) c.behind.ensures in
+    ap (lexed 0 (in_word ps)) (first_is text 36 some dollar) ∙ lexed-word_reference ps (drop 1 text) name named
+    ∙ ap (lexed 0 (in_word (ps ++ reference name ∷ []))) (sym rest)
+
+pub returns-then-len-gt0-clause-leaves : goal.returns-then-len-gt0-clause-leaves
+returns-then-len-gt0-clause-leaves c = ends_behind c.word_len-len.result c.args.text.now c.split_at.result.1.now c.split_at.ensures.back
+
+pub returns-in-Some-clause-leaves : goal.returns-in-Some-clause-leaves
+returns-in-Some-clause-leaves c =
+    let text = c.args.text.now in
+    let opened = c.behind.result.now in
+    let after = c.in-Some.after.now in
+    ends_through text opened after (ends_behind 1 text opened c.behind.ensures) (ends_behind (reference_len c.in-Some.name.now) opened after c.in-Some.ensures.finds.1)
