@@ -123,7 +123,7 @@ impl Model for Comment {
 }
 
 impl Comment {
-    /// With no attributes yet.
+    /// A comment with no attributes yet.
     pub(crate) fn new(
         alloc: Global,
         title: Text,
@@ -168,7 +168,7 @@ impl Comment {
         self.choice
     }
 
-    /// Its own `depends on` lines, which `&&` joins.
+    /// The comment's own `depends on` lines, which `&&` joins.
     pub fn depends(&self) -> &[Expr]
         ensures { result.now ≡ self.now.depends }
     {

@@ -60,7 +60,7 @@ impl Model for Choice {
 }
 
 impl Choice {
-    /// With its block, with no attributes and no members yet.
+    /// A choice with its block, with no attributes and no members yet.
     pub(crate) fn new(alloc: Global, block: BlockId) -> Choice
         ensures { result ≡ new_choice block }
     {
@@ -103,7 +103,7 @@ impl Choice {
         self.is_optional = true;
     }
 
-    /// Its block, in which its members stand. The `depends on` lines of the choice are those of the block.
+    /// The block of the choice, in which its members are. The `depends on` lines of the choice are those of the block.
     pub fn block(&self) -> BlockId
         ensures { result ≡ self.now.block }
     {

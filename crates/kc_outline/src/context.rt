@@ -35,7 +35,7 @@ pub(crate) struct OpenBlock {
     pub(crate) id: BlockId,
     /// The word that opened it.
     pub(crate) keyword: Keyword,
-    /// The run of the file that it was opened in.
+    /// The number of the inclusion of the file that it was opened in.
     pub(crate) run: usize,
     /// The choice that it is the block of.
     pub(crate) choice: Option<ChoiceId>,
@@ -55,7 +55,7 @@ fn choice_among(blocks: &[OpenBlock]) -> Option<ChoiceId>
     None
 }
 
-/// Whether one of the blocks was opened in a run.
+/// Whether one of the blocks was opened in an inclusion of a file.
 fn is_run_among(blocks: &[OpenBlock], run: usize) -> bool
     ensures { result ≡ leaves_open blocks.now run }
 {
@@ -78,7 +78,7 @@ impl Model for OpenBlocks {
 }
 
 impl OpenBlocks {
-    /// None.
+    /// No open blocks.
     fn new(alloc: Global) -> OpenBlocks
         ensures { result ≡ [] }
     {
@@ -101,7 +101,7 @@ impl OpenBlocks {
         self.blocks.last().copied()
     }
 
-    /// Whether one of a run is open.
+    /// Whether a block of an inclusion of a file is open.
     pub(crate) fn has_run(&self, run: usize) -> bool
         ensures { result ≡ leaves_open self.now run }
     {
@@ -157,7 +157,7 @@ pub(crate) struct Context {
 }
 
 impl Context {
-    /// Before the first line.
+    /// The context of the first line.
     pub(crate) fn new(alloc: Global) -> Context
         ensures { (names : List (List ℕ)) → IsContextAfter names [] result }
     {
@@ -251,7 +251,7 @@ impl Context {
         }
     }
 
-    /// The block that a statement of this keyword opens in a run, if it opens one.
+    /// The block that a statement of this keyword opens in an inclusion of a file, if it opens one.
     fn block_opened(&self, keyword: Keyword, run: usize) -> OpenBlock
         requires { HasRoom self.now }
         ensures { result ≡ record {

@@ -122,7 +122,7 @@ impl Definition {
         self.block
     }
 
-    /// Its own `depends on` lines, which `&&` joins.
+    /// The definition's own `depends on` lines, which `&&` joins.
     pub fn depends(&self) -> &[Expr]
         ensures { result.now ≡ self.now.depends }
     {

@@ -86,7 +86,7 @@ fn is_stray(context: &Context, keyword: Keyword) -> bool
             .is_some_and(|statement| statement.takes(keyword))
 }
 
-/// Whether a closer of a run closes no block, or one that is not of its kind and run.
+/// Whether a closer closes no block, or one that is not of its kind or of its inclusion of a file.
 fn closes_wrongly(blocks: &OpenBlocks, keyword: Keyword, run: usize) -> bool
     ensures { result ≡ closes_wrongly blocks.now keyword run }
 {
@@ -130,7 +130,8 @@ fn word_problem(
     }
 }
 
-/// The problem of an end of file: a block of its run that is open, or any block where no line follows.
+/// The problem of an end of file: a block that its inclusion of the file opened is open, or any block where no line
+/// follows.
 fn end_problem(context: &Context, line: &Line<'_>, is_last: bool) -> Option<LineProblem>
     ensures { result ≡ end_problem context.now.stack is_last line.now }
 {

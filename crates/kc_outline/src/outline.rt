@@ -54,7 +54,7 @@ fn new_symbols(alloc: Global, count: usize) -> Result<Vec<Symbol>, AllocError>
 }
 
 impl Outline {
-    /// Of no lines, with a symbol for each name, and with room for a definition of each.
+    /// The outline of no lines, with a symbol for each name, and with room for a definition of each.
     pub(crate) fn new(alloc: Global, names: Names) -> Result<Outline, AllocError>
         requires { length names ≤ MOST_SYMBOLS }
         ensures { IfOk result (λ o. o ≡ tree_of names []) }

@@ -43,7 +43,7 @@ pub struct Operands {
     pub right: Term,
 }
 
-/// What an expression is written as, by which m counts where it stands alone (Kconfiglib, "_parse_expr").
+/// How an expression is written, by which m counts where it is alone (Kconfiglib, "_parse_expr").
 #[derive(Clone, Copy, Debug, PartialEq, Eq)]
 pub enum ExprKind {
     /// A condition: after `if`, `depends on` or `visible if`. There m alone means `m && MODULES`.

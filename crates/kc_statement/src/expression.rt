@@ -95,7 +95,7 @@ fn is_module(term: &Term) -> bool
     }
 }
 
-/// Whether a term is a bare m where it stands alone.
+/// Whether a term is a bare m where it is alone.
 fn is_bare(kind: ExprKind, term: &Term) -> bool
     ensures { result ≡ is_bare_in kind term.now }
 {
@@ -105,7 +105,7 @@ fn is_bare(kind: ExprKind, term: &Term) -> bool
     }
 }
 
-/// The expression of a term that stands alone.
+/// The expression of a term that is alone.
 fn alone(kind: ExprKind, term: Term) -> Expr
     ensures formula { result ≡ alone_in kind term }
     ensures shape { is_plain result ≡ true }

@@ -1,4 +1,4 @@
-//! Names of symbols, and what a word of an expression stands for.
+//! Names of symbols, and what a word of an expression means.
 
 ghost use Rattle.std.specs.Prelude.{◌≡◌, ◌≤◌, length, IfOk, OnOk};
 ghost use Rattle.std.specs.List.{list_all};
@@ -18,7 +18,7 @@ use std::alloc::{AllocError, Global};
 /// The number of lines that most definitions have at least, by which room for names is made at once.
 const USUAL_LINES: usize = 4;
 
-/// The length of the longest word that could name a symbol and stands for something else: `if`.
+/// The length of the longest word that could name a symbol and means something else: `if`.
 const LONGEST_RESERVED: usize = 2;
 
 /// The class of each byte: `n` of those of a name, `,` of any other byte.
@@ -40,14 +40,14 @@ pub fn is_name(word: &str) -> bool
     word != "" && are_name_bytes(word.as_bytes()) && !is_reserved(word)
 }
 
-/// Whether a byte may stand in a name.
+/// Whether a byte may be in a name.
 fn is_name_byte(byte: u8) -> bool
     ensures { result ≡ is_name_byte byte }
 {
     CLASSES[byte as usize] == b'n'
 }
 
-/// Whether each byte may stand in a name. It is kept out of line: where it is a part of the reader of a line, each byte
+/// Whether each byte may be in a name. It is kept out of line: where it is a part of the reader of a line, each byte
 /// clears the room of what that reader has.
 #[inline(never)]
 fn are_name_bytes(bytes: &[u8]) -> bool
@@ -56,7 +56,7 @@ fn are_name_bytes(bytes: &[u8]) -> bool
     bytes.iter().all(|byte| is_name_byte(*byte))
 }
 
-/// Whether a word that could name a symbol stands for something else.
+/// Whether a word that could name a symbol means something else.
 #[tactic(auto, using(crate::proofs::ReservedLaws::long_not_reserved))]
 fn is_reserved(word: &str) -> bool
     ensures { result ≡ is_reserved word.now }
@@ -64,7 +64,7 @@ fn is_reserved(word: &str) -> bool
     word.len() <= LONGEST_RESERVED && (word == "n" || word == "m" || word == "y" || word == "if")
 }
 
-/// The word of a token, also one that holds a reference.
+/// The word of a token, also one that has a reference.
 fn token_word<'a>(token: &'a Token<'_>) -> Option<TextRef<'a>>
     ensures { result ≡ token_word token.now }
 {

@@ -15,7 +15,7 @@ struct Depth {
     opened: usize,
     /// The parentheses that were closed.
     closed: usize,
-    /// The `!` that stand in a row at the end.
+    /// The number of `!` in a row at the end.
     nots: usize,
 }
 
@@ -41,7 +41,7 @@ impl Depth {
         }
     }
 
-    /// Whether more is open, or more `!` stand in a row, than may be.
+    /// Whether more is open, or more `!` are in a row, than may be.
     fn is_too_deep(&self) -> bool
         requires { self.now.closed + MOST_NESTED + 1 < 2 ^ 64 }
         ensures { result ≡ is_too_deep self.now }

@@ -6,7 +6,8 @@ use crate::id::SymId;
 use crate::symbol_type::SymbolType;
 use kc_text::Text;
 
-/// What a line says (kconfig-language.rst, "Menu entries" and "Menu attributes").
+/// What a line says (kconfig-language.rst, "Menu entries" and "Menu attributes"). Contracts speak of it, and no function
+/// makes one: each form of a line is read and added by its parts.
 #[derive(Debug, Drop)]
 pub enum Statement {
     /// The end of a file.
@@ -50,6 +51,6 @@ pub enum Statement {
     AllNoConfigYes,
     /// `optional`, of a choice.
     Optional,
-    /// `help`, whose text stands beside the line.
+    /// `help`, whose text the line has beside its tokens.
     Help,
 }

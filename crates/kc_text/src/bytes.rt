@@ -15,28 +15,28 @@ static CLASSES: [u8; 256] = *b"\
     ,,,,,,,,,,,,,,,,,,,,,,,,,,,,,,,,\
     ,,,,,,,,,,,,,,,,,,,,,,,,,,,,,,,,";
 
-/// A space or a tab.
+/// Whether a byte is a space or a tab.
 pub(crate) fn is_blank(byte: u8) -> bool
     ensures { result ≡ is_blank byte }
 {
     byte == b' ' || byte == b'\t'
 }
 
-/// A byte of a word.
+/// Whether a byte is one of a word.
 pub(crate) fn is_word(byte: u8) -> bool
     ensures { result ≡ is_word byte }
 {
     CLASSES[byte as usize] != b','
 }
 
-/// A byte of a variable's name.
+/// Whether a byte is one of a variable's name.
 pub(crate) fn is_name(byte: u8) -> bool
     ensures { result ≡ is_name byte }
 {
     CLASSES[byte as usize] == b'n'
 }
 
-/// How many blanks a text begins with.
+/// The number of blanks that a text begins with.
 pub(crate) fn blank_len(text: &str) -> usize
     ensures count { result ≡ prefix_len is_blank text.now }
     ensures within { result ≤ length text.now }
@@ -47,7 +47,7 @@ pub(crate) fn blank_len(text: &str) -> usize
         .count()
 }
 
-/// How many bytes of a word a text begins with.
+/// The number of bytes of a word that a text begins with.
 pub(crate) fn word_len(text: &str) -> usize
     ensures count { result ≡ prefix_len is_word text.now }
     ensures within { result ≤ length text.now }
@@ -58,7 +58,7 @@ pub(crate) fn word_len(text: &str) -> usize
         .count()
 }
 
-/// How many bytes of a variable's name a text begins with.
+/// The number of bytes of a variable's name that a text begins with.
 pub(crate) fn name_len(text: &str) -> usize
     ensures count { result ≡ prefix_len is_name text.now }
     ensures within { result ≤ length text.now }
@@ -69,7 +69,7 @@ pub(crate) fn name_len(text: &str) -> usize
         .count()
 }
 
-/// How many blanks a text ends with.
+/// The number of blanks that a text ends with.
 fn end_blank_len(text: &str) -> usize
     ensures count { result ≡ suffix_len is_blank text.now }
     ensures within { result ≤ length text.now }
@@ -81,7 +81,7 @@ fn end_blank_len(text: &str) -> usize
         .count()
 }
 
-/// The text behind an ASCII byte.
+/// The text after an ASCII byte.
 pub(crate) fn behind(text: &str, place: usize) -> &str
     requires within { place < length text.now }
     requires ascii { slice_index text.now place < 128 }
@@ -90,7 +90,7 @@ pub(crate) fn behind(text: &str, place: usize) -> &str
     &text[place + 1..]
 }
 
-/// The text behind the blanks at its beginning.
+/// The text after the blanks at its beginning.
 pub(crate) fn behind_blanks(text: &str) -> &str
     ensures { result.now ≡ behind_blanks text.now }
 {

@@ -1,4 +1,4 @@
-//! References to variables, and what they stand for.
+//! References to variables, and the texts that they expand to.
 
 ghost use Rattle.std.specs.Prelude.{◌≡◌, ◌++◌, ◌<◌, ◌≤◌, [], drop, length, true, Some, None, MatchOption, IfOk, IfNone, IfSome, ◌-◌, nat_le, unwrap_or, Ok, OnOk};
 ghost use Rattle.std.specs.Char.{is_ascii_digit};
@@ -24,7 +24,7 @@ pub(crate) enum Piece<'a> {
     Text(&'a str),
     /// A reference, by the name in it.
     Reference(&'a str),
-    /// A dollar that begins no reference: nothing is read behind it.
+    /// A dollar that begins no reference: nothing is read after it.
     Malformed,
 }
 
@@ -49,7 +49,7 @@ fn is_referable(name: &str) -> bool
     !is_of_digits(name) && name != "filename" && name != "lineno"
 }
 
-/// The name in the reference whose dollar stands before the text, and the text behind the reference.
+/// The name in the reference whose dollar is before a text, and the text after the reference.
 pub(crate) fn reference(text: &str) -> Option<(&str, &str)>
     ensures finds { MatchOption result (reference_after_dollar text.now ≡ None) (λ found. (reference_after_dollar text.now ≡ Some found.0.now) × (found.1.now ≡ drop (reference_len found.0.now) text.now)) }
     ensures shorter { MatchOption result (length text.now ≡ length text.now) (λ found. length found.1.now < length text.now) }
@@ -69,7 +69,7 @@ pub(crate) fn reference(text: &str) -> Option<(&str, &str)>
     }
 }
 
-/// How many bytes a text begins with before its first dollar.
+/// The number of bytes before the first dollar of a text, or of all its bytes.
 pub(crate) fn plain_len(text: &str) -> usize
     ensures count { result ≡ prefix_len is_no_dollar text.now }
     ensures within { result ≤ length text.now }
@@ -80,7 +80,7 @@ pub(crate) fn plain_len(text: &str) -> usize
     }
 }
 
-/// Whether a text holds no dollar, and so no reference.
+/// Whether a text has no dollar, and so no reference.
 pub(crate) fn has_no_dollar(text: &str) -> bool
     ensures { result ≡ true → value_pieces text.now ≡ bytes_of text.now }
 {
@@ -100,7 +100,7 @@ pub(crate) fn value_pieces<'a>(alloc: Global, text: &'a str) -> Result<Vec<Piece
     Ok(pieces)
 }
 
-/// The first part of a variable's text, and the text behind it: nothing behind a dollar that begins no reference.
+/// The first part of a variable's text, and the text after it: nothing after a dollar that begins no reference.
 pub(crate) fn value_piece(text: &str) -> Option<(Piece<'_>, &str)>
     ensures none { IfNone result (text.now ≡ []) }
     ensures begins { IfSome result (λ found. value_pieces text.now ≡ piece_of found.0 ++ value_pieces found.1.now) }
@@ -130,28 +130,28 @@ const MAX_FOLLOWED: usize = 65_536;
 /// The most names that are open at once.
 const MAX_OPEN: usize = 64;
 
-/// Where references find what they stand for.
+/// The variables that references name.
 #[derive(Clone, Copy)]
 pub(crate) struct Scope<'a> {
     pub(crate) alloc: Global,
-    /// What lines have defined so far.
+    /// Those that lines have defined so far.
     pub(crate) variables: &'a Variables,
-    /// What was passed in.
+    /// Those that were passed in.
     pub(crate) outside: &'a Vars,
 }
 
-/// A text that is being expanded behind another, which is not copied.
+/// An expansion in progress, after a text that is not copied.
 #[derive(Drop)]
 pub(crate) struct Expansion<'a> {
-    /// What stands before the text and counts towards its limit.
+    /// The text before it, which counts towards its limit.
     pub(crate) before: &'a str,
     pub(crate) text: String,
-    /// How many references were followed for it.
+    /// The number of references that were followed for it.
     pub(crate) followed: usize,
 }
 
 impl<'a> Expansion<'a> {
-    /// Nothing behind a text, for which no reference was followed yet.
+    /// An expansion after a text, for which no reference was followed yet.
     pub(crate) fn behind(alloc: Global, before: &'a str) -> Expansion<'a>
         ensures progress { progress_of result ≡ record { text = before.entry.now; followed = 0 } }
         ensures before { result.before.now ≡ before.entry.now }
@@ -163,7 +163,7 @@ impl<'a> Expansion<'a> {
         }
     }
 
-    /// Puts bytes behind the text, if there is room for them. No bytes need no room.
+    /// Appends bytes, if there is room for them. No bytes need no room.
     pub(crate) fn put(&mut self, bytes: &str) -> Result<(), LineFault>
         ensures puts { ReadsAfter result (progress_of self.new) (put bytes.now (progress_of self.old)) }
         ensures before { self.new.before.now ≡ self.old.before.now }
@@ -183,7 +183,7 @@ impl<'a> Expansion<'a> {
     }
 }
 
-/// The text of parts behind a text so far, where no name is open.
+/// Appends the text of parts, where no name is being expanded.
 pub(crate) fn expand<'a>(
     scope: Scope<'a>,
     pieces: &[Piece<'a>],
@@ -196,7 +196,7 @@ pub(crate) fn expand<'a>(
     expand_pieces(scope, &mut around, pieces, out)
 }
 
-/// Puts parts behind a text, from left to right. The names `around` are being expanded round them.
+/// Appends the text of parts, from left to right. The names `around` are those that are being expanded.
 #[cycle(follow)]
 fn expand_pieces<'a>(
     scope: Scope<'a>,
@@ -233,7 +233,7 @@ fn outside_text<'a>(scope: Scope<'a>, name: &'a str) -> &'a str
     scope.outside.get(name).unwrap_or("")
 }
 
-/// Puts the text of a name behind a text. The names `around` are being expanded round it.
+/// Appends the text of a variable. The names `around` are those that are being expanded.
 #[cycle(follow)]
 fn follow<'a>(
     scope: Scope<'a>,
@@ -266,7 +266,7 @@ fn follow<'a>(
     }
 }
 
-/// The text that parts have.
+/// The expanded text of parts.
 pub(crate) fn expanded_text<'a>(scope: Scope<'a>, pieces: &[Piece<'a>]) -> Result<String, LineFault>
     ensures { ReadsBy (λ s. string_bytes s) result (then_on (expansion (names_in scope.entry.variables.now) (texts_in scope.entry.outside.now) (pieces_of pieces.now) start) (λ p. Ok p.text)) }
 {
@@ -275,7 +275,7 @@ pub(crate) fn expanded_text<'a>(scope: Scope<'a>, pieces: &[Piece<'a>]) -> Resul
     Ok(out.text)
 }
 
-/// The text of parts, lent, where they are one reference to a text that holds none and keeps the limit.
+/// The expanded text of parts, lent, where they are one reference to a text that has none and keeps the limit.
 pub(crate) fn lent_text<'a>(scope: Scope<'a>, pieces: &[Piece<'a>]) -> Option<&'a str>
     ensures { IfSome result (λ text. then_on (expansion (names_in scope.entry.variables.now) (texts_in scope.entry.outside.now) (pieces_of pieces.now) start) (λ p. Ok p.text) ≡ Ok text.now) }
 {
@@ -288,7 +288,7 @@ pub(crate) fn lent_text<'a>(scope: Scope<'a>, pieces: &[Piece<'a>]) -> Option<&'
     }
 }
 
-/// The text that a name is given, lent, where it holds no reference.
+/// The text of a variable, lent, where it has no reference.
 fn plain_meaning<'a>(scope: Scope<'a>, name: &'a str) -> Option<&'a str>
     ensures { IfSome result (λ text. followed (names_in scope.entry.variables.now) (texts_in scope.entry.outside.now) 64 [] name.entry.now start ≡ put text.now (counted start)) }
 {

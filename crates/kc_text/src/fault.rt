@@ -6,7 +6,7 @@ use std::alloc::{AllocError, AllocFailed, Global};
 pub enum TextProblem {
     /// A limit is passed (K01).
     Limit,
-    /// A character that is not allowed where it stands (K02).
+    /// A character that is not allowed where it is (K02).
     BadCharacter,
     /// A quote that its line does not close (K03).
     UnclosedQuote,
@@ -20,7 +20,7 @@ pub enum TextProblem {
     RecursiveVariable,
 }
 
-/// Why something that stands in a line could not be read. The line adds its path and number.
+/// Why a part of a line could not be read. The line adds its path and number.
 #[derive(Drop)]
 pub(crate) enum LineFault {
     Problem(TextProblem),
@@ -141,7 +141,7 @@ pub enum LinesFault<E> {
     /// The first fault of the lines.
     Text(TextFault),
     /// The text of a file that is wanted is not there, with the fault that it is missing: K08, with its path, at the
-    /// line that wants it. `NoMemory` stands for that fault where memory was refused for it.
+    /// line that wants it, or `NoMemory` where memory was refused for that fault.
     Stopped(FileFault<E>, TextFault),
 }
 

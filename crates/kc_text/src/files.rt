@@ -29,17 +29,17 @@ pub(crate) const MAX_FILES: usize = 4_096;
 #[derive(Drop)]
 pub struct Sources {
     files: BTreeMap<String, String>,
-    /// How many bytes all texts have.
+    /// The number of bytes of all texts.
     bytes: usize,
     alloc: Global,
 }
 
-/// What the files come to with one of a path.
+/// The totals of the files with one of a path.
 #[derive(Clone, Copy)]
 struct Totals {
-    /// How many files there are.
+    /// The number of files.
     files: usize,
-    /// How many bytes the texts of the others have.
+    /// The number of bytes of the other texts.
     other_bytes: usize,
 }
 
@@ -97,7 +97,7 @@ impl Sources {
         Ok(())
     }
 
-    /// What the files come to with one of a path, but for the bytes of its text.
+    /// The totals of the files with one of a path, without the bytes of its text.
     fn totals_with(&self, path: &str) -> Totals
         ensures files { result.files ≡ count_with path.now self.now }
         ensures bytes { result.other_bytes ≡ other_bytes path.now self.now }
@@ -132,7 +132,7 @@ impl Sources {
         Some(text)
     }
 
-    /// Takes the file of a path out, and gives its text. Where there is none, all files stay.
+    /// Removes the file of a path, and gives its text. Where there is none, nothing is removed.
     pub fn take(&mut self, path: &str) -> Option<Text>
         ensures text { result ≡ text_of path.now self.old }
         ensures files { self.new ≡ without path.now self.old }
@@ -152,7 +152,7 @@ pub struct ReadFiles<'a> {
     /// What keeps the paths and the texts.
     arena: &'a Bump,
     files: BTreeMap<&'a str, &'a str>,
-    /// How many bytes all texts have.
+    /// The number of bytes of all texts.
     bytes: usize,
 }
 
@@ -191,7 +191,7 @@ impl<'a> ReadFiles<'a> {
         self.files.iter()
     }
 
-    /// How many bytes more the texts may have.
+    /// The number of bytes that the texts may have more.
     pub fn room(&self) -> usize
         ensures { result ≡ 16777216 - total_bytes self.now }
     {
@@ -271,13 +271,13 @@ impl Folder for NoFolder {
 /// Files that are read as they are asked for, each once.
 #[derive(Drop)]
 pub struct Library<'a, F> {
-    /// Those that were read.
+    /// The files that were read.
     pub files: ReadFiles<'a>,
-    /// What gives the others.
+    /// The folder that gives the others.
     pub folder: F,
 }
 
-/// What the texts of files come from.
+/// The texts of files.
 #[derive(Drop)]
 pub enum Texts<'a, F> {
     /// All texts are there from the start.

@@ -75,7 +75,7 @@ pub(crate) fn is_blank_line(line: &str) -> bool
     blank_len(line) == line.len()
 }
 
-/// The column behind a blank at a column: a tab goes to the next multiple of 8.
+/// The column after a blank at a column: a tab goes to the next multiple of 8.
 fn column_after(column: u128, blank: u8) -> u128
     requires { column + 8 < 2 ^ 128 }
     ensures { result ≡ column_after column blank }
@@ -113,7 +113,7 @@ fn begins_blank_line(text: &str) -> bool
     begins_with_end(behind_blanks(text))
 }
 
-/// How many lines of blanks a text begins with, and the text behind them.
+/// The number of lines of blanks that a text begins with, and the text after them.
 pub(crate) fn skip_blank_lines(text: &str) -> (usize, &str)
     ensures count { result.0 ≡ passed_lines (lines text.now) }
     ensures rest { lines result.1.now ≡ drop result.0 (lines text.now) }
@@ -136,7 +136,7 @@ pub(crate) fn skip_blank_lines(text: &str) -> (usize, &str)
 pub(crate) fn first_indentation(text: &str) -> u128
     ensures { result ≡ first_indentation (lines text.now) }
 {
-    // the blanks before it stand in that line
+    // the blanks before it are in that line
     indentation(text)
 }
 
@@ -154,8 +154,8 @@ fn is_inside(column: u128, text: &str) -> bool
     true
 }
 
-/// How many lines that belong to a help text of an indentation a text begins with, and the text behind them: none
-/// where it is not indented.
+/// The number of lines of a help text of an indentation that a text begins with, and the text after them: none where
+/// the help text is not indented.
 pub(crate) fn skip_inside(column: u128, text: &str) -> (usize, &str)
     ensures count { result.0 ≡ len_inside column (lines text.now) }
     ensures rest { lines result.1.now ≡ drop result.0 (lines text.now) }
@@ -177,9 +177,9 @@ pub(crate) fn skip_inside(column: u128, text: &str) -> (usize, &str)
     (count, rest)
 }
 
-/// How many lines belong to the help whose `help` stands before a text, and the text behind them: lines of blanks
-/// alone first, and then those that are indented as far as the first other one. Where that one is not indented the
-/// help text is empty.
+/// The number of lines of the help text whose `help` is before a text, and the text after them: lines of blanks alone
+/// first, and then those that are indented as far as the first other one. Where that one is not indented the help text
+/// is empty.
 pub(crate) fn skip_help(text: &str) -> (usize, &str)
     ensures count { result.0 ≡ help_len (lines text.now) }
     ensures rest { lines result.1.now ≡ drop result.0 (lines text.now) }
@@ -190,7 +190,7 @@ pub(crate) fn skip_help(text: &str) -> (usize, &str)
     (passed + len, rest)
 }
 
-/// A help text, which is found in the file behind its `help` line, lent. Contracts see the bytes of the text.
+/// A help text, lent, which is looked up in the file after its `help` line. Contracts see the bytes of the text.
 #[derive(Debug, Drop)]
 pub struct HelpText<'a> {
     behind: &'a str,
@@ -207,7 +207,7 @@ impl<'a> Model for HelpText<'a> {
 }
 
 impl<'a> HelpText<'a> {
-    /// The help text of the `help` line that stands before a text.
+    /// The help text of the `help` line that is before a text.
     pub(crate) fn new(behind: &'a str) -> HelpText<'a>
         ensures { result ≡ help_text (lines behind.entry.now) }
     {
@@ -232,7 +232,7 @@ impl<'a> HelpText<'a> {
     }
 }
 
-/// The first lines of a text, so many.
+/// The first `count` lines of a text.
 fn first_lines<'a>(alloc: Global, count: usize, text: &'a str) -> Result<Vec<&'a str>, AllocError>
     ensures { IfOk result (λ v. texts_of v.items ≡ take count (lines text.now)) }
 {
@@ -241,7 +241,7 @@ fn first_lines<'a>(alloc: Global, count: usize, text: &'a str) -> Result<Vec<&'a
     Ok(taken)
 }
 
-/// How many lines of blanks stand last.
+/// The number of lines of blanks at the end.
 fn blank_lines_at_end(lines: &[&str]) -> usize
     ensures count { result ≡ suffix_len is_blank_line (texts_of lines.now) }
     ensures within { result ≤ length lines.now }
@@ -253,8 +253,8 @@ fn blank_lines_at_end(lines: &[&str]) -> usize
         .count()
 }
 
-/// Puts a line behind a help text of an indentation: its own indentation is spelt in spaces, and blanks at its end
-/// are dropped.
+/// Appends a line to a help text of an indentation: its own indentation becomes spaces, and blanks at its end are
+/// dropped.
 fn push_help_line(out: &mut String, column: u128, line: &str) -> Result<(), AllocError>
     ensures { OnOk result (string_bytes out.new ≡ string_bytes out.old ++ help_line column line.now) }
 {
@@ -268,7 +268,7 @@ fn push_help_line(out: &mut String, column: u128, line: &str) -> Result<(), Allo
     out.push('\n')
 }
 
-/// How many bytes lines have with their ends, which their help text passes by tabs alone.
+/// The number of bytes of lines with their ends. Their help text has more only where tabs are in it.
 fn room_for(lines: &[&str]) -> usize {
     let mut total: usize = 0;
     for line in lines {
@@ -305,7 +305,7 @@ fn kept_word<'a>(arena: &'a Bump, word: &'a str) -> Result<&'a [Token<'a>], Allo
 }
 
 impl<'a> HelpTokens<'a> {
-    /// The tokens, kept by an arena.
+    /// The tokens of both lines, which the arena keeps.
     pub(crate) fn new(arena: &'a Bump) -> Result<HelpTokens<'a>, AllocError> {
         Ok(HelpTokens {
             help: kept_word(arena, "help")?,

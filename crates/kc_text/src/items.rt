@@ -30,7 +30,7 @@ fn before_return(line: &str) -> &str
     }
 }
 
-/// How many bytes stand before the first line feed of a text: all of them where there is none.
+/// The length of the first line of a text, without its line feed.
 fn line_len(text: &str) -> usize
     ensures { result ≡ position_or_len is_feed text.now }
 {
@@ -40,7 +40,7 @@ fn line_len(text: &str) -> usize
     }
 }
 
-/// The first line of a text, without its end, and the text behind it.
+/// The first line of a text, without its end, and the text after it.
 pub(crate) fn first_line(text: &str) -> (&str, &str)
     requires some { 0 < length text.now }
     ensures lines { lines text.now ≡ result.0.now ∷ lines result.1.now }
@@ -79,7 +79,7 @@ pub(crate) struct Front<'a> {
     pub(crate) rest: &'a str,
 }
 
-/// What a line may be.
+/// What a line may be, by its first byte that is no blank.
 fn start_of(line: &str) -> Start
     ensures silent { result ≡ Silent → 0 < length (behind_blanks line.now) → slice_index (behind_blanks line.now) 0 ≡ 35 }
     ensures other { result ≡ Other → is_help line.now ≡ false }
@@ -141,9 +141,9 @@ pub(crate) struct Item<'a> {
     pub(crate) text: Joined<'a>,
     /// The help text, where the text is `help`.
     pub(crate) help: Option<HelpText<'a>>,
-    /// How many lines it takes beside the first.
+    /// The number of lines after the first.
     pub(crate) more: usize,
-    /// The file behind these lines.
+    /// The file after these lines.
     pub(crate) rest: &'a str,
 }
 
@@ -165,8 +165,7 @@ fn before_backslash(line: &str) -> &str
     }
 }
 
-/// The text of the first line of a file and those that are joined to it, how many these are, and the file behind
-/// them.
+/// The text of the first line of a file and those that are joined to it, the number of these, and the file after them.
 fn join_lines<'a>(alloc: Global, file: &'a str) -> Result<(Text, usize, &'a str), AllocError>
     requires some { 0 < length file.now }
     ensures text { IfOk result (λ r. r.0 ≡ joined (lines file.now)) }
@@ -188,7 +187,7 @@ fn join_lines<'a>(alloc: Global, file: &'a str) -> Result<(Text, usize, &'a str)
     Ok((Text::new(out), more, rest))
 }
 
-/// The same, where one line that is joined to none is lent.
+/// What `join_lines` gives, with the text of a line lent that is joined to none.
 fn join_first<'a>(
     alloc: Global,
     file: &'a str,
@@ -208,7 +207,7 @@ fn join_first<'a>(
     Ok((Joined::Many(text), more, rest))
 }
 
-/// The item that a file begins with, by its first line.
+/// The item that a file begins with.
 pub(crate) fn first_item<'a>(
     alloc: Global,
     file: &'a str,
@@ -286,7 +285,7 @@ impl<'a> FileItem<'a> {
         self.item.help.as_ref()
     }
 
-    /// How many lines it has after the first.
+    /// The number of lines after the first.
     pub fn more(&self) -> usize
         ensures { result ≡ self.now.more }
     {

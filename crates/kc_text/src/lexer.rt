@@ -26,21 +26,21 @@ use std::alloc::{AllocError, Global};
 use std::collections::BTreeSet;
 use std::marker::Model;
 
-/// What a line shows: a token, or the fault at which its reading stops.
+/// A token before references are followed, or the fault at which the reading of its line stops.
 #[derive(Drop)]
 pub(crate) enum RawToken<'a> {
     /// A word without references.
     Word(&'a str),
     /// A word with references, in parts.
     Spliced(Vec<Piece<'a>>),
-    /// A text in quotes that stands as it is.
+    /// A text in quotes without references and backslashes.
     Quoted(&'a str),
     /// A text in quotes, in parts.
     QuotedParts(Vec<Piece<'a>>),
     Operator(Operator),
-    /// A quote that the line does not close, and what stands in it.
+    /// A quote that the line does not close, with the parts of the text after it.
     Unclosed(Vec<Piece<'a>>),
-    /// A character that may not stand where it does.
+    /// A character that is not allowed where it is.
     NotAllowed,
 }
 
@@ -174,7 +174,7 @@ fn sign(text: &str) -> (RawToken<'_>, &str)
     }
 }
 
-/// What the line shows first, and the text after it: nothing after a fault.
+/// The first token of a line before references are followed, and the text after it: nothing after a fault.
 pub(crate) fn next_token<'a>(
     alloc: Global,
     line: &'a str,
@@ -196,7 +196,7 @@ pub(crate) fn next_token<'a>(
     }
 }
 
-/// The word that a text begins with, and the text after it.
+/// The word that a text begins with, as a token, and the text after it.
 fn verbatim_word(text: &str) -> Option<(Token<'_>, &str)>
     requires begins { begins_word text.now ≡ true }
     ensures shows { IfSome result (λ found. (names : Names) (outside : Environment) → line_tokens names outside text.now ≡ before found.0 (line_tokens names outside found.1.now)) }
@@ -209,7 +209,7 @@ fn verbatim_word(text: &str) -> Option<(Token<'_>, &str)>
     }
 }
 
-/// The text in quotes, from the text after the opening quote, and the text after the closing one.
+/// The text in quotes as a token, and the text after the closing quote. `text` is that after the opening one.
 fn verbatim_quoted(quote: u8, text: &str) -> Option<(Token<'_>, &str)>
     requires kind { is_quote quote ≡ true }
     ensures shows { IfSome result (λ found. (names : Names) (outside : Environment) → tokens_of names outside (lexed 0 (in_quotes quote []) text.now) ≡ before found.0 (line_tokens names outside found.1.now)) }
@@ -221,7 +221,7 @@ fn verbatim_quoted(quote: u8, text: &str) -> Option<(Token<'_>, &str)>
     }
 }
 
-/// The operator that a text begins with, and the text after it.
+/// The operator that a text begins with, as a token, and the text after it.
 fn verbatim_sign(text: &str) -> Option<(Token<'_>, &str)>
     requires some { 0 < length text.now }
     requires no_blank { is_blank (slice_index text.now 0) ≡ false }
@@ -235,8 +235,7 @@ fn verbatim_sign(text: &str) -> Option<(Token<'_>, &str)>
     }
 }
 
-/// The first token of a line and the text after it, where it stands there as it is: without references or
-/// backslashes. Most do.
+/// The first token of a line and the text after it, where the token has no references and backslashes. Most have none.
 // a call for each token costs more than its code at both places
 #[inline(always)]
 pub(crate) fn plain_token(line: &str) -> Option<(Token<'_>, &str)>
@@ -257,7 +256,7 @@ pub(crate) fn plain_token(line: &str) -> Option<(Token<'_>, &str)>
     }
 }
 
-/// The most bytes of a text that is kept anew each time.
+/// The largest number of bytes of a text that is kept anew each time.
 const MAX_SHORT: usize = 64;
 
 /// Texts that an arena keeps. One that is long, as that of a variable may be, is kept once, however many tokens have
@@ -277,7 +276,7 @@ impl<'a> Model for KeptTexts<'a> {
 }
 
 impl<'a> KeptTexts<'a> {
-    /// No texts so far.
+    /// Texts of an arena, none so far.
     pub(crate) fn new(alloc: Global, arena: &'a Bump) -> KeptTexts<'a> {
         KeptTexts {
             arena,
@@ -285,12 +284,12 @@ impl<'a> KeptTexts<'a> {
         }
     }
 
-    /// The arena.
+    /// The arena that keeps the texts.
     pub(crate) fn arena(&self) -> &'a Bump {
         self.arena
     }
 
-    /// A text, kept.
+    /// Keeps a text in the arena.
     pub(crate) fn keep(&mut self, text: &str) -> Result<TextRef<'a>, AllocError>
         ensures { IfOk result (λ t. t ≡ text.now) }
     {
@@ -313,7 +312,7 @@ fn is_reference(piece: &Piece<'_>) -> bool
     matches!(piece, Piece::Reference(_))
 }
 
-/// The text of parts, kept.
+/// The expanded text of parts, which the arena keeps.
 fn kept_text<'a>(
     scope: Scope<'_>,
     texts: &mut KeptTexts<'a>,
@@ -328,7 +327,7 @@ fn kept_text<'a>(
     Ok(texts.keep(text.as_str())?)
 }
 
-/// The word of parts: one that holds a reference is never a keyword, whatever its text.
+/// The word of parts: one that has a reference is never a keyword, whatever its text.
 fn expanded_word<'a>(
     scope: Scope<'_>,
     texts: &mut KeptTexts<'a>,
@@ -343,7 +342,7 @@ fn expanded_word<'a>(
     Ok(Token::Word(text))
 }
 
-/// The token that was found, or the fault in its place.
+/// The token with its references expanded, or the fault in its place.
 fn token<'a>(
     scope: Scope<'_>,
     texts: &mut KeptTexts<'a>,
@@ -440,7 +439,7 @@ pub(crate) fn begin<'a>(
     })
 }
 
-/// Two tokens that were gathered, which the arena keeps.
+/// Moves two tokens that were gathered into the arena.
 fn kept_pair<'a>(
     arena: &'a Bump,
     gathered: &mut Vec<Token<'a>, &'a Bump>,
@@ -457,7 +456,7 @@ fn kept_pair<'a>(
     }
 }
 
-/// The tokens that were gathered, which the arena keeps. Most lines have two, and an array of two takes its room at less
+/// Moves the tokens that were gathered into the arena. Most lines have two, and an array of two takes its room at less
 /// cost than a vector.
 fn kept_tokens<'a>(
     arena: &'a Bump,

@@ -36,8 +36,7 @@ pub enum Operator {
 pub enum Token<'a> {
     /// A word without references: letters, digits, `_`, `.`, `/` and `-`.
     Word(TextRef<'a>),
-    /// A word that holds a reference, as its expanded text, which may be empty or have blanks. It is never a
-    /// keyword.
+    /// A word that has a reference, as its expanded text, which may be empty or have blanks. It is never a keyword.
     Expanded(TextRef<'a>),
     /// A text in quotes, without them, expanded.
     Quoted(TextRef<'a>),
@@ -60,7 +59,7 @@ impl<'a> Model for LineTokens<'a> {
 }
 
 impl<'a> LineTokens<'a> {
-    /// These tokens.
+    /// A list of tokens that an arena keeps.
     pub(crate) fn new(tokens: &'a [Token<'a>]) -> LineTokens<'a>
         ensures { result ≡ tokens.entry.now }
     {
@@ -75,7 +74,7 @@ impl<'a> LineTokens<'a> {
     }
 }
 
-/// What a logical line stands for.
+/// What a logical line is.
 #[derive(Clone, Copy, Debug, PartialEq, Eq)]
 pub enum LineKind {
     /// A line with tokens.
@@ -84,21 +83,21 @@ pub enum LineKind {
     EndOfFile,
 }
 
-/// A file in its place: the path, as it was spelt, and which putting in place of a file it is.
+/// One inclusion of a file: its path, as it was spelt, and the number of the inclusion.
 #[derive(Debug, Drop)]
 pub(crate) struct PlacedFile<'a> {
     pub(crate) path: TextRef<'a>,
     pub(crate) run: usize,
 }
 
-/// What a `help` line holds: its tokens, and the text behind it.
+/// The content of a `help` line: its tokens, and the help text after it.
 #[derive(Debug, Drop)]
 pub(crate) struct HelpLine<'a> {
     pub(crate) tokens: LineTokens<'a>,
     pub(crate) text: HelpText<'a>,
 }
 
-/// What a line holds. A `help` line is rare, so the arena keeps what it holds, and lines are small.
+/// The content of a line. A `help` line is rare, so the arena keeps its content, and lines are small.
 #[derive(Debug, Drop)]
 pub(crate) enum Content<'a> {
     Statement(LineTokens<'a>),
@@ -126,7 +125,7 @@ impl<'a> Model for Line<'a> {
 impl<'a> Line<'a> {
     ghost use Rattle.kc_text.specs.LineContent.{kind_of, tokens_of, help_of};
 
-    /// The line of a file with a number, and what it holds.
+    /// The line of a file with this number and content.
     pub(crate) fn new(file: &'a PlacedFile<'a>, number: usize, content: Content<'a>) -> Line<'a>
         ensures { result ≡ record { path = file.entry.now.path; number = number; run = file.entry.now.run; kind = kind_of content.entry; tokens = tokens_of content.entry; help = help_of content.entry } }
     {
@@ -151,15 +150,15 @@ impl<'a> Line<'a> {
         self.number
     }
 
-    /// Which putting in place of a file the line belongs to. That of the top file is 0, and each `source` line
-    /// that is followed counts one more.
+    /// The number of the inclusion of a file that the line belongs to. That of the top file is 0, and each `source` line
+    /// that is followed includes a file and counts one more.
     pub fn run(&self) -> usize
         ensures { result ≡ self.now.run }
     {
         self.file.run
     }
 
-    /// What the line stands for.
+    /// What the line is.
     pub fn kind(&self) -> LineKind
         ensures { result ≡ self.now.kind }
     {
@@ -170,7 +169,7 @@ impl<'a> Line<'a> {
         }
     }
 
-    /// The tokens, of which an end of file has none.
+    /// The tokens of the line. An end of file has none.
     pub fn tokens(&self) -> &[Token<'a>]
         ensures { result.now ≡ self.now.tokens }
     {

@@ -8,7 +8,7 @@ use crate::line::PlacedFile;
 use crate::text::Text;
 use std::alloc::Global;
 
-/// Where a line stands.
+/// A line's inclusion of a file, and its number there.
 #[derive(Clone, Copy)]
 pub(crate) struct Place<'a> {
     pub(crate) file: &'a PlacedFile<'a>,
@@ -16,7 +16,7 @@ pub(crate) struct Place<'a> {
 }
 
 impl<'a> Place<'a> {
-    /// What could not be read at the place, as its fault.
+    /// The fault of what could not be read at the place.
     pub(crate) fn fault(self, alloc: Global, fault: LineFault) -> TextFault
         ensures { IsPlacedFault result (place_of self.entry) fault }
     {
@@ -26,14 +26,14 @@ impl<'a> Place<'a> {
         }
     }
 
-    /// The problem at the place.
+    /// The fault of a problem at the place.
     pub(crate) fn problem(self, alloc: Global, problem: TextProblem) -> TextFault
         ensures { IsFaultAt result problem self.entry.file.now.path self.entry.number }
     {
         TextFault::at(alloc, problem, self.file.path.as_str(), self.number)
     }
 
-    /// The problem that the file of a path, which is wanted at the place, is not among the sources.
+    /// The fault that the file of a path, which the line wants, is not among the sources.
     pub(crate) fn missing_source(self, alloc: Global, wanted: &str) -> TextFault
         ensures { IsFaultAt result (MissingSource wanted.now) self.entry.file.now.path self.entry.number }
     {

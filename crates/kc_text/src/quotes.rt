@@ -13,7 +13,7 @@ use crate::lexer::RawToken;
 use memchr::memchr3;
 use std::alloc::{AllocError, Global};
 
-/// How many bytes that stand for themselves a text in quotes begins with.
+/// The number of bytes before the first quote, backslash or dollar of a text, or of all its bytes.
 fn plain_len(quote: u8, text: &str) -> usize
     ensures count { result ≡ prefix_len (is_plain quote) text.now }
     ensures within { result ≤ length text.now }
@@ -24,7 +24,8 @@ fn plain_len(quote: u8, text: &str) -> usize
     }
 }
 
-/// The text in quotes that stands as it is, from the text after the opening quote, and the text after the closing one.
+/// The text in quotes, where it has no references and backslashes, and the text after the closing quote. `text` is that
+/// after the opening one.
 pub(crate) fn plain_quoted(quote: u8, text: &str) -> Option<(&str, &str)>
     requires kind { is_quote quote ≡ true }
     ensures lexes { IfSome result (λ found. lexed 0 (in_quotes quote []) text.now ≡ a_quoted (bytes_of found.0.now) ∷ raw_tokens found.1.now) }
@@ -53,7 +54,7 @@ pub(crate) fn quoted<'a>(
     }
 }
 
-/// The same of a text with references or backslashes, or without an end.
+/// Reads a quoted text that has references or backslashes, or is not closed.
 fn quoted_parts<'a>(
     alloc: Global,
     quote: u8,
@@ -98,8 +99,8 @@ pub(crate) fn quoted_piece(quote: u8, text: &str) -> Option<(Piece<'_>, &str)>
     }
 }
 
-/// The byte behind a backslash, as it is, and the text after it. A character that takes more bytes than one
-/// stands for itself anyway.
+/// The byte after a backslash, as it is, and the text after it. A character of more bytes than one has no meaning that
+/// the backslash would take away.
 fn escaped(text: &str) -> (Piece<'_>, &str)
     ensures lexes { (quote : ℕ) → is_quote quote ≡ true → (ps : List SpecPiece) → lexed 0 (in_quotes quote ps) (92 ∷ text.now) ≡ lexed 0 (in_quotes quote (ps ++ piece_of result.0)) result.1.now }
     ensures leaves { Leaves result.0 (92 ∷ text.now) result.1.now }

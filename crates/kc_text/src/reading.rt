@@ -34,28 +34,28 @@ use crate::variables::{Definition, Variables, Vars, define, definition_of};
 use bumpalo::Bump;
 use std::alloc::{AllocError, Global};
 
-/// How many bytes of a file there are for each logical line in most files, at least.
+/// The smallest number of bytes for each logical line in most files.
 const USUAL_LINE_BYTES: usize = 64;
 
-/// What was read so far.
+/// The lines that were read so far, and the variables that they define.
 #[derive(Drop)]
 pub(crate) struct State<'a> {
     pub(crate) lines: Vec<Line<'a>>,
     pub(crate) variables: Variables,
-    /// Texts of tokens, in the arena.
+    /// The texts of tokens, which the arena keeps.
     pub(crate) texts: KeptTexts<'a>,
-    /// Where the tokens of a line are gathered.
+    /// The tokens of a line, until the arena keeps them.
     pub(crate) gathered: Vec<Token<'a>, &'a Bump>,
     /// The tokens of `help` lines.
     pub(crate) help: HelpTokens<'a>,
-    /// How many `source` lines were followed.
+    /// The number of `source` lines that were followed.
     pub(crate) followed: usize,
-    /// How many bytes these put in place.
+    /// The number of bytes that these have included so far.
     pub(crate) placed: usize,
 }
 
 impl<'a> State<'a> {
-    /// Nothing read, with room for the logical lines of a top file.
+    /// The state before the first line, with room for the logical lines of a top file.
     pub(crate) fn with_room(
         alloc: Global,
         arena: &'a Bump,
@@ -75,7 +75,7 @@ impl<'a> State<'a> {
         })
     }
 
-    /// Puts the line of tokens behind the lines, unless there are none.
+    /// Appends a line of these tokens, if there are any.
     pub(crate) fn push_statement(
         &mut self,
         arena: &'a Bump,
@@ -94,7 +94,7 @@ impl<'a> State<'a> {
         Ok(())
     }
 
-    /// Puts the end of a file behind the lines.
+    /// Appends the end of a file.
     pub(crate) fn push_end(&mut self, place: Place<'a>) -> Result<(), AllocError>
         ensures { OnOk result (state_of self.new ≡ with_lines (end_of_file (place_of place.entry) ∷ []) (state_of self.old)) }
     {
@@ -104,7 +104,7 @@ impl<'a> State<'a> {
     }
 }
 
-/// What a line with tokens holds, and with the text of a help where it is a `help` line.
+/// The content of a line with tokens, and with the help text where it is a `help` line.
 fn content_of<'a>(
     arena: &'a Bump,
     tokens: LineTokens<'a>,
@@ -123,27 +123,27 @@ fn content_of<'a>(
     }
 }
 
-/// The most bytes of a logical line.
+/// The largest number of bytes of a logical line.
 const MAX_LINE_BYTES: usize = 65_536;
 
-/// The most bytes that `source` lines put in place.
-const MAX_PLACED: usize = 16_777_216;
+/// The largest number of bytes that `source` lines may include.
+const MAX_INCLUDED: usize = 16_777_216;
 
-/// The most `source` lines that are followed.
+/// The largest number of `source` lines that are followed.
 const MAX_FOLLOWED: usize = 4_096;
 
-/// The most logical lines. Each takes at least one byte of the top file or of a text that is put in place, but for the
-/// end of the top file: the end of a file that is put in place takes the bytes of its `source` line.
-pub const MOST_LINES: usize = MAX_BYTES + MAX_PLACED + 1;
+/// The largest number of logical lines. Each takes at least one byte of the top file or of a file that is included, but
+/// for the end of the top file: the end of an included file takes the bytes of its `source` line.
+pub const MOST_LINES: usize = MAX_BYTES + MAX_INCLUDED + 1;
 
-/// The most files that are open at once.
+/// The largest number of files that are open at once.
 const MAX_OPEN: usize = 64;
 
-/// What files are read with.
+/// The memory and the variables with which files are read.
 #[derive(Clone, Copy)]
 pub(crate) struct Reader<'a> {
     pub(crate) alloc: Global,
-    /// What keeps the tokens.
+    /// The arena that keeps the tokens.
     pub(crate) arena: &'a Bump,
     pub(crate) vars: &'a Vars,
 }
@@ -184,8 +184,8 @@ fn is_silent(front: Front<'_>) -> bool
         && !ends_in_backslash(front.line)
 }
 
-/// Reads a file, whose end stands behind its lines. The paths `around` are those of the files that are open, this
-/// one last.
+/// Reads a file and appends its end after its lines. The paths `around` are those of the files that are open, this one
+/// last.
 #[cycle(read)]
 fn read_file<'a, F: Folder>(
     reader: Reader<'a>,
@@ -260,7 +260,7 @@ fn read_item<'a, F: Folder>(
     }
     let tokens = read_tokens(reader, place, begun, state)?;
     match source_path(tokens.as_slice()) {
-        Some(wanted) => put_in_place(reader, texts, around, place, wanted, state),
+        Some(wanted) => include_file(reader, texts, around, place, wanted, state),
         None => Ok(state.push_statement(reader.arena, place, tokens, None)?),
     }
 }
@@ -302,15 +302,15 @@ fn read_tokens<'a>(
     }
 }
 
-/// Whether a path is one of those.
+/// Whether a path is one of others.
 fn is_among(wanted: &str, paths: &[&str]) -> bool
     ensures { result ≡ is_among wanted.now (names_of paths.now) }
 {
     paths.iter().any(|path| *path == wanted)
 }
 
-/// The file of a path in its place, which the arena keeps.
-fn placed_file<'a>(
+/// The inclusion of a file, which the arena keeps.
+fn kept_inclusion<'a>(
     arena: &'a Bump,
     path: &'a str,
     run: usize,
@@ -324,9 +324,9 @@ fn placed_file<'a>(
     }
 }
 
-/// Reads the file of a path in place of a `source` line. The paths `around` are those of the files that are open.
+/// Includes the file of a path where a `source` line names it. The paths `around` are those of the files that are open.
 #[cycle(read)]
-fn put_in_place<'a, F: Folder>(
+fn include_file<'a, F: Folder>(
     reader: Reader<'a>,
     texts: &mut Texts<'a, F>,
     around: &mut Vec<&'a str>,
@@ -359,7 +359,7 @@ fn put_in_place<'a, F: Folder>(
             return Err(LinesFault::Stopped(why, missing));
         }
     };
-    if text.len() > MAX_PLACED || state.placed > MAX_PLACED - text.len() {
+    if text.len() > MAX_INCLUDED || state.placed > MAX_INCLUDED - text.len() {
         let fault = place.problem(reader.alloc, TextProblem::Limit);
         return Err(LinesFault::Text(fault));
     }
@@ -367,13 +367,13 @@ fn put_in_place<'a, F: Folder>(
     state.placed += text.len();
     let run = state.followed;
     around.push(path)?;
-    let file = placed_file(reader.arena, path, run)?;
+    let file = kept_inclusion(reader.arena, path, run)?;
     read_file(reader, texts, around, file, text, state)?;
     around.pop();
     Ok(())
 }
 
-/// The problem that a top file is not among the sources.
+/// The fault that a top file is not among the sources.
 fn missing_top(alloc: Global, top: &str) -> TextFault
     ensures { IsFaultAt result (MissingSource top.now) top.now 0 }
 {
@@ -387,7 +387,7 @@ fn missing_top(alloc: Global, top: &str) -> TextFault
     nowhere.missing_source(alloc, top)
 }
 
-/// The logical lines of the top file and all that it sources.
+/// The logical lines of the top file and of all files that it sources.
 pub(crate) fn read_top<'a, F: Folder>(
     reader: Reader<'a>,
     texts: &mut Texts<'a, F>,
@@ -406,7 +406,7 @@ pub(crate) fn read_top<'a, F: Folder>(
     let mut state = State::with_room(reader.alloc, reader.arena, text)?;
     let mut around = Vec::new(reader.alloc);
     around.push(path)?;
-    let file = placed_file(reader.arena, path, 0)?;
+    let file = kept_inclusion(reader.arena, path, 0)?;
     read_file(reader, texts, &mut around, file, text, &mut state)?;
     Ok(state.lines)
 }
@@ -414,11 +414,12 @@ pub(crate) fn read_top<'a, F: Folder>(
 /// The logical lines of a top file and of all files that it sources, each with its tokens.
 ///
 /// A line that ends in a backslash is joined with the next one. A line without tokens, as one of blanks or a
-/// comment, and one that defines a variable are none. A line `help` has its help text. In place of a `source` line
-/// stand the lines of its file. Behind the lines of each file stands its end. There are [`MOST_LINES`] lines at most.
+/// comment, and one that defines a variable are none. A line `help` has its help text. A `source` line includes its
+/// file: the lines of that are in its place. The end of a file is after the lines of each. There are [`MOST_LINES`]
+/// lines at most.
 ///
 /// The first fault in the order of lines decides, with the path of the file and the number of the line: a limit
-/// that is passed (K01), a character that may not stand where it does (K02), a quote that its line does not close
+/// that is passed (K01), a character that is not allowed where it is (K02), a quote that its line does not close
 /// (K03), a file that is not among the sources (K08) or within itself (K09), a dollar that begins no reference to
 /// a variable (K10), a variable that its own expansion needs (K11). On one line the length comes first, then
 /// faults go from left to right. A top file that is not among the sources is K08 at line 0. `NoMemory` comes where

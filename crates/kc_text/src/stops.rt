@@ -123,7 +123,7 @@ fn past_token(text: &str) -> Option<Passed<'_>>
 }
 
 /// Where the reading of a logical line stops that is no definition of a variable: at the first character that is not
-/// allowed, quote that is not closed or dollar that begins no reference. What references stand for has no part in it.
+/// allowed, quote that is not closed or dollar that begins no reference. The texts of variables have no part in it.
 pub fn stop_in(line: &str) -> Option<Stop>
     ensures none { IfNone result ((shown : List Raw) → Shows line.now shown → first_stop shown ≡ None) }
     ensures stops { IfSome result (λ stop. Stops line.now stop) }

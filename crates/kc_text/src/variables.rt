@@ -29,7 +29,7 @@ pub enum Assignment {
     Later,
     /// `:=`: the text is expanded at the line.
     AtOnce,
-    /// `+=`: the text goes behind the one so far.
+    /// `+=`: the text is appended to the one so far.
     Append,
 }
 
@@ -62,7 +62,7 @@ pub(crate) fn definition_of(line: &str) -> Option<Definition<'_>>
     assignment_in(name, behind_blanks(rest))
 }
 
-/// The definition of a name, from the text behind it and its blanks.
+/// The definition of a name, from the text after it and its blanks.
 fn assignment_in<'a>(name: &'a str, text: &'a str) -> Option<Definition<'a>>
     ensures { result ≡ assignment_in name.now text.now }
 {
@@ -79,7 +79,7 @@ fn assignment_in<'a>(name: &'a str, text: &'a str) -> Option<Definition<'a>>
     })
 }
 
-/// The most bytes of a variable's text.
+/// The largest number of bytes of a variable's text.
 const MAX_TEXT_BYTES: usize = 65_536;
 
 /// The texts of variables that are passed in, by their names. Contracts see the list of the names in
@@ -111,8 +111,8 @@ impl Vars {
     /// The variables of pairs of a name and a text. Of pairs with one name the last counts.
     ///
     /// The first pair at fault decides, also one that a later pair replaces: a text with a line feed, a
-    /// carriage return or a NUL is K02, and one of more than 65,536 bytes K01, both with the name in place of
-    /// a path, at line 0. `NoMemory` comes where memory is refused.
+    /// carriage return or a NUL is K02, and one of more than 65,536 bytes K01, both with the name for a path, at
+    /// line 0. `NoMemory` comes where memory is refused.
     pub fn from_pairs(alloc: Global, pairs: &[(&str, &str)]) -> Result<Vars, TextFault>
         ensures { GivesBy texts_in result (vars_of (map (λ p. (p.0.now, p.1.now)) pairs.now)) }
     {
@@ -154,7 +154,7 @@ fn text_problem(text: &str) -> Option<TextProblem>
     None
 }
 
-/// What a name stands for.
+/// The value of a variable.
 #[derive(Drop)]
 pub(crate) enum Value {
     /// A text that is expanded at each use.
@@ -163,8 +163,8 @@ pub(crate) enum Value {
     Simple(Text),
 }
 
-/// The names that lines have defined so far. Contracts see the list of the
-/// names in the order of their bytes, each with what it stands for.
+/// The variables that lines have defined so far. Contracts see the list of their names in the order of the bytes, each
+/// with its value.
 #[derive(Drop)]
 pub(crate) struct Variables {
     values: BTreeMap<String, Value>,
@@ -182,7 +182,7 @@ impl Model for Variables {
 }
 
 impl Variables {
-    /// No names.
+    /// No variables.
     pub(crate) fn new(alloc: Global) -> Variables
         ensures { result ≡ [] }
     {
@@ -192,14 +192,14 @@ impl Variables {
         }
     }
 
-    /// What a name stands for.
+    /// The value of a variable.
     pub(crate) fn get(&self, name: &str) -> Option<&Value>
         ensures { MatchOption result (names_in self.now name.now ≡ None) (λ value. names_in self.now name.now ≡ Some value.now) }
     {
         self.values.get(name)
     }
 
-    /// Takes out what a name stands for, so that it can be changed in place.
+    /// Removes the value of a name, so that it can be changed without a copy.
     pub(crate) fn take(&mut self, name: &str) -> Option<Value>
         ensures value { result ≡ names_in self.old name.now }
         ensures others { (v : NameValue) → with name.now v (names_in self.new) ≡ with name.now v (names_in self.old) }
@@ -207,7 +207,7 @@ impl Variables {
         self.values.remove(name)
     }
 
-    /// Gives a name a value, in place of the one that it had.
+    /// Gives a name a value, which replaces the one that it had.
     pub(crate) fn define(&mut self, name: &str, value: Value) -> Result<(), AllocError>
         ensures { OnOk result (names_in self.new ≡ with name.now value (names_in self.old)) }
     {
@@ -255,7 +255,7 @@ fn define_at_once(
     Ok(())
 }
 
-/// Puts the expanded text of a value behind a text.
+/// Appends the expanded text of a value.
 fn expand_value(
     alloc: Global,
     outside: &Vars,
@@ -275,8 +275,8 @@ fn expand_value(
     expand(scope, pieces.as_slice(), out)
 }
 
-/// Puts a value behind the one of a name: after one space, and expanded at once where the text so far was. A name
-/// without definition gets the value alone.
+/// Appends a value to the text of a name: after one space, and expanded at once where that text was. A name without
+/// definition gets the value alone.
 fn append(
     alloc: Global,
     outside: &Vars,
@@ -295,7 +295,7 @@ fn append(
     Ok(())
 }
 
-/// Puts a value behind the text of a name that is expanded at each use; else the name gets the value alone.
+/// Appends a value to the text of a name that is expanded at each use; else the name gets the value alone.
 fn append_later(
     alloc: Global,
     variables: &mut Variables,
@@ -309,7 +309,7 @@ fn append_later(
     variables.define(name, Value::Recursive(text))
 }
 
-/// A value behind the text that a name stands for where each use expands it; else the value alone.
+/// The text of a name that each use expands, with a value appended to it after one space; else the value alone.
 fn behind_recursive(alloc: Global, meant: Option<Value>, value: &str) -> Result<Text, AllocError>
     ensures { IfOk result (λ t. t ≡ behind_recursive meant value.now) }
 {
@@ -320,7 +320,7 @@ fn behind_recursive(alloc: Global, meant: Option<Value>, value: &str) -> Result<
     }
 }
 
-/// A text with one space and another behind it, in place.
+/// A text with one space and another text appended, without a copy of it.
 fn behind_space(text: Text, other: &str) -> Result<Text, AllocError>
     ensures { IfOk result (λ t. t ≡ text ++ 32 ∷ other.now) }
 {
@@ -330,7 +330,7 @@ fn behind_space(text: Text, other: &str) -> Result<Text, AllocError>
     Ok(Text::new(joined))
 }
 
-/// Puts bytes behind the text of a name that is as it is, in its place; else the name gets the bytes alone.
+/// Appends bytes to the text of a name that no use expands; else the name gets the bytes alone.
 fn append_to_simple(
     alloc: Global,
     variables: &mut Variables,
@@ -344,7 +344,7 @@ fn append_to_simple(
     variables.define(name, Value::Simple(text))
 }
 
-/// Bytes behind the text that a name stands for as it is, without a copy of the text; else the bytes alone.
+/// The text of a name that no use expands, with bytes appended to it; else the bytes alone.
 fn behind_simple(alloc: Global, meant: Option<Value>, bytes: &str) -> Result<Text, AllocError>
     ensures { IfOk result (λ t. t ≡ behind_simple meant bytes.now) }
 {
@@ -355,7 +355,7 @@ fn behind_simple(alloc: Global, meant: Option<Value>, bytes: &str) -> Result<Tex
     }
 }
 
-/// A text with bytes behind it, in place.
+/// A text with bytes appended, without a copy of it.
 fn joined_behind(text: Text, bytes: &str) -> Result<Text, AllocError>
     ensures { IfOk result (λ t. t ≡ text ++ bytes.now) }
 {
@@ -364,7 +364,7 @@ fn joined_behind(text: Text, bytes: &str) -> Result<Text, AllocError>
     Ok(Text::new(joined))
 }
 
-/// What is put behind a text: one space and the expanded text of a value. The text is not copied.
+/// The bytes that are appended to a text: one space and the expanded text of a value. The text is not copied.
 fn addition_behind(
     alloc: Global,
     outside: &Vars,

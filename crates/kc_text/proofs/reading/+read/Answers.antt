@@ -16,9 +16,9 @@ use Rattle.kc_text.proofs.Silent.{silent_first, silent_item, silent_read}
 use Rattle.kc_text.proofs.reading.+read.Goals as goal
 use Rattle.kc_text.proofs.reading.+read.Goals.{read_item-then-begun+in_default, read_item-else-begun}
 
-pub put_in_place-returns-in_err-read_file-clause-reads :
-    goal.put_in_place-returns-in_err-read_file-clause-reads
-put_in_place-returns-in_err-read_file-clause-reads g t c =
+pub include_file-returns-in_err-read_file-clause-reads :
+    goal.include_file-returns-in_err-read_file-clause-reads
+include_file-returns-in_err-read_file-clause-reads g t c =
     let p = err_from_is_err_and c.from_residual-in_err-read_file.result c.from_residual-in_err-read_file.ensures.1 in
     let wanted = c.args.wanted.now in
     let file = c.in-Ok-Some.file in
@@ -30,8 +30,8 @@ put_in_place-returns-in_err-read_file-clause-reads g t c =
     let read = λ (f : PlacedFile). file_read (outside_of c.args.reader) (placing files c.args.reader c.push.new.self.items) f.path f.run file.1.now (entered file.1.now (state_of c.args.state.now)) in
     rw (p.1, p.2) (fails_along _ _ _ (λ f h. reads ∙ ap read (sym c.in_ok-file.ensures) ∙ h) c.in_err-read_file.ensures.reads)
 
-pub put_in_place-returns-clause-reads : goal.put_in_place-returns-clause-reads
-put_in_place-returns-clause-reads g t c = λ more e.
+pub include_file-returns-clause-reads : goal.include_file-returns-clause-reads
+include_file-returns-clause-reads g t c = λ more e.
     let wanted = c.args.wanted.now in
     let file = c.in-Ok-Some.file in
     let new : is_among wanted (names_of c.args.around.now.items) ≡ false = cc in
@@ -54,12 +54,12 @@ read_item-returns-in-Some-source_path-clause-reads g t c =
       | read_item-then-begun+in_default w ↦ ap definition_of (sym line) ∙ search rules
       | read_item-else-begun w ↦ ap definition_of (sym line) ∙ search rules
     ] in
-    gives_as c.put_in_place.result (state_of c.put_in_place.new.state) (known_files c.put_in_place.new.texts) _ _
+    gives_as c.include_file.result (state_of c.include_file.new.state) (known_files c.include_file.new.texts) _ _
     (λ files.
     item_sources (outside_of c.args.reader) (placing files c.args.reader c.args.around.now.items) at item c.in_ok-tokens.tokens wanted (state_of c.args.state.now)
     (search rules) none (search rules) (search rules)
     ∙ ap (placing files c.args.reader c.args.around.now.items at wanted) (sym c.in_ok-tokens.ensures.state))
-    c.put_in_place.ensures.reads
+    c.include_file.ensures.reads
 
 pub read_file-returns-in_err-read_item-clause-reads :
     goal.read_file-returns-in_err-read_item-clause-reads

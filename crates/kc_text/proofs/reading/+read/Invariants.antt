@@ -10,8 +10,8 @@ use Rattle.kc_text.specs.Scanning.{outside_of, placing, state_of}
 use Rattle.kc_text.proofs.reading.+read.Given as goal
 
 -- how many files more may be open, and which of the three calls comes first
-abbrev pub decreases-put_in_place : goal.decreases-put_in_place
-decreases-put_in_place g l = 3 * (64 - length l.around.now.items)
+abbrev pub decreases-include_file : goal.decreases-include_file
+decreases-include_file g l = 3 * (64 - length l.around.now.items)
 
 abbrev pub decreases-read_file : goal.decreases-read_file
 decreases-read_file g l = 3 * (64 - length l.around.now.items) + 2
