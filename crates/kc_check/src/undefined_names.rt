@@ -92,7 +92,8 @@ pub(crate) fn listed_names<'t>(
     extent: Extent,
 ) -> Result<ListedNames<'t>, AllocError> {
     let doubtful = doubtful_names(alloc, tree, lines)?;
-    let near = NearNames::of(alloc, symbol_names(alloc, tree)?)?;
+    let asked = count_in_one_line(doubtful.as_slice());
+    let near = NearNames::of(alloc, symbol_names(alloc, tree)?, asked)?;
     let mut listed = ListedNames {
         names: Vec::new(alloc),
         lines: Vec::new(alloc),
@@ -110,6 +111,11 @@ pub(crate) fn listed_names<'t>(
         listed.list(one, is_one)?;
     }
     Ok(listed)
+}
+
+/// How many names are in one line of a file each, so that it is asked what they may have been meant as.
+fn count_in_one_line(doubtful: &[DoubtfulName]) -> usize {
+    doubtful.iter().filter(|name| name.is_in_one_line).count()
 }
 
 /// The first uses of the names that no line defines.

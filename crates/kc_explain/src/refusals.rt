@@ -89,7 +89,7 @@ impl<'n> RefusalWords<'n> {
             types.insert(symbol.name.as_str(), symbol.kind)?;
             all.push(symbol.name.as_str())?;
         }
-        let meant = MeantNames::of(alloc, all)?;
+        let meant = MeantNames::of(alloc, all, usize::MAX)?;
         Ok(RefusalWords {
             prefix,
             types,

@@ -58,7 +58,7 @@ pub fn explain_warnings(
         return Ok(Vec::new(alloc));
     }
     let symbols = named_symbols_of(alloc, lines, prefix, warned)?;
-    let meant = MeantNames::of(alloc, symbols.found(alloc)?)?;
+    let meant = MeantNames::of(alloc, symbols.found(alloc)?, warned.len())?;
     let mut all = Vec::new(alloc);
     for warned in warned {
         let mut words = warning_words(alloc, lines, prefix, warned, &symbols, naming)?;

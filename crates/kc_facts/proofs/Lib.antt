@@ -1,6 +1,9 @@
 pub mod BlockLaws
 pub mod CulpritLaws
+pub mod FirstLaws
 pub mod ForcedLaws
+pub mod FormLaws
+pub mod FoundLaws
 pub mod FreshLaws
 pub mod HelpLaws
 pub mod HiddenLaws

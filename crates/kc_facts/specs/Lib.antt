@@ -7,6 +7,7 @@ pub mod FactorPlaces
 pub mod FaultyDefaults
 pub mod FileVariables
 pub mod Forced
+pub mod FoundNames
 pub mod FreshNames
 pub mod HiddenChoices
 pub mod LineIndex
@@ -15,6 +16,7 @@ pub mod LoopSteps
 pub mod MenuTree
 pub mod NameReadings
 pub mod Named
+pub mod NameForms
 pub mod NearName
 pub mod NeverModules
 pub mod Numbers

@@ -12,15 +12,19 @@ pub struct MeantNames<'n> {
 }
 
 impl<'n> MeantNames<'n> {
-    /// These names.
+    /// These names, where so many names are asked for, or some more.
     ///
     /// # Errors
     ///
     /// `AllocError` where memory is refused.
-    pub fn of(alloc: Global, names: Vec<&'n str>) -> Result<MeantNames<'n>, AllocError> {
+    pub fn of(
+        alloc: Global,
+        names: Vec<&'n str>,
+        asked: usize,
+    ) -> Result<MeantNames<'n>, AllocError> {
         let ends = NameEnds::of(alloc, names)?;
         let names = ends.names().iter().copied().collect(alloc)?;
-        let near = NearNames::of(alloc, names)?;
+        let near = NearNames::of(alloc, names, asked)?;
         Ok(MeantNames { near, ends })
     }
 

@@ -1,7 +1,8 @@
 //! Of many names, those that end in `_` and a name, as a new name of a symbol often does.
 
+use crate::likeness::MOST_BYTES;
+use crate::name_forms::{START, hash_from};
 use crate::near_name::is_alike;
-use crate::near_names::{MOST_BYTES, START, hash_from};
 use std::alloc::{AllocError, Global};
 
 /// The most names with one end that are compared with a name.

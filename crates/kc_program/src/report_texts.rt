@@ -91,7 +91,7 @@ fn unknown_names(
     {
         return Ok(errors);
     }
-    let meant = MeantNames::of(alloc, symbol_names(alloc, tree)?)?;
+    let meant = MeantNames::of(alloc, symbol_names(alloc, tree)?, names.len())?;
     for name in names {
         if symbol_of(tree, prefix, name).is_none() {
             write!(errors, "kconf: {name}: {NO_SYMBOL}")?;
