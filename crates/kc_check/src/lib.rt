@@ -14,7 +14,6 @@ mod merge_lines;
 mod merging;
 mod missing_variables;
 mod obstacles;
-mod reading_order;
 mod selections;
 mod shown_values;
 mod sourced_files;

@@ -3,10 +3,9 @@
 
 use crate::finding::Finding;
 use crate::inputs::CheckInputs;
-use crate::reading_order::{Mark, Reached, reading_order};
 use crate::sourced_files::{SourceLine, SourcedFiles};
 use crate::variables::Variables;
-use kc_facts::{fresh_names, repeated_files};
+use kc_facts::{Mark, Reached, fresh_names, reading_order, repeated_files};
 use kc_tree::Tree;
 use std::alloc::{AllocError, Global};
 
@@ -29,10 +28,10 @@ pub(crate) fn earlier_findings(
     variables: &Variables<'_>,
     inputs: &CheckInputs<'_, '_>,
 ) -> Result<Vec<EarlierFinding>, AllocError> {
-    let reached = reading_order(alloc, variables, inputs.lines)?;
+    let reached = reading_order(alloc, inputs.lines, variables.files())?;
     let missing = missing_places(alloc, variables, inputs.given, reached.as_slice())?;
     let repeated = repeated_files(alloc, inputs.lines, tree)?;
-    let mut sourced = SourcedFiles::new(alloc, variables, inputs.lines, repeated)?;
+    let mut sourced = SourcedFiles::new(alloc, inputs.lines, repeated)?;
     let mut found = Vec::new(alloc);
     let mut uses = 0usize;
     for reached in &reached {

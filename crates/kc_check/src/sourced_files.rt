@@ -1,10 +1,8 @@
 //! Files that are put in place twice, where the first time is enough.
 
 use crate::finding::Finding;
-use crate::reading_order::files_by_run;
-use crate::variables::Variables;
 use kc_facts::RepeatedFile;
-use kc_text::Line;
+use kc_text::{Line, LineKind};
 use std::alloc::{AllocError, Global};
 use std::collections::BTreeMap;
 
@@ -18,10 +16,9 @@ pub(crate) struct SourceLine<'p> {
 
 /// The `source` lines on the way through the lines of a Kconfig.
 #[derive(Drop)]
-pub(crate) struct SourcedFiles<'v, 'i> {
-    variables: &'v Variables<'i>,
-    /// Of each time that a file is put in place, by its number, which file it is.
-    files_by_run: BTreeMap<usize, usize>,
+pub(crate) struct SourcedFiles<'v, 'l> {
+    /// Of each time that a file is put in place, by its number, the path of the file.
+    paths: BTreeMap<usize, &'l str>,
     /// By the number of the time that a file is put in place, the line that does it.
     lines: BTreeMap<usize, SourceLine<'v>>,
     /// The times that others have made superfluous.
@@ -30,7 +27,7 @@ pub(crate) struct SourcedFiles<'v, 'i> {
     passed: usize,
 }
 
-impl<'v, 'i> SourcedFiles<'v, 'i> {
+impl<'v, 'l> SourcedFiles<'v, 'l> {
     /// Before the first line.
     ///
     /// # Errors
@@ -38,13 +35,11 @@ impl<'v, 'i> SourcedFiles<'v, 'i> {
     /// `AllocError` where memory is refused.
     pub fn new(
         alloc: Global,
-        variables: &'v Variables<'i>,
-        lines: &[Line<'_>],
+        lines: &'l [Line<'_>],
         repeated: Vec<RepeatedFile>,
-    ) -> Result<SourcedFiles<'v, 'i>, AllocError> {
+    ) -> Result<SourcedFiles<'v, 'l>, AllocError> {
         Ok(SourcedFiles {
-            variables,
-            files_by_run: files_by_run(alloc, variables, lines)?,
+            paths: paths_by_run(alloc, lines)?,
             lines: BTreeMap::new(alloc),
             repeated,
             passed: 0,
@@ -72,19 +67,24 @@ impl<'v, 'i> SourcedFiles<'v, 'i> {
         let Some(first) = self.lines.get(&repeated.first).copied() else {
             return Ok(None);
         };
-        let path = self.path_of(run);
+        let path = self.paths.get(&run).copied().unwrap_or("");
         let before = first.path;
         let number = first.line;
         let words = format!(in alloc; "{path} is sourced in {before}:{number}, too")?;
         Ok(Some(Finding::in_line(alloc, line.path, line.line, "", words)?))
     }
+}
 
-    /// The path of the file that is put in place the time of a number.
-    fn path_of(&self, run: usize) -> &'i str {
-        let file = self.files_by_run.get(&run).copied().unwrap_or(0);
-        match self.variables.files().get(file) {
-            Some(file) => file.path,
-            None => "",
+/// Of each time that a file is put in place, by its number, the path of the file.
+fn paths_by_run<'l>(
+    alloc: Global,
+    lines: &'l [Line<'_>],
+) -> Result<BTreeMap<usize, &'l str>, AllocError> {
+    let mut paths = BTreeMap::new(alloc);
+    for line in lines {
+        if line.kind() == LineKind::EndOfFile {
+            paths.insert(line.run(), line.path())?;
         }
     }
+    Ok(paths)
 }

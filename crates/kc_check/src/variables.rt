@@ -2,15 +2,8 @@
 
 use crate::finding::Finding;
 use crate::inputs::SourceText;
-use kc_facts::{FileVariables, NamedVariable, file_variables, fresh_names};
+use kc_facts::{NamedVariable, VariableFile, file_variables, fresh_names};
 use std::alloc::{AllocError, Global};
-
-/// A file of a Kconfig with the variables in it.
-#[derive(Drop)]
-pub(crate) struct VariableFile<'i> {
-    pub path: &'i str,
-    pub found: FileVariables,
-}
 
 /// A definition of a variable, by the path of its file.
 #[derive(Clone, Copy)]

@@ -11,6 +11,7 @@ pub mod LoopLaws
 pub mod NearLaws
 pub mod NthLaws
 pub mod NumberLaws
+pub mod OrderLaws
 pub mod PartLaws
 pub mod RangeLaws
 pub mod RowLemmas

@@ -17,6 +17,7 @@ use Rattle.kc_outline.specs.Enclosing.{before, block_opened, open_blocks}
 use Rattle.kc_outline.specs.TreeValue.{TreeValue}
 use Rattle.kc_facts.specs.Culprits.{first_with}
 use Rattle.kc_facts.specs.UnusedDefaults.{is_end}
+use Rattle.kc_facts.specs.ReadingOrder.{lent_run}
 use Rattle.kc_facts.specs.SourcedFiles.{condition_around, end_of_run, first_before, first_run_of, has_statement, if_earlier, is_around, is_repeated, lent_first, lent_first_before, noted_run, numbers_after, open_numbers, repeated_with, start_of}
 
 -- ---- open blocks
@@ -70,36 +71,45 @@ count_more lines i n new l k is k_is n_is step =
     ∙ ap (λ w. cond (option_map_or is_opener_word w false) 1 0 + n) (sym k_is)
     ∙ counted (option_map_or is_opener_word k false) n new step)
 
--- ---- where a putting in place begins
+-- ---- how many first ones have less than a number
 less_first : (a r s : ℕ) → nat_lt a r ≡ true → r ≤ s → nat_lt a s ≡ true
 less_first a r s is le = let below = ltb-true a r is in lt-ltb a s (omega (arith, below, le))
 
 one_more : (a b c : ℕ) → a ≡ b + c → 1 + a ≡ 1 + b + c
 one_more a b c is = omega (arith, is)
 
-plus_none : (n : ℕ) → n ≡ 0 + n
+pub plus_none : (n : ℕ) → n ≡ 0 + n
 plus_none n = omega arith
 
-start_by : (x : LineValue) (xs : List LineValue) (r s : ℕ) (b : Bool) → nat_lt x.run r ≡ b → r ≤ s
-    → (start_of xs s ≡ start_of xs r + prefix_len (λ l. nat_lt l.run s) (drop (start_of xs r) xs))
-    → cond (nat_lt x.run s) (1 + start_of xs s) 0
-    ≡ cond b (1 + start_of xs r) 0 + prefix_len (λ l. nat_lt l.run s) (drop (cond b (1 + start_of xs r) 0) (x ∷ xs))
-start_by x xs r s true is le rest =
-    let one : 1 + start_of xs r ≡ suc (start_of xs r) = omega arith in
-    ap (λ b. cond b (1 + start_of xs s) 0) (less_first x.run r s is le)
-    ∙ one_more (start_of xs s) (start_of xs r) (prefix_len (λ l. nat_lt l.run s) (drop (start_of xs r) xs)) rest
-    ∙ ap (λ n. 1 + start_of xs r + prefix_len (λ l. nat_lt l.run s) (drop n (x ∷ xs))) (sym one)
-start_by x xs r s false is le rest = plus_none (cond (nat_lt x.run s) (1 + start_of xs s) 0)
+below_by : {X : Type 0} (key : X → ℕ) (x : X) (xs : List X) (r s : ℕ) (b : Bool) → nat_lt (key x) r ≡ b → r ≤ s
+    → (prefix_len (λ y. nat_lt (key y) s) xs ≡ prefix_len (λ y. nat_lt (key y) r) xs + prefix_len (λ y. nat_lt (key y) s) (drop (prefix_len (λ y. nat_lt (key y) r) xs) xs))
+    → cond (nat_lt (key x) s) (1 + prefix_len (λ y. nat_lt (key y) s) xs) 0
+    ≡ cond b (1 + prefix_len (λ y. nat_lt (key y) r) xs) 0 + prefix_len (λ y. nat_lt (key y) s) (drop (cond b (1 + prefix_len (λ y. nat_lt (key y) r) xs) 0) (x ∷ xs))
+below_by key x xs r s true is le rest =
+    let below = λ (n : ℕ). prefix_len (λ y. nat_lt (key y) n) xs in
+    let one : 1 + below r ≡ suc (below r) = omega arith in
+    ap (λ b. cond b (1 + below s) 0) (less_first (key x) r s is le)
+    ∙ one_more (below s) (below r) (prefix_len (λ y. nat_lt (key y) s) (drop (below r) xs)) rest
+    ∙ ap (λ n. 1 + below r + prefix_len (λ y. nat_lt (key y) s) (drop n (x ∷ xs))) (sym one)
+below_by key x xs r s false is le rest = plus_none (cond (nat_lt (key x) s) (1 + prefix_len (λ y. nat_lt (key y) s) xs) 0)
 
+-- those below a greater number are counted on from those below a smaller one
+pub below_next : {X : Type 0} (key : X → ℕ) (xs : List X) (r s : ℕ) → r ≤ s
+    → prefix_len (λ y. nat_lt (key y) s) xs ≡ prefix_len (λ y. nat_lt (key y) r) xs + prefix_len (λ y. nat_lt (key y) s) (drop (prefix_len (λ y. nat_lt (key y) r) xs) xs)
+below_next key [] r s le = refl
+below_next key (x ∷ xs) r s le = below_by key x xs r s (nat_lt (key x) r) refl le (below_next key xs r s le)
+
+pub below_zero : {X : Type 0} (key : X → ℕ) (xs : List X) → prefix_len (λ y. nat_lt (key y) 0) xs ≡ 0
+below_zero key [] = refl
+below_zero key (x ∷ xs) = ap (λ b. cond b (1 + prefix_len (λ y. nat_lt (key y) 0) xs) 0) (le-ltb (key x) 0 (omega arith))
+
+-- ---- where a putting in place begins
 pub start_next : (lines : List LineValue) (r s : ℕ) → r ≤ s
     → start_of lines s ≡ start_of lines r + prefix_len (λ l. nat_lt l.run s) (drop (start_of lines r) lines)
-start_next [] r s le = refl
-start_next (x ∷ xs) r s le =
-    start_by x xs r s (nat_lt x.run r) refl le (start_next xs r s le)
+start_next lines r s le = below_next (λ (l : LineValue). l.run) lines r s le
 
 pub start_zero : (lines : List LineValue) → start_of lines 0 ≡ 0
-start_zero [] = refl
-start_zero (x ∷ xs) = ap (λ b. cond b (1 + start_of xs 0) 0) (le-ltb x.run 0 (omega arith))
+start_zero lines = below_zero (λ (l : LineValue). l.run) lines
 
 pub next_start : (lines : List LineValue) (from start r : ℕ) → from ≡ start_of lines (r - 1) → start ≡ from + prefix_len (λ l. nat_lt l.run r) (drop from lines)
     → start ≡ start_of lines r
@@ -222,6 +232,11 @@ path_lent r es xs path is =
     ap (option_and_then (if_earlier r))
     (run_lent (first_with (λ e. bytes_eq e.now.path path) es)
     ∙ ap (option_map (λ (l : LineValue). l.run)) (first_lent (λ l. bytes_eq l.path path) es ∙ ap (first_with (λ l. bytes_eq l.path path)) is))
+
+pub first_run_lent : (lines : List LineValue) (es : List (Bor LineValue)) (path : List ℕ) → map (λ e. e.now) es ≡ filter is_end lines → lent_run es path ≡ first_run_of lines path
+first_run_lent lines es path is =
+    run_lent (first_with (λ e. bytes_eq e.now.path path) es)
+    ∙ ap (option_map (λ (l : LineValue). l.run)) (first_lent (λ l. bytes_eq l.path path) es ∙ ap (first_with (λ l. bytes_eq l.path path)) is)
 
 by_path : (f g : List ℕ → Option ℕ) → ((path : List ℕ) → f path ≡ g path) → (o : Option (Bor LineValue))
     → option_and_then (λ e. f e.now.path) o ≡ option_and_then (λ l. g l.path) (option_map (λ e. e.now) o)

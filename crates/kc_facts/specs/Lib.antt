@@ -21,6 +21,7 @@ pub mod NearName
 pub mod NeverModules
 pub mod Numbers
 pub mod Ranges
+pub mod ReadingOrder
 pub mod RowSteps
 pub mod SelectedMembers
 pub mod Shown

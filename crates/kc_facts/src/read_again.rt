@@ -10,7 +10,7 @@ use kc_text::{Line, LineKind};
 use std::alloc::{AllocError, Global};
 
 /// Whether a line is the end of a file.
-fn is_end(line: &Line<'_>) -> bool
+pub(crate) fn is_end(line: &Line<'_>) -> bool
     ensures { result ≡ is_end line.now }
 {
     line.kind() == LineKind::EndOfFile

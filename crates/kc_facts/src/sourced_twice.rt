@@ -80,7 +80,7 @@ fn end_of_run<'l, 'a>(ends: &[&'l Line<'a>], run: usize) -> Option<&'l Line<'a>>
 }
 
 /// The first end of the file of a path.
-fn end_of_path<'l, 'a>(ends: &[&'l Line<'a>], path: &str) -> Option<&'l Line<'a>>
+pub(crate) fn end_of_path<'l, 'a>(ends: &[&'l Line<'a>], path: &str) -> Option<&'l Line<'a>>
     ensures { result ≡ first_with (λ e. bytes_eq e.now.path path.now) ends.now }
 {
     let place = place_of_path(ends, path)?;
@@ -175,7 +175,7 @@ fn count_below(lines: &[Line<'_>], run: usize) -> usize
 }
 
 /// Where the putting in place of a number begins, after that of a smaller number, which begins at a line.
-fn next_start(lines: &[Line<'_>], from: usize, run: usize) -> usize
+pub(crate) fn next_start(lines: &[Line<'_>], from: usize, run: usize) -> usize
     requires { from ≤ length lines.now }
     ensures start { result ≡ from + prefix_len (λ line. nat_lt line.run run) (drop from lines.now) }
     ensures after { from ≤ result }
