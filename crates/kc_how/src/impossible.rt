@@ -13,8 +13,8 @@ fn may_have(limits: &Bounds<'_>, wanted: &Assign) -> bool
     limits.can_be(wanted.symbol, &wanted.value)
 }
 
-/// The index of the first wanted value of which the bounds of a tree show that no user values give it. That there is
-/// none shows nothing.
+/// The index of the first wanted value that the bounds of a tree exclude: no user values give it. That there is none
+/// shows nothing.
 pub fn first_impossible(limits: &Bounds<'_>, wanted: &[Assign]) -> Option<usize>
     ensures { IfSome result (IsImpossible limits.now.tree wanted.now) }
 {
