@@ -2,7 +2,6 @@
 
 use crate::costs::{Costs, NEVER, plus};
 use crate::prices::Prices;
-use crate::trial::Trial;
 use crate::weights::{
     DEFAULT, DEFAULT_FOR_PROMPT, LINE, LOW_DEPENDENCY, LOW_LINE, MEMBER_LINE, SELECT,
     SELECT_FOR_PROMPT,
@@ -11,13 +10,16 @@ use kc_tree::{
     Cell, ChoiceId, DefaultValue, Definition, Node, Prompt, Reverse, SymId, Symbol, SymbolType,
     Tree, Tri,
 };
+use kc_value::{Known, User};
 use std::alloc::{AllocError, Global};
 
-/// The costs of all cells, by number. The values of all nodes are there. The error comes where memory is refused.
+/// The costs of all cells, by number, in a tree with user values, and the values of all nodes for these. The error comes
+/// where memory is refused.
 pub(crate) fn cell_costs<'p>(
     alloc: Global,
     tree: &'p Tree,
-    trial: &'p Trial<'p>,
+    start: &'p Known<'p>,
+    user: &'p User,
 ) -> Result<Vec<Costs>, AllocError> {
     let mut cells = vec![in alloc; Costs::of_constant(Tri::No); tree.cell_count()]?;
     for number in tree.cell_order() {
@@ -25,7 +27,7 @@ pub(crate) fn cell_costs<'p>(
         if number >= tree.cell_count() {
             continue;
         }
-        let costs = Prices::new(tree, trial, cells.as_slice()).cell(tree.cell(number));
+        let costs = Prices::new(tree, start, user, cells.as_slice()).cell(tree.cell(number));
         if let Some(place) = cells.get_mut(number) {
             *place = costs;
         }

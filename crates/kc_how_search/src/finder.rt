@@ -6,7 +6,7 @@ use crate::cell_prices::cell_costs;
 use crate::costs::{Costs, NEVER, plus};
 use crate::goals::{Deed, Goal, Task, Way, are_at_odds, expr_goal, is_less};
 use crate::prices::{MOST_TO_SHOW, Prices};
-use crate::trial::Trial;
+use crate::trial::{Trial, has_given};
 use crate::weights::TEXT_LINE;
 use kc_files::Assign;
 use kc_tree::{Expr, Node, Reverse, SharedText, SymId, Symbol, SymbolType, Tree, Tri, UserVal};
@@ -14,11 +14,11 @@ use kc_value::{Factor, FactorPart, Known, User, reverse_value};
 use std::alloc::{AllocError, Global};
 
 /// The symbols that have what the user gave them. The error comes where memory is refused.
-fn given_symbols(alloc: Global, tree: &Tree, trial: &Trial<'_>) -> Result<Vec<SymId>, AllocError> {
+fn given_symbols(alloc: Global, start: &Known<'_>, user: &User) -> Result<Vec<SymId>, AllocError> {
     let mut symbols = Vec::new(alloc);
-    for number in 0..tree.symbols().len() {
+    for number in 0..start.tree().symbols().len() {
         let symbol = SymId(number as u32);
-        if trial.has_given(symbol) {
+        if has_given(start, user, symbol) {
             symbols.push(symbol)?;
         }
     }
@@ -33,8 +33,9 @@ const MOST_TEXTS: usize = 200;
 pub(crate) struct Finder<'t> {
     pub alloc: Global,
     pub tree: &'t Tree,
-    /// The tree without values, by which its lines are listed.
-    pub blank: &'t Known<'t>,
+    /// The values of all nodes that it begins with, and the user values.
+    pub start: &'t Known<'t>,
+    pub user: &'t User,
     pub trial: Trial<'t>,
     pub costs: Vec<Costs>,
     /// The texts that goals and deeds name.
@@ -50,24 +51,24 @@ pub(crate) struct Finder<'t> {
 }
 
 impl<'t> Finder<'t> {
-    /// The search in a tree with user values. The error comes where memory is refused.
+    /// The search in a tree with user values, and the values of all nodes for these. The error comes where memory is
+    /// refused.
     pub fn new(
         alloc: Global,
         tree: &'t Tree,
-        blank: &'t Known<'t>,
+        start: &'t Known<'t>,
         user: &'t User,
     ) -> Result<Finder<'t>, AllocError>
         requires { IsUserFor tree.now user.now }
     {
-        let mut trial = Trial::new(alloc, tree, user)?;
-        trial.fill_all()?;
-        let costs = cell_costs(alloc, tree, &trial)?;
-        let given = given_symbols(alloc, tree, &trial)?;
+        let costs = cell_costs(alloc, tree, start, user)?;
+        let given = given_symbols(alloc, start, user)?;
         Ok(Finder {
             alloc,
             tree,
-            blank,
-            trial,
+            start,
+            user,
+            trial: Trial::new(alloc, tree, user)?,
             costs,
             texts: Vec::new(alloc),
             agenda: Vec::new(alloc),
@@ -85,7 +86,7 @@ impl<'t> Finder<'t> {
 
     /// What costs are computed from.
     pub fn prices(&self) -> Prices<'_, '_> {
-        Prices::new(self.tree, &self.trial, self.costs.as_slice())
+        Prices::new(self.tree, self.start, self.user, self.costs.as_slice())
     }
 
     /// Whether there is room for more texts.

@@ -6,6 +6,7 @@ mod costs;
 mod finder;
 mod goals;
 mod prices;
+mod reached;
 mod run;
 mod search;
 mod trial;

@@ -2,7 +2,6 @@
 //! the least of its ways, each the sum of what it needs, taken apart from one another: so it can't see that two are at odds.
 
 use crate::costs::{Costs, NEVER, change_of, plus};
-use crate::trial::Trial;
 use crate::weights::{CHANGED_LINE, FALL, FALL_OF_USER, LINE, TEXT_LINE};
 use kc_tree::{
     BlockId, Cell, Comparison, Expr, ExprNode, Node, Operands, Reverse, SymId, Term, Tree, Tri,
@@ -12,11 +11,12 @@ use kc_value::{Known, User, tri};
 /// The most that it costs by the estimate to show a symbol whose text is to change.
 pub(crate) const MOST_TO_SHOW: u32 = 60;
 
-/// What is asked for costs: the tree, its values, the user values, and the costs of the cells that were passed.
+/// What is asked for costs: the tree, the values of all nodes, the user values, and the costs of the cells that were
+/// passed.
 #[derive(Drop)]
 pub(crate) struct Prices<'p, 'c> {
     pub tree: &'p Tree,
-    pub known: Known<'p>,
+    pub known: &'p Known<'p>,
     pub user: &'p User,
     cells: &'c [Costs],
 }
@@ -27,11 +27,16 @@ fn log2(number: usize) -> u32 {
 }
 
 impl<'p, 'c> Prices<'p, 'c> {
-    pub fn new(tree: &'p Tree, trial: &'p Trial<'p>, cells: &'c [Costs]) -> Prices<'p, 'c> {
+    pub fn new(
+        tree: &'p Tree,
+        known: &'p Known<'p>,
+        user: &'p User,
+        cells: &'c [Costs],
+    ) -> Prices<'p, 'c> {
         Prices {
             tree,
-            known: trial.known(),
-            user: trial.user(),
+            known,
+            user,
             cells,
         }
     }
@@ -107,7 +112,7 @@ impl<'p, 'c> Prices<'p, 'c> {
             ExprNode::Term(term) => self.term(term),
             ExprNode::BareModule(_) => Costs::of_constant(Tri::Module).and(self.modules()),
             ExprNode::Compare(comparison, operands) => {
-                self.comparison(tri(&self.known, expr), *comparison, operands)
+                self.comparison(tri(self.known, expr), *comparison, operands)
             }
             ExprNode::Not(count, inner) => self.expr(inner).negated(*count),
             ExprNode::Group(inner) => self.expr(inner),

@@ -4,6 +4,7 @@
 use crate::costs::plus;
 use crate::finder::Finder;
 use crate::goals::{Deed, Goal, Task, Way};
+use crate::reached::Reached;
 use crate::weights::{LOST, MEMBER_LINE, TEXT_LINE};
 use kc_files::Assign;
 use kc_tree::{ChoiceId, ExprNode, SymId, Tri, UserVal};
@@ -335,10 +336,10 @@ impl<'t> Finder<'t> {
 
     /// How many symbols no longer have what the user gave them. The error comes where memory is refused.
     fn lost(&mut self) -> Result<u32, AllocError> {
-        self.trial.fill_all()?;
+        let reached = Reached::by(self.alloc, self.tree, self.deeds.as_slice())?;
         let mut count: u32 = 0;
         for symbol in self.given.as_slice() {
-            if !self.trial.has_given(*symbol) {
+            if reached.has(self.tree, *symbol) && !self.trial.has_given(*symbol)? {
                 count = count.saturating_add(1);
             }
         }

@@ -1,12 +1,9 @@
 //! The search: runs with few turns off the cheapest ways first.
 
-ghost use Rattle.kc_value.specs.UserValues.{IsUserFor};
-
 use crate::finder::Finder;
 use crate::run::{Branch, Course, Turn};
 use kc_files::Assign;
-use kc_tree::Tree;
-use kc_value::{Known, NodeValues, User};
+use kc_value::{Known, Solved};
 use std::alloc::{AllocError, Global};
 
 /// How many runs and steps there are at most, after the first find fewer, and how many turns are kept to be tried.
@@ -189,23 +186,19 @@ fn lists_of(alloc: Global, mut found: Vec<Found>) -> Result<Vec<Vec<Assign>>, Al
     Ok(lists)
 }
 
-/// Looks for lines of a `.config` that give what is wanted, in a tree with user values. What it finds was tried; the other
-/// answers say what the search came to, and promise nothing.
+/// Looks for lines of a `.config` that give what is wanted, in a tree with user values, where all nodes have their values.
+/// What it finds was tried; the other answers say what the search came to, and promise nothing.
 ///
 /// # Errors
 ///
 /// `AllocError` where memory is refused.
-pub fn candidates<'a>(
+pub fn candidates(
     alloc: Global,
-    tree: &'a Tree,
-    user: &'a User,
+    solved: &Solved<'_>,
     wanted: &[Assign],
-) -> Result<Search, AllocError>
-    requires { IsUserFor tree.now user.now }
-{
-    let nothing = NodeValues::empty(alloc, 0)?;
-    let blank = Known::of_nodes(tree, &nothing);
-    let mut finder = Finder::new(alloc, tree, &blank, user)?;
+) -> Result<Search, AllocError> {
+    let start = Known::of_nodes(solved.tree(), solved.values());
+    let mut finder = Finder::new(alloc, solved.tree(), &start, solved.user())?;
     let mut paths = Paths::new(alloc)?;
     for _ in 0..MOST_RUNS {
         if paths.is_over() {

@@ -7,6 +7,20 @@ use kc_value::{Change, KeptValues, Known, User, Value, is_same_user_value, tri};
 use std::alloc::{AllocError, Global};
 use std::marker::Model;
 
+/// Whether a symbol has what user values give it, and they give it something. What has no value has nothing.
+pub(crate) fn has_given(known: &Known<'_>, user: &User, symbol: SymId) -> bool {
+    let Some(Value::Shown(value, _)) = known.get(Node::Val(symbol)) else {
+        return false;
+    };
+    if let Some(choice) = known.tree().choice_of(symbol) {
+        return user.chosen(choice) == Some(symbol) && matches!(value, UserVal::Tri(Tri::Yes));
+    }
+    match user.get(symbol) {
+        Some(given) => is_same_user_value(value, given),
+        None => false,
+    }
+}
+
 /// A tree with user values that are tried out, and the values that were evaluated for them. Contracts see the record of
 /// these.
 #[derive(Drop)]
@@ -58,11 +72,6 @@ impl<'t> Trial<'t> {
         &self.user
     }
 
-    /// Evaluates all nodes. The error comes where memory is refused.
-    pub fn fill_all(&mut self) -> Result<(), AllocError> {
-        self.kept.fill_all(self.alloc, self.tree, &self.user)
-    }
-
     /// Evaluates the value of a symbol, and all that it is computed from; nothing of a symbol that the tree doesn't have.
     /// The error comes where memory is refused.
     pub fn fill_symbol(&mut self, symbol: SymId) -> Result<(), AllocError> {
@@ -73,20 +82,10 @@ impl<'t> Trial<'t> {
             .fill(self.alloc, self.tree, &self.user, Node::Val(symbol))
     }
 
-    /// Whether a symbol has what the user values that it began with give it, and they give it something. What was not
-    /// evaluated has nothing.
-    pub fn has_given(&self, symbol: SymId) -> bool {
-        let Some(Value::Shown(value, _)) = self.known().get(Node::Val(symbol)) else {
-            return false;
-        };
-        if let Some(choice) = self.tree.choice_of(symbol) {
-            return self.given.chosen(choice) == Some(symbol)
-                && matches!(value, UserVal::Tri(Tri::Yes));
-        }
-        match self.given.get(symbol) {
-            Some(given) => is_same_user_value(value, given),
-            None => false,
-        }
+    /// Whether a symbol has what the user values that it began with give it. The error comes where memory is refused.
+    pub fn has_given(&mut self, symbol: SymId) -> Result<bool, AllocError> {
+        self.fill_symbol(symbol)?;
+        Ok(has_given(&self.known(), self.given, symbol))
     }
 
     /// The tristate value of a symbol. The error comes where memory is refused.

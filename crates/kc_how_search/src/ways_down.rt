@@ -132,7 +132,7 @@ impl<'t> Finder<'t> {
     /// The goals by each of which what a definition depends on is at most a value: an empty list where it is already, or
     /// where there are none. The error comes where memory is refused.
     fn low_goals(&mut self, number: usize, bound: Tri) -> Result<Vec<Goal<'t>>, AllocError> {
-        let factors = dependency_factors(self.alloc, self.blank, number)?;
+        let factors = dependency_factors(self.alloc, self.start, number)?;
         let goals = self.low_factors(factors, bound)?;
         for goal in goals.as_slice() {
             if self.holds(*goal)? {
@@ -312,7 +312,7 @@ impl<'t> Finder<'t> {
             return Ok(());
         };
         for number in symbol.definitions() {
-            let factors = prompt_factors(self.alloc, self.blank, *number)?;
+            let factors = prompt_factors(self.alloc, self.start, *number)?;
             self.add_low_factors(ways, factors, Tri::No, LOW_DEPENDENCY)?;
         }
         Ok(())
@@ -340,7 +340,7 @@ impl<'t> Finder<'t> {
     /// The ways to close a choice. The error comes where memory is refused.
     pub fn ways_closed(&mut self, id: ChoiceId) -> Result<Vec<Way<'t>>, AllocError> {
         let mut ways = Vec::new(self.alloc);
-        let factors = choice_factors(self.alloc, self.blank, id)?;
+        let factors = choice_factors(self.alloc, self.start, id)?;
         self.add_low_factors(&mut ways, factors, Tri::No, 0)?;
         Ok(ways)
     }
@@ -353,7 +353,7 @@ impl<'t> Finder<'t> {
     ) -> Result<Vec<Way<'t>>, AllocError> {
         let mut ways = Vec::new(self.alloc);
         self.add_one(&mut ways, Goal::AtMost(reverse.by, bound), 0)?;
-        let factors = reverse_factors(self.alloc, self.blank, reverse)?;
+        let factors = reverse_factors(self.alloc, self.start, reverse)?;
         self.add_low_factors(&mut ways, factors, bound, 0)?;
         Ok(ways)
     }

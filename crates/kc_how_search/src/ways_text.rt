@@ -74,6 +74,7 @@ impl<'t> Finder<'t> {
             lists.push(Vec::new(self.alloc))?;
             return Ok(lists);
         };
+        self.trial.fill_symbol(id)?;
         match active_range(&self.trial.known(), id) {
             Some(range) if number < range.low || number > range.high => {}
             Some(_) | None => {
@@ -300,7 +301,7 @@ impl<'t> Finder<'t> {
     /// memory is refused.
     fn add_empty_ways(&self, ways: &mut Vec<Way<'t>>, symbol: &Symbol) -> Result<(), AllocError> {
         for number in symbol.definitions() {
-            let factors = dependency_factors(self.alloc, self.blank, *number)?;
+            let factors = dependency_factors(self.alloc, self.start, *number)?;
             self.add_low_factors(ways, factors, Tri::No, LOW_DEPENDENCY)?;
         }
         Ok(())

@@ -51,7 +51,7 @@ impl<'t> Finder<'t> {
             return Ok(None);
         }
         let mut goals = Vec::new(self.alloc);
-        let factors = prompt_factors(self.alloc, self.blank, number)?;
+        let factors = prompt_factors(self.alloc, self.start, number)?;
         self.add_factors(&mut goals, factors, bound)?;
         Ok(Some(goals))
     }
@@ -63,7 +63,7 @@ impl<'t> Finder<'t> {
         number: usize,
         bound: Tri,
     ) -> Result<(), AllocError> {
-        let factors = dependency_factors(self.alloc, self.blank, number)?;
+        let factors = dependency_factors(self.alloc, self.start, number)?;
         self.add_factors(goals, factors, bound)
     }
 
@@ -139,7 +139,7 @@ impl<'t> Finder<'t> {
     fn reverse_goals(&self, reverse: &'t Reverse, bound: Tri) -> Result<Vec<Goal<'t>>, AllocError> {
         let mut goals = Vec::new(self.alloc);
         goals.push(Goal::AtLeast(reverse.by, bound))?;
-        let factors = reverse_factors(self.alloc, self.blank, reverse)?;
+        let factors = reverse_factors(self.alloc, self.start, reverse)?;
         self.add_factors(&mut goals, factors, bound)?;
         Ok(goals)
     }
@@ -293,7 +293,7 @@ impl<'t> Finder<'t> {
     /// The goals that the prompt of a choice is shown. The error comes where memory is refused.
     fn choice_goals(&self, id: ChoiceId) -> Result<Vec<Goal<'t>>, AllocError> {
         let mut goals = Vec::new(self.alloc);
-        let factors = choice_factors(self.alloc, self.blank, id)?;
+        let factors = choice_factors(self.alloc, self.start, id)?;
         self.add_factors(&mut goals, factors, Tri::Module)?;
         Ok(goals)
     }
