@@ -6,6 +6,7 @@ pub mod Hints
 pub mod MakeText
 pub mod PathsFrom
 pub mod PathsRead
+pub mod SearchEndings
 pub mod Targets
 pub mod UnreadWords
 pub mod VariableLines

@@ -3,12 +3,13 @@
 ghost use Rattle.std.specs.Prelude.{All, IfOk, IfSome};
 ghost use Rattle.kc_files.specs.LineReading.{IsAssignFor};
 ghost use Rattle.kc_how.specs.Answer.{IsAnswer, IsLine};
+ghost use Rattle.kc_program.specs.SearchEndings.{IsRightEnding};
 
 use crate::how_kept::with_values_kept;
 use crate::messages::Status;
 use crate::report_texts::{input_of, read_again, status_of, unusable_words_of_files};
 use crate::reports::{Outcome, ReportInputs};
-use kc_bounds::bounds;
+use kc_bounds::{Bounds, bounds};
 use kc_check::{
     EffectsBefore, HowCounts, LostLine, Need, effects_before, how_costs, push_how_counts,
     push_impossible, push_needed_line, push_not_found, push_unusable_lines,
@@ -187,7 +188,7 @@ fn how(
     let wanted = wanted.as_slice();
     let searched = answer_of(alloc, solved, wanted)?;
     let Some(lines) = searched.lines else {
-        return not_found(alloc, words.view, wanted, searched.ending);
+        return not_found(alloc, words.view, wanted, &searched.ending);
     };
     let lines = lines.as_slice();
     let asked = asked_symbols(alloc, wanted, words.kept)?;
@@ -218,29 +219,34 @@ fn asked_symbols(alloc: Global, wanted: &[Assign], kept: usize) -> Result<Vec<Sy
 
 /// What comes of a search.
 #[derive(Drop)]
-struct Searched {
+struct Searched<'t> {
     /// The lines, where some were found.
     lines: Option<Vec<Assign>>,
     /// How it ended, where none were found.
-    ending: Ending,
+    ending: Ending<'t>,
 }
 
 /// How a search ends that finds no lines.
-#[derive(Clone, Copy)]
-enum Ending {
+#[derive(Drop)]
+enum Ending<'t> {
     /// All that it looks at was tried.
     NotFound,
     /// It ended before that.
     GaveUp,
-    /// The wanted value of an index is one that no user values give.
-    Impossible(usize),
+    /// The wanted value of an index is one that no user values give, as these bounds show.
+    Impossible(usize, Bounds<'t>),
 }
 
 /// The lines that give wanted values: the wanted values themselves, where these are enough, else what a search finds.
-/// Nothing is searched for where no user values give one of the wanted values.
-fn answer_of(alloc: Global, solved: &Solved<'_>, wanted: &[Assign]) -> Result<Searched, AllocError>
+/// Where it finds nothing, bounds may show that no user values give one of the wanted values.
+fn answer_of<'t>(
+    alloc: Global,
+    solved: &Solved<'t>,
+    wanted: &[Assign],
+) -> Result<Searched<'t>, AllocError>
     requires { All (IsAssignFor solved.now.tree) wanted.now }
-    ensures { IfOk result (λ found. IfSome found.lines (λ lines. IsAnswer solved.now.tree solved.now.user wanted.now lines.items)) }
+    ensures lines { IfOk result (λ found. IfSome found.lines (λ lines. IsAnswer solved.now.tree solved.now.user wanted.now lines.items)) }
+    ensures ending { IfOk result (λ found. IsRightEnding solved.now.tree wanted.now found.ending) }
 {
     let plain = plain_candidates(alloc, wanted)?;
     if let Some(lines) = answer(alloc, solved, wanted, plain.as_slice())? {
@@ -249,26 +255,31 @@ fn answer_of(alloc: Global, solved: &Solved<'_>, wanted: &[Assign]) -> Result<Se
             ending: Ending::NotFound,
         });
     }
-    let limits = bounds(alloc, solved.tree())?;
-    if let Some(index) = first_impossible(&limits, wanted) {
-        return Ok(Searched {
-            lines: None,
-            ending: Ending::Impossible(index),
-        });
+    let searched = searched_answer(alloc, solved, wanted)?;
+    if searched.lines.is_some() {
+        return Ok(searched);
     }
-    searched_answer(alloc, solved, wanted)
+    let limits = bounds(alloc, solved.tree())?;
+    match first_impossible(&limits, wanted) {
+        Some(index) => Ok(Searched {
+            lines: None,
+            ending: Ending::Impossible(index, limits),
+        }),
+        None => Ok(searched),
+    }
 }
 
 /// The lines that a search finds.
-fn searched_answer(
+fn searched_answer<'t>(
     alloc: Global,
-    solved: &Solved<'_>,
+    solved: &Solved<'t>,
     wanted: &[Assign],
-) -> Result<Searched, AllocError>
+) -> Result<Searched<'t>, AllocError>
     requires { All (IsAssignFor solved.now.tree) wanted.now }
-    ensures { IfOk result (λ found. IfSome found.lines (λ lines. IsAnswer solved.now.tree solved.now.user wanted.now lines.items)) }
+    ensures lines { IfOk result (λ found. IfSome found.lines (λ lines. IsAnswer solved.now.tree solved.now.user wanted.now lines.items)) }
+    ensures ending { IfOk result (λ found. IsRightEnding solved.now.tree wanted.now found.ending) }
 {
-    let (lists, ending) = match candidates(alloc, solved.tree(), solved.user(), wanted)? {
+    let (lists, ending) = match candidates(alloc, solved, wanted)? {
         Search::Candidates(lists) => (lists, Ending::NotFound),
         Search::NotFound(_) => (Vec::new(alloc), Ending::NotFound),
         Search::GaveUp(_) => (Vec::new(alloc), Ending::GaveUp),
@@ -347,7 +358,7 @@ fn not_found(
     alloc: Global,
     view: &View<'_>,
     wanted: &[Assign],
-    ending: Ending,
+    ending: &Ending<'_>,
 ) -> Result<WantedAnswer, AllocError> {
     let mut text = String::new(alloc);
     for line in wanted {
@@ -355,23 +366,22 @@ fn not_found(
             push_not_found(alloc, &mut text, view, line)?;
         }
     }
-    push_ending(alloc, &mut text, view, wanted, ending)?;
+    push_ending(&mut text, view, wanted, ending)?;
     Ok(WantedAnswer::NotFound(text))
 }
 
 /// Adds how a search ended that found nothing.
 fn push_ending(
-    alloc: Global,
     text: &mut String,
     view: &View<'_>,
     wanted: &[Assign],
-    ending: Ending,
+    ending: &Ending<'_>,
 ) -> Result<(), AllocError> {
     match ending {
         Ending::NotFound => text.push_str(NOT_FOUND),
         Ending::GaveUp => text.push_str(GAVE_UP),
-        Ending::Impossible(index) => match wanted.get(index) {
-            Some(line) => push_impossible(text, view, &bounds(alloc, view.tree())?, line),
+        Ending::Impossible(index, limits) => match wanted.get(*index) {
+            Some(line) => push_impossible(text, view, limits, line),
             None => text.push_str(NOT_FOUND),
         },
     }
