@@ -14,6 +14,7 @@ mod merge_lines;
 mod merging;
 mod missing_variables;
 mod obstacles;
+mod said_lines;
 mod selections;
 mod shown_values;
 mod sourced_files;

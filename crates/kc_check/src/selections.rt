@@ -1,13 +1,13 @@
 //! Selects that have no effect, and symbols that are selected for more than their dependencies are worth.
 
 use crate::finding::Finding;
+use crate::said_lines::SaidLines;
 use kc_facts::{
-    Attribute, FactorLines, Family, Forced, LineIndex, Part, View, is_if, push_expr, push_place,
-    shown_line, token_word,
+    FactorLines, Forced, LineIndex, View, is_if, push_expr, push_place, shown_line, token_word,
 };
 use kc_statement::{Keyword, read_keyword};
 use kc_text::Line;
-use kc_tree::{Expr, Reverse, Tree};
+use kc_tree::{Expr, Tree};
 use kc_value::{Factor, FactorPart, Origin, dependency_factors};
 use std::alloc::{AllocError, Global};
 
@@ -48,7 +48,7 @@ pub(crate) fn name_at(tree: &Tree, definition: usize) -> &str {
 }
 
 /// Adds that a symbol is selected for more than its dependencies are worth, which a `select` passes over (docs/VALUES.md,
-/// "Select"), in the line that defines it first.
+/// "Select"), in the line that defines it first. The `select` line is one of those that say one.
 ///
 /// # Errors
 ///
@@ -59,6 +59,7 @@ pub(crate) fn add_forced(
     index: &LineIndex<'_, '_>,
     line: &Line<'_>,
     forced: &Forced,
+    selects: &mut SaidLines,
     found: &mut Vec<Finding>,
 ) -> Result<(), AllocError> {
     let tree = view.tree();
@@ -74,28 +75,15 @@ pub(crate) fn add_forced(
     };
     let name = tree.name(id);
     let mut words = String::from_str(alloc, "selected by ")?;
-    push_selection(&mut words, tree, index, selection)?;
+    words.push_str(tree.name(selection.by))?;
+    push_bracketed(
+        &mut words,
+        selects.line(alloc, index, selection.definition, selection.number)?,
+    )?;
     words.push_str(", while ")?;
     push_unmet(alloc, &mut words, view, index, forced)?;
     found.push(Finding::in_line(alloc, line.path(), line.number(), name, words)?)?;
     Ok(())
-}
-
-/// Adds which symbol selects another by a `select` line, and where: `U (Kconfig:26)`.
-fn push_selection(
-    words: &mut String,
-    tree: &Tree,
-    index: &LineIndex<'_, '_>,
-    selection: &Reverse,
-) -> Result<(), AllocError> {
-    words.push_str(tree.name(selection.by))?;
-    let part = Part::Said(
-        Family::Definition,
-        selection.definition,
-        Attribute::Select,
-        selection.number,
-    );
-    push_bracketed(words, index.line(part))
 }
 
 /// Adds the first line by which the dependencies of the nearest definition are worth no more, where it is, and its value:

@@ -3,13 +3,16 @@
 use crate::finding::{Finding, Findings};
 use crate::inputs::CheckInputs;
 use crate::missing_variables::{EarlierFinding, earlier_findings};
+use crate::said_lines::SaidLines;
 use crate::selections::{add_forced, add_member};
 use crate::undefined_names::{ListedNames, listed_names};
 use crate::unset_symbols::{add_never_modules, add_unset};
 use crate::unused_defaults::{add_hidden_default, add_unused_default};
 use crate::values::{add_default, add_range};
 use crate::variables::Variables;
-use kc_facts::{Extent, FoundInTree, FoundLines, LineIndex, TreeFinding, View, findings_by_line};
+use kc_facts::{
+    Attribute, Extent, FoundInTree, FoundLines, LineIndex, TreeFinding, View, findings_by_line,
+};
 use std::alloc::{AllocError, Global};
 use std::collections::BTreeSet;
 
@@ -43,6 +46,8 @@ pub(crate) fn tree_findings(
         index,
         earlier: some_of(alloc, earlier)?,
         names: &names,
+        selects: SaidLines::new(alloc, Attribute::Select),
+        defaults: SaidLines::new(alloc, Attribute::Default),
         all: Vec::with_capacity(alloc, found.len())?,
     };
     for found in found {
@@ -81,6 +86,10 @@ struct Worded<'w, 's, 'l, 'a, 't> {
     /// What comes before lines, until it is added.
     earlier: Vec<Option<Finding>>,
     names: &'w ListedNames<'t>,
+    /// The `select` lines.
+    selects: SaidLines,
+    /// The lines of defaults.
+    defaults: SaidLines,
     all: Vec<Finding>,
 }
 
@@ -94,12 +103,16 @@ impl Worded<'_, '_, '_, '_, '_> {
         let all = &mut self.all;
         match &found.finding {
             TreeFinding::Earlier(number) => self.add_earlier(*number),
-            TreeFinding::Forced(forced) => add_forced(alloc, view, index, line, forced, all),
+            TreeFinding::Forced(forced) => {
+                let selects = &mut self.selects;
+                add_forced(alloc, view, index, line, forced, selects, all)
+            }
             TreeFinding::Unset(number) => add_unset(alloc, tree, line, *number, all),
             TreeFinding::FaultyDefault(faulty) => add_default(alloc, tree, line, faulty, all),
             TreeFinding::NeverModules(number) => add_never_modules(alloc, tree, line, *number, all),
             TreeFinding::UnusedDefault(unused) => {
-                add_unused_default(alloc, tree, index, line, unused, all)
+                let defaults = &mut self.defaults;
+                add_unused_default(alloc, tree, index, line, unused, defaults, all)
             }
             TreeFinding::ExchangedRange(range) => add_range(alloc, tree, line, *range, all),
             TreeFinding::SelectedMember(number) => add_member(alloc, tree, line, *number, all),

@@ -1,16 +1,14 @@
 //! Defaults that are never used, since one before them always counts.
 
 use crate::finding::Finding;
-use kc_facts::{
-    Attribute, DefaultPlace, Family, LineIndex, Part, UnusedDefault, push_expr, push_place,
-    shown_line, token_word,
-};
+use crate::said_lines::SaidLines;
+use kc_facts::{LineIndex, UnusedDefault, push_expr, push_place, shown_line, token_word};
 use kc_statement::DefaultValue;
 use kc_text::Line;
 use kc_tree::Tree;
 use std::alloc::{AllocError, Global};
 
-/// Adds that a default is never used, which a line has.
+/// Adds that a default is never used, which a line has. The line of the one before it is one of those that say defaults.
 ///
 /// # Errors
 ///
@@ -21,6 +19,7 @@ pub(crate) fn add_unused_default(
     index: &LineIndex<'_, '_>,
     line: &Line<'_>,
     unused: &UnusedDefault,
+    defaults: &mut SaidLines,
     found: &mut Vec<Finding>,
 ) -> Result<(), AllocError> {
     let Some(definition) = tree.definitions().get(unused.definition) else {
@@ -29,7 +28,8 @@ pub(crate) fn add_unused_default(
     let Some(default) = definition.defaults().get(unused.place) else {
         return Ok(());
     };
-    let Some(before) = line_of(index, unused.before) else {
+    let earlier = unused.before;
+    let Some(before) = defaults.line(alloc, index, earlier.definition, earlier.place)? else {
         return Ok(());
     };
     let words = unused_words(alloc, tree, line, default, before)?;
@@ -54,12 +54,6 @@ pub(crate) fn add_hidden_default(
     let words = format!(in alloc; "default {name} is never used: its choice is never visible")?;
     found.push(Finding::in_line(alloc, line.path(), line.number(), "", words)?)?;
     Ok(())
-}
-
-/// The line of a default.
-fn line_of<'l, 'a>(index: &LineIndex<'l, 'a>, default: DefaultPlace) -> Option<&'l Line<'a>> {
-    let DefaultPlace { definition, place } = default;
-    index.line(Part::Said(Family::Definition, definition, Attribute::Default, place))
 }
 
 /// What is said of a default, which a line has, after one of another line without a condition.
