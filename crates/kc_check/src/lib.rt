@@ -6,6 +6,7 @@ mod config_findings;
 mod earlier_effects;
 mod entry_faults;
 mod finding;
+mod forced_words;
 mod how_lines;
 mod inputs;
 mod long_words;

@@ -1,10 +1,11 @@
 //! What is found in a tree, line by line.
 
 use crate::finding::{Finding, Findings};
+use crate::forced_words::ForcedWords;
 use crate::inputs::CheckInputs;
 use crate::missing_variables::{EarlierFinding, earlier_findings};
 use crate::said_lines::SaidLines;
-use crate::selections::{add_forced, add_member};
+use crate::selections::add_member;
 use crate::undefined_names::{ListedNames, listed_names};
 use crate::unset_symbols::{add_never_modules, add_unset};
 use crate::unused_defaults::{add_hidden_default, add_unused_default};
@@ -46,7 +47,7 @@ pub(crate) fn tree_findings(
         index,
         earlier: some_of(alloc, earlier)?,
         names: &names,
-        selects: SaidLines::new(alloc, Attribute::Select),
+        forced: ForcedWords::new(alloc),
         defaults: SaidLines::new(alloc, Attribute::Default),
         all: Vec::with_capacity(alloc, found.len())?,
     };
@@ -86,8 +87,7 @@ struct Worded<'w, 's, 'l, 'a, 't> {
     /// What comes before lines, until it is added.
     earlier: Vec<Option<Finding>>,
     names: &'w ListedNames<'t>,
-    /// The `select` lines.
-    selects: SaidLines,
+    forced: ForcedWords,
     /// The lines of defaults.
     defaults: SaidLines,
     all: Vec<Finding>,
@@ -104,8 +104,7 @@ impl Worded<'_, '_, '_, '_, '_> {
         match &found.finding {
             TreeFinding::Earlier(number) => self.add_earlier(*number),
             TreeFinding::Forced(forced) => {
-                let selects = &mut self.selects;
-                add_forced(alloc, view, index, line, forced, selects, all)
+                self.forced.add(alloc, view, index, line, forced, all)
             }
             TreeFinding::Unset(number) => add_unset(alloc, tree, line, *number, all),
             TreeFinding::FaultyDefault(faulty) => add_default(alloc, tree, line, faulty, all),
