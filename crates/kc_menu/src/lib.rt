@@ -7,9 +7,9 @@ mod help;
 mod menu_inputs;
 mod menu_lines;
 mod places_as_text;
+mod settings;
 mod symbol_now;
 mod symbol_object;
-mod tri_letters;
 
 pub use help::Help;
 pub use menu_lines::menu_text;

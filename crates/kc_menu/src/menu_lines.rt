@@ -3,6 +3,7 @@
 use crate::block_object::{choice_object, comment_object, menu_object};
 use crate::help::Help;
 use crate::menu_inputs::MenuInputs;
+use crate::settings::Settings;
 use crate::symbol_object::symbol_object;
 use kc_facts::{LineIndex, Row, View, menu_rows};
 use kc_tree::{Entry, SymId};
@@ -22,18 +23,26 @@ pub fn menu_text(
 ) -> Result<String, AllocError> {
     let inputs = MenuInputs::new(view, index, help);
     let rows = menu_rows(alloc, view.tree())?;
+    let mut settings = Settings::new(alloc);
     let mut text = String::new(alloc);
     for row in &rows {
-        let line = line_of(alloc, &inputs, *row)?;
+        let line = line_of(alloc, &inputs, &mut settings, *row)?;
         text.push_str(line.as_str())?;
     }
     Ok(text)
 }
 
 /// The line of a row.
-fn line_of(alloc: Global, inputs: &MenuInputs<'_>, row: Row) -> Result<String, AllocError> {
+fn line_of(
+    alloc: Global,
+    inputs: &MenuInputs<'_>,
+    settings: &mut Settings,
+    row: Row,
+) -> Result<String, AllocError> {
     match row.entry {
-        Entry::Symbol(symbol) | Entry::Again(symbol) => symbol_line(alloc, inputs, row, symbol),
+        Entry::Symbol(symbol) | Entry::Again(symbol) => {
+            symbol_line(alloc, inputs, settings, row, symbol)
+        }
         Entry::Menu(menu) | Entry::EndMenu(menu) => {
             json_line(alloc, &menu_object(alloc, inputs, row, menu)?)
         }
@@ -46,11 +55,16 @@ fn line_of(alloc: Global, inputs: &MenuInputs<'_>, row: Row) -> Result<String, A
 fn symbol_line(
     alloc: Global,
     inputs: &MenuInputs<'_>,
+    settings: &mut Settings,
     row: Row,
     symbol: SymId,
 ) -> Result<String, AllocError> {
     let number = row.definition.unwrap_or(0);
-    json_line(alloc, &symbol_object(alloc, inputs, row, symbol, number)?)
+    let setting = settings.of(alloc, inputs.view().known(), symbol)?;
+    json_line(
+        alloc,
+        &symbol_object(alloc, inputs, row, symbol, number, setting)?,
+    )
 }
 
 /// A JSON object with a line feed. Such an object has no numbers but integers, and its keys are texts, so that memory is

@@ -9,6 +9,7 @@ ghost use Rattle.kc_menu.specs.Objects.{definition_help, definition_prompt, is_a
 use crate::conditions_as_text::{FactorsOf, condition_text, expr_text, factors_text, least_value};
 use crate::menu_inputs::MenuInputs;
 use crate::places_as_text::{help_text, is_menuconfig, names_after, place_text};
+use crate::settings::Setting;
 use crate::symbol_now::{SymbolNow, symbol_now};
 use kc_facts::{Family, Part, Row, push_term, type_name};
 use kc_statement::{Keyword, Term};
@@ -59,13 +60,14 @@ pub(crate) struct SymbolObject<'m> {
     help: Option<String>,
 }
 
-/// The object of the definition of a number, which a row is of.
+/// The object of the definition of a number, which a row is of, with what a user can give its symbol.
 pub(crate) fn symbol_object<'m>(
     alloc: Global,
     inputs: &MenuInputs<'m>,
     row: Row,
     symbol: SymId,
     number: usize,
+    setting: Setting,
 ) -> Result<SymbolObject<'m>, AllocError>
     ensures id { IfOk result (λ o. o.id ≡ row.id) }
     ensures parent { IfOk result (λ o. o.parent ≡ row.parent) }
@@ -104,7 +106,7 @@ pub(crate) fn symbol_object<'m>(
         ranges: range_texts(alloc, tree, definition)?,
         selects: names_after(alloc, attributes, Keyword::Select)?,
         implies: names_after(alloc, attributes, Keyword::Imply)?,
-        now: symbol_now(alloc, inputs, symbol, shown(title, prompt.as_slice()))?,
+        now: symbol_now(inputs, symbol, setting, shown(title, prompt.as_slice())),
         help: help_text(alloc, inputs.help(), attributes)?,
     })
 }
