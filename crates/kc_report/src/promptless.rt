@@ -8,6 +8,7 @@ use kc_statement::{ExprNode, Operands, Term};
 use kc_tree::{Expr, Node, SymId, Symbol};
 use kc_value::{Factor, FactorPart};
 use std::alloc::{AllocError, Global};
+use std::collections::BTreeSet;
 
 /// The most symbols without prompt whose selecting symbols are named.
 const MOST_SHOWN: usize = 3;
@@ -26,41 +27,49 @@ fn is_wanted(view: &View<'_>, symbol: SymId) -> bool {
         && !has_prompt(view, found)
 }
 
+/// The symbols that are wanted, and the numbers of all that were looked at. Each is looked at once, however often
+/// conditions name it.
+#[derive(Drop)]
+struct Wanted {
+    found: Vec<SymId>,
+    seen: BTreeSet<u32>,
+}
+
 /// Adds the symbol of a term, if it is wanted.
-fn add_term(found: &mut Vec<SymId>, view: &View<'_>, term: &Term) -> Result<(), AllocError> {
+fn add_term(wanted: &mut Wanted, view: &View<'_>, term: &Term) -> Result<(), AllocError> {
     let Term::Symbol(symbol) = term else {
         return Ok(());
     };
-    let is_full = found.len() >= MOST_SHOWN;
-    if is_full || found.contains(symbol) || !is_wanted(view, *symbol) {
+    let is_full = wanted.found.len() >= MOST_SHOWN;
+    if is_full || !wanted.seen.insert(symbol.0)? || !is_wanted(view, *symbol) {
         return Ok(());
     }
-    found.push(*symbol)?;
+    wanted.found.push(*symbol)?;
     Ok(())
 }
 
 /// Adds the symbols of a comparison that are wanted.
 fn add_operands(
-    found: &mut Vec<SymId>,
+    wanted: &mut Wanted,
     view: &View<'_>,
     operands: &Operands,
 ) -> Result<(), AllocError> {
-    add_term(found, view, &operands.left)?;
-    add_term(found, view, &operands.right)
+    add_term(wanted, view, &operands.left)?;
+    add_term(wanted, view, &operands.right)
 }
 
 /// Adds the symbols of an expression that are wanted.
 fn add_expr(
     alloc: Global,
-    found: &mut Vec<SymId>,
+    wanted: &mut Wanted,
     view: &View<'_>,
     expr: &Expr,
 ) -> Result<(), AllocError> {
     let leaves = leaves_of(alloc, expr)?;
     for leaf in leaves {
         match leaf.node() {
-            ExprNode::Term(term) => add_term(found, view, term)?,
-            ExprNode::Compare(_, operands) => add_operands(found, view, operands)?,
+            ExprNode::Term(term) => add_term(wanted, view, term)?,
+            ExprNode::Compare(_, operands) => add_operands(wanted, view, operands)?,
             _ => {}
         }
     }
@@ -70,7 +79,7 @@ fn add_expr(
 /// Adds the symbols of a factor that is n: of the mode of a choice those of the condition of its prompt.
 fn add_factor(
     alloc: Global,
-    found: &mut Vec<SymId>,
+    wanted: &mut Wanted,
     view: &View<'_>,
     factor: &Factor<'_>,
 ) -> Result<(), AllocError> {
@@ -83,7 +92,7 @@ fn add_factor(
     };
     match deciding.part {
         FactorPart::Expression(expr) if deciding.value.is_no() => {
-            add_expr(alloc, found, view, expr)
+            add_expr(alloc, wanted, view, expr)
         }
         _ => Ok(()),
     }
@@ -92,13 +101,13 @@ fn add_factor(
 /// Adds the symbols of the factors of a definition that are n.
 fn add_definition(
     alloc: Global,
-    found: &mut Vec<SymId>,
+    wanted: &mut Wanted,
     view: &View<'_>,
     number: usize,
 ) -> Result<(), AllocError> {
     let factors = definition_factors(alloc, view, number)?;
     for factor in &factors {
-        add_factor(alloc, found, view, factor)?;
+        add_factor(alloc, wanted, view, factor)?;
     }
     Ok(())
 }
@@ -111,11 +120,14 @@ pub(crate) fn push_promptless(
     view: &View<'_>,
     symbol: &Symbol,
 ) -> Result<(), AllocError> {
-    let mut found = Vec::new(alloc);
+    let mut wanted = Wanted {
+        found: Vec::new(alloc),
+        seen: BTreeSet::new(alloc),
+    };
     for number in symbol.definitions().iter().take(MOST_DEFINITIONS) {
-        add_definition(alloc, &mut found, view, *number)?;
+        add_definition(alloc, &mut wanted, view, *number)?;
     }
-    for other in &found {
+    for other in &wanted.found {
         text.push_str("  ")?;
         text.push_str(view.tree().name(*other))?;
         text.push_str(" has no prompt: ")?;
