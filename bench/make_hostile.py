@@ -1,7 +1,7 @@
 """Writes a tree that is meant to cost much: make_hostile.py SHAPE SIZE FOLDER.
 
 It writes FOLDER/Kconfig, and where the shape has them FOLDER/config, FOLDER/stdin and further files. What the size
-counts is in the table of time_hostile.py. COLLIDING_NAMES is the path of the program of colliding_names.c.
+counts is in the table of hostile_shapes.py. COLLIDING_NAMES is the path of the program of colliding_names.c.
 """
 
 import os
@@ -266,6 +266,43 @@ def unused_defaults(size):
     return BOOL.format("A") + "\tdefault y\n" * (size + 1)
 
 
+def unused_after_conditions(size):
+    """As many defaults after one without a condition, which comes after as many with one."""
+    return BOOL.format("N") + BOOL.format("A") + "\tdefault y if N\n" * size + "\tdefault y\n" * (size + 1)
+
+
+def forced_by_two(size):
+    """So many symbols that two select in turn, while what they depend on is n."""
+    symbols = bools(size, "\tdepends on N\n")
+    selects = ["".join(f"\tselect S{at}\n" for at in range(first, size, 2)) for first in (0, 1)]
+    chosen = "".join(BOOL.format(name) + "\tdefault y\n" + lines for name, lines in zip("AB", selects))
+    return BOOL.format("N") + symbols + chosen
+
+
+def named_again(size):
+    """A symbol of so many definitions, the last of them with a prompt, which a condition names as often."""
+    lines = "".join(f"\tdepends on {repeated_term('D', ' && ', 4_000)}\n" for _ in range(size // 500))
+    defined = "config D\n\tbool\n" * size + 'config D\n\tbool "d"\n'
+    return f'{defined}config L\n\tbool\n\tselect D\nconfig A\n\tbool "a"\n{lines}'
+
+
+def help_like_variables(size):
+    """A help text of lines that look like variables with a long text in them, and so many bytes."""
+    line = "\t  A{0}=$(B)\n"
+    lines = "".join(line.format(at) for at in range(size // 14))
+    return f"B := {'b' * 4_000}\n" + BOOL.format("A") + "\thelp\n" + lines
+
+
+def variable_set_anew(size):
+    """So many files, each sourced by a variable that was set to its path just before."""
+    return "".join(f'V := part{at}\nsource "$(V)"\n' for at in range(size))
+
+
+def recursive_behind_comments(size):
+    """A file that 40 others lead to, and that sources itself, with so many bytes of comments in each."""
+    return comments(size // 40) + 'source "deep0"\n'
+
+
 def near_names(size):
     """5,000 names of 60 bytes, and so many lines each with a name that is near one of them and defined nowhere."""
     name = "A_LONG_NAME_THAT_MANY_OTHERS_BEGIN_WITH_AND_DIFFER_AT_ITS_END"
@@ -358,6 +395,15 @@ KCONFIGS = {
     "long condition, merge": long_condition,
     "flat, why": bools,
     "near names, check": near_names,
+    "unused after conditions, check": unused_after_conditions,
+    "forced by two, check": forced_by_two,
+    "named again, why": named_again,
+    "long condition, menu": long_condition,
+    "help like variables": help_like_variables,
+    "variable set anew": variable_set_anew,
+    "recursion behind comments": recursive_behind_comments,
+    "selected, shown again": lambda size: bools(size, "\tselect T\n") + BOOL.format("T"),
+    "definitions, shown again": definitions,
 }
 
 # The shapes of a `.config` or a stream, over one symbol.
@@ -378,6 +424,11 @@ QUERIES = {
     "long condition, selects, list": b"list\n",
     "long condition, choices": b"choices\n",
     "long condition, edits": b"config\nallyes\nconfig\nallno\nconfig\n",
+}
+# The commands that are given as often as the size says.
+REPEATED = {
+    "selected, shown again": b"show T\n",
+    "definitions, shown again": b"show A\n",
 }
 STREAMS = {
     "session: refused 1": (b"frob\n", 1),
@@ -407,6 +458,8 @@ def write_all(shape, size):
     files = {"Kconfig": KCONFIGS[shape](size).encode()}
     if shape in QUERIES:
         files["stdin"] = QUERIES[shape]
+    if shape in REPEATED:
+        files["stdin"] = REPEATED[shape] * size
     if shape in ("long condition, savedefconfig", "long condition, check", "long condition, merge"):
         files["config"] = "".join(f"CONFIG_S{at}=y\n" for at in range(size)).encode()
     if shape == "one file sourced":
@@ -415,7 +468,10 @@ def write_all(shape, size):
         files["big"] = comments(BIG).encode()
     if shape == "guesses before comments":
         files.update({f"guess{at}": b"# c\n" for at in range(GUESSES)})
-    if shape in ("files sourced", "files after comments", "guesses before comments"):
+    if shape == "recursion behind comments":
+        text = comments(size // 40).encode()
+        files.update({f"deep{at}": text + b'source "deep%d"\n' % min(at + 1, 39) for at in range(40)})
+    if shape in ("files sourced", "files after comments", "guesses before comments", "variable set anew"):
         files.update({f"part{at}": f'config S{at}\n\tbool "s"\n'.encode() for at in range(size)})
     return files
 
