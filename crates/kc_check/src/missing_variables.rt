@@ -29,7 +29,7 @@ pub(crate) fn earlier_findings(
     inputs: &CheckInputs<'_, '_>,
 ) -> Result<Vec<EarlierFinding>, AllocError> {
     let reached = reading_order(alloc, inputs.lines, variables.files())?;
-    let missing = missing_places(alloc, variables, inputs.given, reached.as_slice())?;
+    let missing = missing_places(alloc, &*variables, inputs.given, reached.as_slice())?;
     let repeated = repeated_files(alloc, inputs.lines, tree)?;
     let mut sourced = SourcedFiles::new(alloc, inputs.lines, repeated)?;
     let mut found = Vec::new(alloc);

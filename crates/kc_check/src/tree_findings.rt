@@ -23,10 +23,10 @@ use std::collections::BTreeSet;
 /// # Errors
 ///
 /// `AllocError` where memory is refused.
-pub(crate) fn tree_findings(
+pub(crate) fn tree_findings<'w>(
     alloc: Global,
-    view: &View<'_>,
-    index: &LineIndex<'_, '_>,
+    view: &'w View<'_>,
+    index: &'w LineIndex<'_, '_>,
     inputs: &CheckInputs<'_, '_>,
     variables: &Variables<'_>,
     extent: Extent,
@@ -46,7 +46,7 @@ pub(crate) fn tree_findings(
         view,
         index,
         earlier: some_of(alloc, earlier)?,
-        names: &names,
+        names,
         forced: ForcedWords::new(alloc),
         defaults: SaidLines::new(alloc, Attribute::Default),
         all: Vec::with_capacity(alloc, found.len())?,
@@ -54,7 +54,7 @@ pub(crate) fn tree_findings(
     for found in found {
         worded.add(alloc, &found)?;
     }
-    findings.unlisted = names.unlisted();
+    findings.unlisted = worded.names.unlisted();
     add_once(alloc, worded.all, &mut findings.of_tree)
 }
 
@@ -81,19 +81,19 @@ fn some_of(
 
 /// What is found in a tree, in words.
 #[derive(Drop)]
-struct Worded<'w, 's, 'l, 'a, 't> {
+struct Worded<'w, 's, 'l, 'a, 'n, 't> {
     view: &'w View<'s>,
     index: &'w LineIndex<'l, 'a>,
     /// What comes before lines, until it is added.
     earlier: Vec<Option<Finding>>,
-    names: &'w ListedNames<'t>,
+    names: ListedNames<'n, 't>,
     forced: ForcedWords,
     /// The lines of defaults.
     defaults: SaidLines,
     all: Vec<Finding>,
 }
 
-impl Worded<'_, '_, '_, '_, '_> {
+impl Worded<'_, '_, '_, '_, '_, '_> {
     /// Adds what is found in a line.
     fn add(&mut self, alloc: Global, found: &FoundInTree) -> Result<(), AllocError> {
         let (view, tree, index) = (self.view, self.view.tree(), self.index);

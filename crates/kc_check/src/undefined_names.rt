@@ -14,23 +14,23 @@ use std::collections::BTreeSet;
 
 /// A name that is listed, and what it may have been meant as.
 #[derive(Clone, Copy)]
-struct ListedName<'t> {
-    name: &'t str,
+struct ListedName<'l, 't> {
+    name: &'l str,
     doubtful: DoubtfulName,
     meant: Option<&'t str>,
 }
 
 /// The names that are listed, in the order of their lines.
 #[derive(Drop)]
-pub(crate) struct ListedNames<'t> {
-    names: Vec<ListedName<'t>>,
+pub(crate) struct ListedNames<'l, 't> {
+    names: Vec<ListedName<'l, 't>>,
     /// The numbers of their lines, among all lines from 0.
     lines: Vec<usize>,
     /// The names that no line defines and that are not listed, by their first uses.
     unlisted: BTreeSet<usize>,
 }
 
-impl<'t> ListedNames<'t> {
+impl<'l, 't> ListedNames<'l, 't> {
     /// The number of the line of each, among all lines from 0.
     pub fn lines(&self) -> &[usize] {
         self.lines.as_slice()
@@ -68,7 +68,7 @@ impl<'t> ListedNames<'t> {
     }
 
     /// Adds a name, if it is listed.
-    fn list(&mut self, listed: ListedName<'t>, is_listed: bool) -> Result<(), AllocError> {
+    fn list(&mut self, listed: ListedName<'l, 't>, is_listed: bool) -> Result<(), AllocError> {
         if is_listed {
             self.unlisted.remove(&listed.doubtful.first);
             self.lines.push(listed.doubtful.used.line)?;
@@ -84,13 +84,13 @@ impl<'t> ListedNames<'t> {
 /// # Errors
 ///
 /// `AllocError` where memory is refused.
-pub(crate) fn listed_names<'t>(
+pub(crate) fn listed_names<'l, 't>(
     alloc: Global,
     tree: &'t Tree,
-    lines: &'t [Line<'t>],
+    lines: &'l [Line<'_>],
     prefix: &str,
     extent: Extent,
-) -> Result<ListedNames<'t>, AllocError> {
+) -> Result<ListedNames<'l, 't>, AllocError> {
     let doubtful = doubtful_names(alloc, tree, lines)?;
     let asked = count_in_one_line(doubtful.as_slice());
     let near = NearNames::of(alloc, symbol_names(alloc, tree)?, asked)?;
