@@ -186,9 +186,9 @@ fn how(
         return Ok(WantedAnswer::Unusable);
     }
     let wanted = wanted.as_slice();
-    let searched = answer_of(alloc, solved, wanted)?;
-    let Some(lines) = searched.lines else {
-        return not_found(alloc, words.view, wanted, &searched.ending);
+    let Searched { lines, ending } = answer_of(alloc, solved, wanted)?;
+    let Some(lines) = lines else {
+        return not_found(alloc, words.view, wanted, &ending);
     };
     let lines = lines.as_slice();
     let asked = asked_symbols(alloc, wanted, words.kept)?;
