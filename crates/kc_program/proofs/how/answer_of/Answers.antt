@@ -1,0 +1,14 @@
+use Rattle.std.proofs.Common.{◌∙◌, subst}
+use Rattle.std.specs.Prelude.{IfSome, ℕ, Option}
+use Rattle.kc_outline.specs.TreeValue.{TreeValue}
+use Rattle.kc_how.specs.Impossible.{IsImpossible}
+use Rattle.kc_program.proofs.how.answer_of.Goals as goal
+
+pub returns-in-Some-first_impossible-clause-ending :
+    goal.returns-in-Some-first_impossible-clause-ending
+returns-in-Some-first_impossible-clause-ending c =
+    let wanted = c.args.wanted.now in
+    let limits = c.in_ok-limits.limits in
+    let at_bounds : IsImpossible limits.tree wanted c.in-Some-first_impossible.index =
+    subst (λ (found : Option ℕ). IfSome found (IsImpossible limits.tree wanted)) c.in-Some-first_impossible.is c.first_impossible.ensures in
+    subst (λ (t : TreeValue). IsImpossible t wanted c.in-Some-first_impossible.index) (c.in_ok-limits.ensures.tree ∙ c.tree.ensures.tree) at_bounds
