@@ -81,7 +81,8 @@ def problems_of(run: Run) -> Iterator[str]:
 
 def is_misused(run: Run) -> bool:
     """Whether the words are no command line."""
-    if run.target in ("why", "merge", "how") and not run.operands:
+    is_asked = bool(run.operands) or run.target == "how" and any(word.startswith(run.prefix) for word in run.words)
+    if run.target in ("why", "merge", "how") and not is_asked:
         return True
     words = (*run.words, run.prefix)
     are_words = all(WORD.fullmatch(word) for word in run.words) and PREFIX.fullmatch(run.prefix)

@@ -28,9 +28,9 @@ def is_how_report(run: Run) -> bool:
 
 
 def is_unusable(run: Run, line: bytes) -> bool:
-    """Whether a line is on one of a fragment that can't be used."""
+    """Whether a line is on one of a fragment, or a word of the command line, that can't be used."""
     placed = PLACED.fullmatch(line)
-    return bool(placed and placed[1] in run.operands and UNUSABLE_IN_MERGE.fullmatch(placed[3]))
+    return bool(placed and placed[1] in (*run.operands, b"WANTED") and UNUSABLE_IN_MERGE.fullmatch(placed[3]))
 
 
 def how_problems(run: Run) -> Iterator[str]:
