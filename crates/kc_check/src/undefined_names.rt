@@ -78,8 +78,8 @@ impl<'l, 't> ListedNames<'l, 't> {
     }
 }
 
-/// The names in expressions that no line defines, and those of strings, ints and hexes that are conditions, of which each
-/// that is listed.
+/// The names that are listed: those in expressions that no line defines, and those of strings, ints and hexes that are
+/// conditions.
 ///
 /// # Errors
 ///
