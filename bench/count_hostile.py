@@ -7,11 +7,10 @@ is that of each symbol, line, byte or command, without what one symbol takes (wa
 
 import os
 import re
-import shutil
 import subprocess
 import sys
 
-from hostile_shapes import SHAPES, WORDS
+from hostile_shapes import SHAPES, WORDS, make
 
 MOST_GROWTH = 1.3
 # Below these instructions a cost is that of the start.
@@ -19,7 +18,6 @@ LEAST = 100_000
 
 program, work = sys.argv[1:3]
 wanted = sys.argv[3:]
-bench = os.path.dirname(os.path.abspath(__file__))
 
 
 def instructions(folder, target, words):
@@ -41,22 +39,12 @@ def instructions(folder, target, words):
         return int(re.search(r"^(?:summary|totals): (\d+)", file.read(), re.MULTILINE).group(1))
 
 
-def make(shape, size):
-    """The folder of a shape of a size, which was written anew."""
-    folder = os.path.join(work, "shape")
-    shutil.rmtree(folder, ignore_errors=True)
-    os.mkdir(folder)
-    command = [sys.executable, os.path.join(bench, "make_hostile.py"), shape, str(size), folder]
-    subprocess.run(command, check=True)
-    return folder
-
-
 def count(shape, target, size, base):
     """Prints the row of a shape, and says whether its growth is kept."""
     counts = []
     for times in (1, 3):
         words = WORDS[shape](times * size) if shape in WORDS else []
-        found = instructions(make(shape, times * size), target, words)
+        found = instructions(make(work, shape, times * size), target, words)
         counts.append(max(found - base, LEAST))
     few, many = counts
     growth = many / few / 3

@@ -1,5 +1,10 @@
 """The shapes of bench/hostile.sh, their sizes, and the words that their targets take."""
 
+import os
+import shutil
+import subprocess
+import sys
+
 MIB16 = 16_777_000
 
 # A name, the target, what its size counts, a size and one that is greater; and the status where it is not 0.
@@ -102,3 +107,13 @@ WORDS = {
     "named again, why": lambda size: ["A"],
     "recursion behind comments": lambda size: ["--explain"],
 }
+
+
+def make(work, shape, size):
+    """The folder of a shape of a size, in the folder `work`, which was written anew."""
+    folder = os.path.join(work, "shape")
+    shutil.rmtree(folder, ignore_errors=True)
+    os.mkdir(folder)
+    program = os.path.join(os.path.dirname(os.path.abspath(__file__)), "make_hostile.py")
+    subprocess.run([sys.executable, program, shape, str(size), folder], check=True)
+    return folder

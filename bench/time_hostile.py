@@ -11,7 +11,7 @@ import statistics
 import subprocess
 import sys
 
-from hostile_shapes import SHAPES, WORDS
+from hostile_shapes import SHAPES, WORDS, make
 
 RUNS = 5
 MOST_GROWTH = 1.3
@@ -34,7 +34,6 @@ CONF_OPTIONS = {
 
 program, conf, work = sys.argv[1:4]
 wanted = sys.argv[4:]
-bench = os.path.dirname(os.path.abspath(__file__))
 
 
 class Failed(Exception):
@@ -85,16 +84,6 @@ def middle_cost(folder, command, environment=None, wanted_status=0, prepare=None
     return tuple(statistics.median(costs) for costs in zip(*found))
 
 
-def make(shape, size):
-    """The folder of a shape of a size, which was written anew."""
-    folder = os.path.join(work, "shape")
-    shutil.rmtree(folder, ignore_errors=True)
-    os.mkdir(folder)
-    command = [sys.executable, os.path.join(bench, "make_hostile.py"), shape, str(size), folder]
-    subprocess.run(command, check=True)
-    return folder
-
-
 def kconf_cost(folder, target, status, words):
     """What a target costs on what a folder has, with these words."""
     config = "config" if os.path.exists(os.path.join(folder, "config")) else "-"
@@ -137,7 +126,7 @@ def measure(shape, target, unit, few, many, status, base):
     """Prints what a shape costs at both sizes, and says whether it is kept."""
     costs = []
     for size in (few, many):
-        folder = make(shape, size)
+        folder = make(work, shape, size)
         try:
             words = WORDS[shape](size) if shape in WORDS else []
             seconds, memory = kconf_cost(folder, target, status, words)

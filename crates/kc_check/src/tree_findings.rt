@@ -67,7 +67,7 @@ fn befores_of(alloc: Global, earlier: &[EarlierFinding]) -> Result<Vec<usize>, A
     Ok(befores)
 }
 
-/// The findings, each of which is there.
+/// The findings, none of them taken yet.
 fn some_of(
     alloc: Global,
     earlier: Vec<EarlierFinding>,
