@@ -156,7 +156,7 @@ module _ (outside : Environment) (place : Placing) (at : Place) (s : ReadState) 
       item_law (value_of i) ∙ ap (λ rs. answer_read outside place at s (item_answer outside s.names at (value_of i) rs)) (only_shown h.1)
       ∙ ap (answer_read outside place at s) h.2
 
--- a file is put in place as the answer of its `source` line says
+-- a file is included as the answer of its `source` line says
 abbrev source_read : List File → Environment → List (List ℕ) → Place → List ℕ → ReadState → Result (List ℕ) TextProblem → Result ReadState TextFault
 source_read files outside around at w s (Ok text) = file_read outside (placed files outside (64 - length (around ++ w ∷ [])) (around ++ w ∷ [])) w (s.followed + 1) text (entered text s)
 source_read files outside around at w s (Err problem) = Err (fault_at at problem)
@@ -324,7 +324,7 @@ module _ (files : List File) (outside : Environment) (means : List Entry → Nam
       let same = agrees (before ++ e ∷ []) rest more.after w more.reaches in
       (more.reaches ∙ ap Ok (sym same), λ at. more.reads at ∙ ap (λ m. Ok (read_as m (before ++ e ∷ []))) (sym same))
 
-  -- a file that is put in place
+  -- an included file
   file_given : (around : List (List ℕ)) (path : List ℕ) (run : ℕ) (text : List ℕ) (js : List ItemLines) (s : ReadState) (es inner : List Entry) (f : Option TextFault) → AreItems (lines text) js
       → s ≡ read_as (means es) es → Given es around path run 1 js inner f
       → file_read outside (placed files outside (64 - length around) around) path run text s
@@ -447,7 +447,7 @@ passed_test : {A E : Type 0} (b : Bool) (e : E) (r : Result A E) (x : A) → ◌
 passed_test true e r x h = cc
 passed_test false e r x h = (refl, h)
 
--- a file is put in place only where fewer than 64 are open
+-- a file is included only where fewer than 64 are open
 room_for : (files : List File) (es : List Entry) (around : List (List ℕ)) (w text : List ℕ) → source_answer files es around w ≡ Ok text → length around < 64
 room_for files es around w text h =
     let inner = passed_test (is_among w around) RecursiveSource _ text h in

@@ -40,7 +40,7 @@ lines-within-n (suc n) (b ∷ bs) few =
 lines-within : (bs : List ℕ) → length (lines bs) ≤ length bs
 lines-within bs = lines-within-n (length bs) bs (omega arith)
 
--- What was read after `s`: at most n lines more, and one for each byte that was put in place since then.
+-- What was read after `s`: at most n lines more, and one for each byte that was included since then.
 abbrev Grows : ReadState → ℕ → ReadState → Type 0
 Grows s n t = (length t.lines + s.placed ≤ length s.lines + n + t.placed) × (s.placed ≤ 16777216 → t.placed ≤ 16777216)
 
@@ -74,7 +74,7 @@ statement-one : (at : Place) (ts : List Token) (help : Option (List ℕ)) → le
 statement-one at [] help = omega arith
 statement-one at (t ∷ ts) help = omega arith
 
--- the items of a file, where putting a file in place adds one line
+-- the items of a file, where including a file adds one line
 module _ (outside : Environment) (place : Placing) (one : (at : Place) (wanted : List ℕ) (s : ReadState) → Adds s 1 (place at wanted s)) where
   tokens-one : (at : Place) (ts : List Token) (help : Option (List ℕ)) (s : ReadState) → Adds s 1 (tokens_read place at ts help s)
   tokens-one at ts help s =
@@ -110,7 +110,7 @@ module _ (outside : Environment) (place : Placing) (one : (at : Place) (wanted :
       (items-few path run 0 1 (lines text) s)
       (λ t. (omega (arith, length-append t.lines (end_of_file (record { path = path; run = run; number = length (lines text) + 1 }) ∷ [])), λ room. room)))
 
--- a file that is put in place
+-- an included file
 entered-one : (text : List ℕ) (s : ReadState) (r : Result ReadState TextFault) → s.placed + length text ≤ 16777216 → Adds (entered text s) (length text + 1) r → Adds s 1 r
 entered-one text s (Ok t) fits h = (omega (arith, h.0), λ room. h.1 fits)
 entered-one text s (Err fault) fits h = tt

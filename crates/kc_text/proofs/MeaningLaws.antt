@@ -14,9 +14,10 @@ use Rattle.kc_text.specs.declared.variables.Value.{Value}
 use Rattle.kc_text.specs.declared.variables.Value.TheVariants.{Recursive, Simple}
 use Rattle.kc_text.specs.References.{value_pieces}
 use Rattle.kc_text.specs.Expansion.{Names, Environment, Progress, then_on, put, expansion, start}
-use Rattle.kc_text.specs.Definitions.{with, text_behind, appended_at_once, appended, assigned, defined}
+use Rattle.kc_text.specs.Definitions.{with, text_behind, text_with, value_with, appended_at_once, appended, assigned, defined}
 use Rattle.kc_text.specs.Steps.{Step, puts, follows, fails, text_steps, text_by}
 use Rattle.kc_text.specs.Meanings.{Placed, is_of, sets, from_last, counting, spaced, value_at, MadeBy, Means, AreMeanings}
+use Rattle.kc_text.proofs.TokenLemmas.{text_then}
 use Rattle.kc_text.proofs.StepLaws.{then_same, then_twice, then_none, step_done, runs, runs-all_steps, expansion-runs}
 
 -- ---- results
@@ -109,6 +110,15 @@ append_by outside names name value meant = elim meant [
 
 appended-by : (outside : Environment) (names : Names) (name value : List ℕ) → appended outside names name value ≡ append_by outside names name value (names name)
 appended-by outside names name value = refl
+
+-- `+=` gives a name the text that it has with the value behind it
+pub appended-text : (outside : Environment) (names : Names) (name value : List ℕ) (meant : Option Value) → meant ≡ names name
+    → appended outside names name value ≡ then_on (text_with outside names meant value) (λ text. Ok (with name (value_with meant text) names))
+appended-text outside names name value meant same = appended-by outside names name value ∙ ap (append_by outside names name value) (sym same) ∙ (by meant) where
+  by : (m : Option Value) → append_by outside names name value m ≡ then_on (text_with outside names m value) (λ text. Ok (with name (value_with m text) names))
+  by None = refl
+  by (Some (Recursive text)) = refl
+  by (Some (Simple text)) = text_then (text_behind outside names text value) (λ t. with name (Simple t) names)
 
 -- the definitions that count, with one more
 abbrev counting_more : List Placed → Placed → List Placed

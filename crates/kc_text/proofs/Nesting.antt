@@ -1,4 +1,4 @@
--- Files that are read item by item, and `source` lines that put files in place.
+-- Files that are read item by item, and `source` lines that include files.
 use Rattle.std.proofs.Common.{◌≡◌, ℕ, zero, suc, ◌+◌, ◌-◌, ◌<◌, ◌≤◌, false, ◌||◌, List, [], ◌∷◌, ◌++◌, length, drop, Option, IfSome, MatchOption, Some, None, Result, Ok, Err, Bor, refl, ap, subst, sym, ◌∙◌, arith, length-drop, length-append, drop-drop}
 use Rattle.std.specs.List.{list_any}
 use Rattle.std.specs.Str.{bytes_eq}
@@ -123,7 +123,7 @@ lines_end outside place path run text now number s t none count reads =
     (reads ∙ ap (λ ls. items_read outside place path run 0 number ls t) none)
     ∙ ap (λ n. Ok (with_lines (end_of_file (record { path = path; run = run; number = n }) ∷ []) t)) last
 
--- the file of a path that a `source` line names is put in place: `pushed` are the paths around with its own
+-- the file of a path that a `source` line names is included: `pushed` are the paths around with its own
 pub source_reads : (files : List File) (reader : Reader) (around pushed : List (Bor (List ℕ))) (at : Place) (wanted : List ℕ) (path : Bor (List ℕ)) (text : List ℕ) (s : ReadState)
     → is_among wanted (names_of around) ≡ false → length around < 64 → s.followed < 4096 → path.now ≡ wanted → text_of wanted files ≡ Some text → s.placed + length text ≤ 16777216 → pushed ≡ around ++ path ∷ []
     → placing files reader around at wanted s ≡ file_read (outside_of reader) (placing files reader pushed) path.now (s.followed + 1) text (entered text s)

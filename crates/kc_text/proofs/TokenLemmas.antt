@@ -52,7 +52,7 @@ any_reference (part ∷ parts) =
     ap (λ b. list_any is_reference (piece_of part) || b) (any_reference parts) ∙ sym (list_any-append is_reference (piece_of part) (pieces_of parts))
 
 -- what is made of a text, where only its bytes count
-text_then : {B E : Type 0} (r : Result Progress E) (make : List ℕ → B) → then_on r (λ p. Ok (make p.text)) ≡ then_on (then_on r (λ p. Ok p.text)) (λ text. Ok (make text))
+pub text_then : {B E : Type 0} (r : Result Progress E) (make : List ℕ → B) → then_on r (λ p. Ok (make p.text)) ≡ then_on (then_on r (λ p. Ok p.text)) (λ text. Ok (make text))
 text_then (Ok p) make = refl
 text_then (Err e) make = refl
 

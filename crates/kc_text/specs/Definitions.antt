@@ -32,13 +32,22 @@ text_behind outside names text value = then_on (put (32 ∷ []) (record { text =
 abbrev pub appended_at_once : Environment → Names → List ℕ → List ℕ → List ℕ → Result Names TextProblem
 appended_at_once outside names name text value = with_text name names (text_behind outside names text value)
 
--- a value behind what a name stands for, where that is a text that each use expands: after one space; else the value alone
-abbrev pub behind_recursive : Option Value → List ℕ → List ℕ
-behind_recursive meant value = elim meant [ Some (Recursive text) ↦ text ++ 32 ∷ value | _ ↦ value ]
+-- the text that a name stands for so far
+abbrev pub text_meant : Option Value → List ℕ
+text_meant None = []
+text_meant (Some (Recursive text)) = text
+text_meant (Some (Simple text)) = text
 
--- bytes behind what a name stands for, where that is a text as it is; else the bytes alone
-abbrev pub behind_simple : Option Value → List ℕ → List ℕ
-behind_simple meant bytes = elim meant [ Some (Simple text) ↦ text ++ bytes | _ ↦ bytes ]
+-- a value of another text: each use expands it, but where the value before was a text as it is
+abbrev pub value_with : Option Value → List ℕ → Value
+value_with (Some (Simple _)) text = Simple text
+value_with _ text = Recursive text
+
+-- the text that a name stands for, with one space and a value behind it; else the value alone
+abbrev pub text_with : Environment → Names → Option Value → List ℕ → Result (List ℕ) TextProblem
+text_with outside names None value = Ok value
+text_with outside names (Some (Recursive text)) value = Ok (text ++ 32 ∷ value)
+text_with outside names (Some (Simple text)) value = then_on (text_behind outside names text value) (λ p. Ok p.text)
 
 -- `+=`: one space and the value behind the text so far, expanded at once where that text was; on a name without
 -- definition it acts as `=`

@@ -48,7 +48,7 @@ pub data Entry : Type 0 where
   shows : List LineValue → Entry
   -- a definition
   defines : Definition → Entry
-  -- a `source` line that is followed, with the text that it puts in place
+  -- a `source` line that is followed, with the text that it includes
   places : List ℕ → Entry
 
 abbrev pub shown_by : Entry → List LineValue
@@ -66,7 +66,7 @@ is_placing (shows ls) = false
 is_placing (defines d) = false
 is_placing (places text) = true
 
--- how many bytes an entry puts in place
+-- how many bytes an entry includes
 abbrev pub bytes_by : Entry → ℕ
 bytes_by (shows ls) = 0
 bytes_by (defines d) = 0
@@ -84,7 +84,7 @@ definitions_in es = filter_map defined_by es
 abbrev pub followed_in : List Entry → ℕ
 followed_in es = count_by is_placing es
 
--- how many bytes these put in place
+-- how many bytes these include
 abbrev pub placed_in : List Entry → ℕ
 placed_in es = sum_by bytes_by es
 
@@ -160,13 +160,13 @@ item_answer outside names at item rs =
 abbrev pub Answers : Environment → Names → Place → ItemLines → Result Answer TextProblem → Type 0
 Answers outside names at i a = (rs : List Raw) × Shows (text_in i) rs × (item_answer outside names at (value_of i) rs ≡ a)
 
--- the text of the file of a path that is put in place after entries, if there is room for it: 16777216 bytes in all
+-- the text of the file of a path that is included after entries, if there is room for it: 16777216 bytes in all
 abbrev pub room_answer : List Entry → List ℕ → Option (List ℕ) → Result (List ℕ) TextProblem
 room_answer before wanted None = Err (MissingSource wanted)
 room_answer before wanted (Some text) = if nat_lt 16777216 (placed_in before + length text) then Err Limit else Ok text
 
--- The text that a `source` line puts in place after entries, or its problem. The files of the paths `around` are open. No
--- file is put in place within itself, 64 files are open at most, and 4096 `source` lines are followed at most.
+-- The text that a `source` line includes after entries, or its problem. The files of the paths `around` are open. No
+-- file is included within itself, 64 files are open at most, and 4096 `source` lines are followed at most.
 abbrev pub source_answer : List File → List Entry → List (List ℕ) → List ℕ → Result (List ℕ) TextProblem
 source_answer files before around wanted =
     if is_among wanted around then Err RecursiveSource
@@ -194,14 +194,14 @@ pub data Reads (files : List File) (outside : Environment) (means : List Entry �
       → Answers outside (means before) (record { path = path; run = run; number = number }) i (Ok (wants w))
       → source_answer files before around w ≡ Err problem
       → Reads files outside means before around path run number (i ∷ is) [] (Some (At problem path number))
-  -- a file in place of a `source` line has a fault
+  -- an included file has a fault
   stopped : {before : List Entry} {around : List (List ℕ)} {path : List ℕ} {run number : ℕ} {i : ItemLines} {is : List ItemLines} {w text : List ℕ} {js : List ItemLines} {inner : List Entry} {fault : TextFault}
       → Answers outside (means before) (record { path = path; run = run; number = number }) i (Ok (wants w))
       → source_answer files before around w ≡ Ok text
       → AreItems (lines text) js
       → Reads files outside means (before ++ places text ∷ []) (around ++ w ∷ []) w (followed_in before + 1) 1 js inner (Some fault)
       → Reads files outside means before around path run number (i ∷ is) (places text ∷ inner) (Some fault)
-  -- a file in place of a `source` line is read up to its end
+  -- an included file is read up to its end
   sourced : {before : List Entry} {around : List (List ℕ)} {path : List ℕ} {run number : ℕ} {i : ItemLines} {is : List ItemLines} {w text : List ℕ} {js : List ItemLines} {inner es : List Entry} {f : Option TextFault}
       → Answers outside (means before) (record { path = path; run = run; number = number }) i (Ok (wants w))
       → source_answer files before around w ≡ Ok text

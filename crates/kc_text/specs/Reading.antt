@@ -17,7 +17,7 @@ use Rattle.kc_text.specs.Items.{ItemValue, first_item}
 pub use Rattle.kc_text.specs.Entries.{Place, statement, end_of_file, source_path}
 
 -- what was read so far: the lines, what names stand for, how many `source` lines were followed, and how many bytes they
--- put in place
+-- include
 pub record ReadState : Type 0 where
   pub lines : List LineValue
   pub names : Names
@@ -33,7 +33,7 @@ with_lines ls s = record { lines = s.lines ++ ls; names = s.names; followed = s.
 abbrev pub with_names : Names → ReadState → ReadState
 with_names names s = record { lines = s.lines; names = names; followed = s.followed; placed = s.placed }
 
--- one `source` line more is followed, which puts a text in place
+-- one `source` line more is followed, which includes a text
 abbrev pub entered : List ℕ → ReadState → ReadState
 entered text s = record { lines = s.lines; names = s.names; followed = s.followed + 1; placed = s.placed + length text }
 
@@ -45,7 +45,7 @@ abbrev pub at_place : {A : Type 0} → Place → Result A TextProblem → Result
 at_place at (Ok x) = Ok x
 at_place at (Err problem) = Err (fault_at at problem)
 
--- how the file of a path is put in place of a line
+-- how the file of a path is included for a line
 abbrev pub Placing : Type 0
 Placing = Place → List ℕ → ReadState → Result ReadState TextFault
 
@@ -81,14 +81,14 @@ file_read outside place path run text s =
     then_on (items_read outside place path run 0 1 (lines text) s)
     (λ t. Ok (with_lines (end_of_file (record { path = path; run = run; number = length (lines text) + 1 }) ∷ []) t))
 
--- the text of a path in place of a line, if there is room for it
+-- the text of a path that is included for a line, if there is room for it
 abbrev pub text_placed : (List ℕ → ReadState → Result ReadState TextFault) → Place → List ℕ → Option (List ℕ) → ReadState → Result ReadState TextFault
 text_placed read at wanted None s = Err (fault_at at (MissingSource wanted))
 text_placed read at wanted (Some text) s =
     if nat_lt 16777216 (s.placed + length text) then Err (fault_at at Limit) else read text (entered text s)
 
--- The file of a path in place of a `source` line. The files of the paths `around` are open, and `n` more may
--- be. No file is put in place within itself, and 4096 `source` lines are followed at most.
+-- The file of a path that a `source` line includes. The files of the paths `around` are open, and `n` more may
+-- be. No file is included within itself, and 4096 `source` lines are followed at most.
 abbrev pub placed : List File → Environment → ℕ → List (List ℕ) → Placing
 placed files outside zero around at wanted s = if is_among wanted around then Err (fault_at at RecursiveSource) else Err (fault_at at Limit)
 placed files outside (suc n) around at wanted s =
@@ -104,7 +104,7 @@ top_read files outside top = elim (text_of top files) [
 ]
 
 -- The logical lines of a top file, or the first fault. They are no more than MOST_LINES: each takes at least one byte of
--- the top file, which has 16777216 at most, or of the texts that are put in place, which have as many at most. The end of
--- a file that is put in place takes the bytes of its `source` line, and only the end of the top file takes none.
+-- the top file, which has 16777216 at most, or of the texts that are included, which have as many at most. The end of
+-- a file that is included takes the bytes of its `source` line, and only the end of the top file takes none.
 abbrev pub logical_lines_of : List File → Environment → List ℕ → Result (List LineValue) TextFault
 logical_lines_of files outside top = then_on (top_read files outside top) (λ s. Ok s.lines)

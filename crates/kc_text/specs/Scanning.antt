@@ -62,7 +62,7 @@ place_of p = record { path = p.file.now.path; run = p.file.now.run; number = p.n
 abbrev pub outside_of : Reader → Environment
 outside_of reader = texts_in reader.vars.now
 
--- how a reader puts these files in place where those of the paths `around` are open, of 64 at most
+-- how a reader includes these files where those of the paths `around` are open, of 64 at most
 abbrev pub placing : List File → Reader → List (Bor (List ℕ)) → Placing
 placing files reader around = placed files (outside_of reader) (64 - length around) (names_of around)
 

@@ -1,8 +1,9 @@
 //! Classes of bytes, and how far runs of them go.
 
-ghost use Rattle.std.specs.Prelude.{◌≡◌, ◌+◌, ◌<◌, ◌≤◌, length, drop, slice_index};
+ghost use Rattle.std.specs.Prelude.{◌≡◌, ◌+◌, ◌<◌, ◌≤◌, false, length, drop, slice_index};
 ghost use Rattle.std.specs.List.{prefix_len, suffix_len};
 ghost use Rattle.kc_text.specs.Bytes.{is_blank, is_name, is_word, behind_blanks, before_blanks, trimmed};
+ghost use Rattle.kc_text.specs.Lexing.{raw_tokens};
 
 /// The class of each byte: `n` of those of a variable's name, `w` of the others of a word, `,` of any other byte.
 static CLASSES: [u8; 256] = *b"\
@@ -82,7 +83,7 @@ fn end_blank_len(text: &str) -> usize
 }
 
 /// The text after an ASCII byte.
-pub(crate) fn behind(text: &str, place: usize) -> &str
+pub(crate) fn text_after(text: &str, place: usize) -> &str
     requires within { place < length text.now }
     requires ascii { slice_index text.now place < 128 }
     ensures { result.now ≡ drop (place + 1) text.now }
@@ -90,9 +91,12 @@ pub(crate) fn behind(text: &str, place: usize) -> &str
     &text[place + 1..]
 }
 
-/// The text after the blanks at its beginning.
+/// The text after the blanks at its beginning, which has the same tokens.
 pub(crate) fn behind_blanks(text: &str) -> &str
-    ensures { result.now ≡ behind_blanks text.now }
+    ensures value { result.now ≡ behind_blanks text.now }
+    ensures same { raw_tokens result.now ≡ raw_tokens text.now }
+    ensures first { 0 < length result.now → is_blank (slice_index result.now 0) ≡ false }
+    ensures within { length result.now ≤ length text.now }
 {
     &text[blank_len(text)..]
 }

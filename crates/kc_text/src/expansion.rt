@@ -11,7 +11,7 @@ ghost use Rattle.std.specs.String.{string_bytes};
 ghost use Rattle.kc_text.specs.Faults.{ReadsBy, ReadsAfter};
 ghost use Rattle.kc_text.specs.Expansion.{counted, expanded, expansion, followed, is_among, names_in, put, start, texts_in, then_on};
 
-use crate::bytes::{behind, name_len};
+use crate::bytes::{name_len, text_after};
 use crate::fault::{LineFault, TextProblem};
 use crate::variables::{Value, Variables, Vars};
 use memchr::memchr;
@@ -57,13 +57,13 @@ pub(crate) fn reference(text: &str) -> Option<(&str, &str)>
     let [b'(', ..] = text.as_bytes() else {
         return None;
     };
-    let inside = behind(text, 0);
+    let inside = text_after(text, 0);
     let (name, after) = inside.split_at(name_len(inside));
     let [b')', ..] = after.as_bytes() else {
         return None;
     };
     if is_referable(name) {
-        Some((name, behind(after, 0)))
+        Some((name, text_after(after, 0)))
     } else {
         None
     }
@@ -115,7 +115,7 @@ pub(crate) fn value_piece(text: &str) -> Option<(Piece<'_>, &str)>
     if text.is_empty() {
         return None;
     }
-    match reference(behind(text, 0)) {
+    match reference(text_after(text, 0)) {
         Some((name, after)) => Some((Piece::Reference(name), after)),
         None => Some((Piece::Malformed, "")),
     }
@@ -152,7 +152,7 @@ pub(crate) struct Expansion<'a> {
 
 impl<'a> Expansion<'a> {
     /// An expansion after a text, for which no reference was followed yet.
-    pub(crate) fn behind(alloc: Global, before: &'a str) -> Expansion<'a>
+    pub(crate) fn after(alloc: Global, before: &'a str) -> Expansion<'a>
         ensures progress { progress_of result ≡ record { text = before.entry.now; followed = 0 } }
         ensures before { result.before.now ≡ before.entry.now }
     {
@@ -270,7 +270,7 @@ fn follow<'a>(
 pub(crate) fn expanded_text<'a>(scope: Scope<'a>, pieces: &[Piece<'a>]) -> Result<String, LineFault>
     ensures { ReadsBy (λ s. string_bytes s) result (then_on (expansion (names_in scope.entry.variables.now) (texts_in scope.entry.outside.now) (pieces_of pieces.now) start) (λ p. Ok p.text)) }
 {
-    let mut out = Expansion::behind(scope.alloc, "");
+    let mut out = Expansion::after(scope.alloc, "");
     expand(scope, pieces, &mut out)?;
     Ok(out.text)
 }

@@ -125,9 +125,9 @@ pub(crate) fn skip_blank_lines(text: &str) -> (usize, &str)
         if !begins_blank_line(rest) {
             return (count, rest);
         }
-        let (_, behind) = first_line(rest);
+        let (_, after) = first_line(rest);
         count += 1;
-        rest = behind;
+        rest = after;
     }
     (count, rest)
 }
@@ -170,9 +170,9 @@ pub(crate) fn skip_inside(column: u128, text: &str) -> (usize, &str)
         if !is_inside(column, rest) {
             return (count, rest);
         }
-        let (_, behind) = first_line(rest);
+        let (_, after) = first_line(rest);
         count += 1;
-        rest = behind;
+        rest = after;
     }
     (count, rest)
 }
@@ -185,15 +185,15 @@ pub(crate) fn skip_help(text: &str) -> (usize, &str)
     ensures rest { lines result.1.now ≡ drop result.0 (lines text.now) }
     ensures within { result.0 + length result.1.now ≤ length text.now }
 {
-    let (passed, behind) = skip_blank_lines(text);
-    let (len, rest) = skip_inside(first_indentation(behind), behind);
+    let (passed, after) = skip_blank_lines(text);
+    let (len, rest) = skip_inside(first_indentation(after), after);
     (passed + len, rest)
 }
 
 /// A help text, lent, which is looked up in the file after its `help` line. Contracts see the bytes of the text.
 #[derive(Debug, Drop)]
 pub struct HelpText<'a> {
-    behind: &'a str,
+    rest: &'a str,
 }
 
 impl<'a> Model for HelpText<'a> {
@@ -203,25 +203,25 @@ impl<'a> Model for HelpText<'a> {
 
     ghost Value = { List ℕ };
 
-    ghost view = { λ h. help_text (lines h.behind.now) };
+    ghost view = { λ h. help_text (lines h.rest.now) };
 }
 
 impl<'a> HelpText<'a> {
     /// The help text of the `help` line that is before a text.
-    pub(crate) fn new(behind: &'a str) -> HelpText<'a>
-        ensures { result ≡ help_text (lines behind.entry.now) }
+    pub(crate) fn new(rest: &'a str) -> HelpText<'a>
+        ensures { result ≡ help_text (lines rest.entry.now) }
     {
-        HelpText { behind }
+        HelpText { rest }
     }
 
     /// The text, each of its lines with a line feed.
     pub fn to_text(&self, alloc: Global) -> Result<Text, AllocError>
         ensures { IfOk result (λ t. t ≡ self.now) }
     {
-        let (_, behind) = skip_blank_lines(self.behind);
-        let column = first_indentation(behind);
-        let (len, _) = skip_inside(column, behind);
-        let taken = first_lines(alloc, len, behind)?;
+        let (_, after) = skip_blank_lines(self.rest);
+        let column = first_indentation(after);
+        let (len, _) = skip_inside(column, after);
+        let taken = first_lines(alloc, len, after)?;
         let taken = taken.as_slice();
         let (lines, _) = taken.split_at(taken.len() - blank_lines_at_end(taken));
         let mut out = String::with_capacity(alloc, room_for(lines))?;

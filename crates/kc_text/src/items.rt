@@ -1,6 +1,6 @@
 //! The lines of a file, and which of them are taken together.
 
-ghost use Rattle.std.specs.Prelude.{◌≡◌, ◌<◌, ◌∷◌, length, false, slice_index, ◌+◌, ◌≤◌, drop, true, IfOk, IfSome, [], IfNone, MatchOption, None, Some};
+ghost use Rattle.std.specs.Prelude.{◌≡◌, ◌<◌, ◌∷◌, length, false, slice_index, ◌+◌, drop, true, IfOk, IfSome, [], IfNone, MatchOption, None, Some};
 ghost use Rattle.std.specs.List.{position_or_len};
 ghost use Rattle.std.specs.Str.Lines.{lines, strip_carriage_return};
 ghost use Rattle.kc_text.specs.Bytes.{is_feed, behind_blanks};
@@ -11,7 +11,7 @@ ghost use Rattle.kc_text.specs.Scanning.{item_of, joined_text};
 ghost use Rattle.kc_text.specs.Defining.{definition_of};
 ghost use Rattle.kc_text.specs.LeadingItem.{BeginsWith};
 
-use crate::bytes::{behind, behind_blanks};
+use crate::bytes::{behind_blanks, text_after};
 use crate::help::{HelpText, is_help, skip_help};
 use crate::text::Text;
 use crate::variables::{Definition, definition_of};
@@ -47,7 +47,7 @@ pub(crate) fn first_line(text: &str) -> (&str, &str)
     ensures shorter { length result.1.now < length text.now }
 {
     if let [b'\n', ..] = text.as_bytes() {
-        return ("", behind(text, 0));
+        return ("", text_after(text, 0));
     }
     let len = line_len(text);
     if len == text.len() {
@@ -55,7 +55,7 @@ pub(crate) fn first_line(text: &str) -> (&str, &str)
         return (text, "");
     }
     let (line, end) = text.split_at(len);
-    (before_return(line), behind(end, 0))
+    (before_return(line), text_after(end, 0))
 }
 
 /// What a line may be, by its first byte that is no blank.
@@ -179,9 +179,9 @@ fn join_lines<'a>(alloc: Global, file: &'a str) -> Result<(Text, usize, &'a str)
     while ends_in_backslash(line) && !rest.is_empty() {
         out.push_str(before_backslash(line))?;
         more += 1;
-        let (next, behind) = first_line(rest);
+        let (next, after) = first_line(rest);
         line = next;
-        rest = behind;
+        rest = after;
     }
     out.push_str(before_backslash(line))?;
     Ok((Text::new(out), more, rest))
@@ -229,19 +229,19 @@ pub(crate) fn first_item<'a>(
             rest: front.rest,
         });
     }
-    let (text, more, behind) = join_first(alloc, file, front)?;
+    let (text, more, after) = join_first(alloc, file, front)?;
     if !is_help(text.as_str()) {
         return Ok(Item {
             text,
             help: None,
             more,
-            rest: behind,
+            rest: after,
         });
     }
-    let (taken, rest) = skip_help(behind);
+    let (taken, rest) = skip_help(after);
     Ok(Item {
         text,
-        help: Some(HelpText::new(behind)),
+        help: Some(HelpText::new(after)),
         more: more + taken,
         rest,
     })

@@ -13,7 +13,7 @@ ghost use Rattle.kc_text.specs.Tokens.{before, line_tokens, tokens_of, ahead, is
 ghost use Rattle.kc_text.specs.Faults.{ReadsBy};
 ghost use Rattle.kc_text.specs.declared.line.Token.{Token};
 
-use crate::bytes::{behind, behind_blanks, is_word, word_len};
+use crate::bytes::{behind_blanks, is_word, text_after, word_len};
 use crate::expansion::{Piece, Scope, expanded_text, is_short, lent_text, plain_text, reference};
 use crate::fault::{LineFault, TextProblem};
 use crate::line::{LineTokens, Operator, Token};
@@ -42,16 +42,6 @@ pub(crate) enum RawToken<'a> {
     Unclosed(Vec<Piece<'a>>),
     /// A character that is not allowed where it is.
     NotAllowed,
-}
-
-/// The text without the blanks before its first token.
-pub(crate) fn skip_blanks(text: &str) -> &str
-    ensures value { result.now ≡ behind_blanks text.now }
-    ensures same { raw_tokens result.now ≡ raw_tokens text.now }
-    ensures first { 0 < length result.now → is_blank (slice_index result.now 0) ≡ false }
-    ensures within { length result.now ≤ length text.now }
-{
-    behind_blanks(text)
 }
 
 /// Whether a text begins with a word.
@@ -128,7 +118,7 @@ pub(crate) fn word_piece(text: &str) -> Option<(Piece<'_>, &str)>
     let [b'$', ..] = text.as_bytes() else {
         return None;
     };
-    match reference(behind(text, 0)) {
+    match reference(text_after(text, 0)) {
         Some((name, after)) => Some((Piece::Reference(name), after)),
         None => Some((Piece::Malformed, "")),
     }
@@ -169,7 +159,7 @@ fn sign(text: &str) -> (RawToken<'_>, &str)
     ensures shorter { length result.1.now < length text.now }
 {
     match operator(text) {
-        Some((operator, last)) => (RawToken::Operator(operator), behind(text, last)),
+        Some((operator, last)) => (RawToken::Operator(operator), text_after(text, last)),
         None => (RawToken::NotAllowed, ""),
     }
 }
@@ -183,15 +173,15 @@ pub(crate) fn next_token<'a>(
     ensures lexes { IfOk result (λ found. IfSome found (λ t. raw_tokens line.now ≡ raw_of t.0 ∷ raw_tokens t.1.now)) }
     ensures shorter { IfOk result (λ found. IfSome found (λ t. length t.1.now < length line.now)) }
 {
-    let text = skip_blanks(line);
+    let text = behind_blanks(line);
     if begins_word(text) {
         return Ok(Some(word(alloc, text)?));
     }
     match text.as_bytes() {
         [] => Ok(None),
         [b'#', ..] => Ok(None),
-        [b'"', ..] => Ok(Some(quoted(alloc, b'"', behind(text, 0))?)),
-        [b'\'', ..] => Ok(Some(quoted(alloc, b'\'', behind(text, 0))?)),
+        [b'"', ..] => Ok(Some(quoted(alloc, b'"', text_after(text, 0))?)),
+        [b'\'', ..] => Ok(Some(quoted(alloc, b'\'', text_after(text, 0))?)),
         _ => Ok(Some(sign(text))),
     }
 }
@@ -230,7 +220,7 @@ fn verbatim_sign(text: &str) -> Option<(Token<'_>, &str)>
     ensures shorter { IfSome result (λ found. length found.1.now < length text.now) }
 {
     match operator(text) {
-        Some((operator, last)) => Some((Token::Operator(operator), behind(text, last))),
+        Some((operator, last)) => Some((Token::Operator(operator), text_after(text, last))),
         None => None,
     }
 }
@@ -243,15 +233,15 @@ pub(crate) fn plain_token(line: &str) -> Option<(Token<'_>, &str)>
     ensures defines { IfSome result (λ found. may_assign (behind_blanks found.1.now) ≡ false → definition_of line.now ≡ None) }
     ensures shorter { IfSome result (λ found. length found.1.now < length line.now) }
 {
-    let text = skip_blanks(line);
+    let text = behind_blanks(line);
     if begins_word(text) {
         return verbatim_word(text);
     }
     match text.as_bytes() {
         [] => None,
         [b'#', ..] => None,
-        [b'"', ..] => verbatim_quoted(b'"', behind(text, 0)),
-        [b'\'', ..] => verbatim_quoted(b'\'', behind(text, 0)),
+        [b'"', ..] => verbatim_quoted(b'"', text_after(text, 0)),
+        [b'\'', ..] => verbatim_quoted(b'\'', text_after(text, 0)),
         _ => verbatim_sign(text),
     }
 }
@@ -282,11 +272,6 @@ impl<'a> KeptTexts<'a> {
             arena,
             long: BTreeSet::new(alloc),
         }
-    }
-
-    /// The arena that keeps the texts.
-    pub(crate) fn arena(&self) -> &'a Bump {
-        self.arena
     }
 
     /// Keeps a text in the arena.
@@ -488,5 +473,5 @@ pub(crate) fn tokens<'a>(
         gathered.push(token)?;
         rest = after;
     }
-    Ok(LineTokens::new(kept_tokens(texts.arena(), gathered)?))
+    Ok(LineTokens::new(kept_tokens(texts.arena, gathered)?))
 }

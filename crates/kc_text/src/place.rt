@@ -1,4 +1,3 @@
-ghost use Rattle.std.specs.Prelude.{◌≡◌};
 ghost use Rattle.kc_text.specs.declared.fault.TextProblem.TheVariants.{MissingSource};
 ghost use Rattle.kc_text.specs.Faults.{IsFaultAt};
 ghost use Rattle.kc_text.specs.Scanning.{place_of, IsPlacedFault};

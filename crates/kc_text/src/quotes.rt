@@ -7,7 +7,7 @@ ghost use Rattle.kc_text.specs.References.{Piece as SpecPiece};
 ghost use Rattle.kc_text.specs.Scanning.{bytes_of, piece_of, raw_of};
 ghost use Rattle.kc_text.specs.Stopping.{Leaves};
 
-use crate::bytes::behind;
+use crate::bytes::text_after;
 use crate::expansion::{Piece, reference};
 use crate::lexer::RawToken;
 use memchr::memchr3;
@@ -33,7 +33,7 @@ pub(crate) fn plain_quoted(quote: u8, text: &str) -> Option<(&str, &str)>
 {
     let len = plain_len(quote, text);
     if len < text.len() && text.as_bytes()[len] == quote {
-        return Some((&text[..len], behind(text, len)));
+        return Some((&text[..len], text_after(text, len)));
     }
     None
 }
@@ -73,7 +73,7 @@ fn quoted_parts<'a>(
     if rest.is_empty() {
         return Ok((RawToken::Unclosed(pieces), rest));
     }
-    Ok((RawToken::QuotedParts(pieces), behind(rest, 0)))
+    Ok((RawToken::QuotedParts(pieces), text_after(rest, 0)))
 }
 
 /// The first part of a text in quotes, and the text after it: nothing after a dollar that begins no reference.
@@ -90,8 +90,8 @@ pub(crate) fn quoted_piece(quote: u8, text: &str) -> Option<(Piece<'_>, &str)>
         return Some((Piece::Text(front), rest));
     }
     match text.as_bytes() {
-        [b'\\', ..] => Some(escaped(behind(text, 0))),
-        [b'$', ..] => match reference(behind(text, 0)) {
+        [b'\\', ..] => Some(escaped(text_after(text, 0))),
+        [b'$', ..] => match reference(text_after(text, 0)) {
             Some((name, after)) => Some((Piece::Reference(name), after)),
             None => Some((Piece::Malformed, "")),
         },

@@ -10,7 +10,7 @@ ghost use Rattle.kc_text.specs.declared.fault.TextProblem.TheVariants.{MissingSo
 ghost use Rattle.kc_text.specs.Libraries.{StaysGiven, known_files};
 ghost use Rattle.kc_text.specs.MoreFiles.{Extends, GivesOver, GivesOverBy};
 ghost use Rattle.kc_text.specs.Definitions.{defined};
-ghost use Rattle.kc_text.specs.Expansion.{is_among, names_in, then_on};
+ghost use Rattle.kc_text.specs.Expansion.{is_among, then_on};
 ghost use Rattle.kc_text.specs.Help.{is_help};
 ghost use Rattle.kc_text.specs.Items.{ends_in_backslash};
 ghost use Rattle.kc_text.specs.declared.items.Start.TheVariants.{Silent};
@@ -211,10 +211,10 @@ fn read_file<'a, F: Folder>(
         } else {
             let item = first_item(reader.alloc, rest, front)?;
             let taken = item.more + 1;
-            let behind = item.rest;
+            let after = item.rest;
             read_item(reader, texts, around, Place { file, number }, item, state)?;
             number += taken;
-            rest = behind;
+            rest = after;
         }
     }
     state.push_end(Place { file, number })?;

@@ -1,6 +1,6 @@
 //! Where the reading of a line stops, and that of a variable's text.
 
-ghost use Rattle.std.specs.Prelude.{◌≡◌, ◌==◌, ◌<◌, ◌≤◌, List, [], None, true, false, length, slice_index, IfNone, IfSome};
+ghost use Rattle.std.specs.Prelude.{◌≡◌, ◌==◌, ◌<◌, List, [], None, true, false, length, slice_index, IfNone, IfSome};
 ghost use Rattle.kc_text.specs.Bytes.{is_blank};
 ghost use Rattle.kc_text.specs.Lexing.{begins_word, is_quote, raw_tokens};
 ghost use Rattle.kc_text.specs.References.{value_pieces};
@@ -8,9 +8,9 @@ ghost use Rattle.kc_text.specs.Shown.{Raw, Shows};
 ghost use Rattle.kc_text.specs.Stopping.{IsPassed};
 ghost use Rattle.kc_text.specs.Stops.{Stops, StopsInValue, first_stop, is_bad};
 
-use crate::bytes::behind;
+use crate::bytes::{behind_blanks, text_after};
 use crate::expansion::{is_malformed, value_piece};
-use crate::lexer::{begins_word, operator, skip_blanks, word_piece};
+use crate::lexer::{begins_word, operator, word_piece};
 use crate::quotes::quoted_piece;
 
 /// What a line is not read past.
@@ -67,7 +67,7 @@ fn past_quotes(quote: u8, quoted: &str) -> Passed<'_>
     requires begins { slice_index quoted.now 0 ≡ quote }
     ensures { IsPassed quoted.now result }
 {
-    let mut rest = behind(quoted, 0);
+    let mut rest = text_after(quoted, 0);
     while let Some((piece, after)) = quoted_piece(quote, rest) {
         if is_malformed(&piece) {
             return Passed::Stopped(Stop {
@@ -83,7 +83,7 @@ fn past_quotes(quote: u8, quoted: &str) -> Passed<'_>
             left: quoted.len(),
         });
     }
-    Passed::Read(behind(rest, 0))
+    Passed::Read(text_after(rest, 0))
 }
 
 /// The text after the operator that a text begins with, or its first character, which is not allowed there.
@@ -96,7 +96,7 @@ fn past_sign(text: &str) -> Passed<'_>
     ensures { IsPassed text.now result }
 {
     match operator(text) {
-        Some((_, last)) => Passed::Read(behind(text, last)),
+        Some((_, last)) => Passed::Read(text_after(text, last)),
         None => Passed::Stopped(Stop {
             kind: StopKind::BadCharacter,
             left: text.len(),
@@ -128,10 +128,10 @@ pub fn stop_in(line: &str) -> Option<Stop>
     ensures none { IfNone result ((shown : List Raw) → Shows line.now shown → first_stop shown ≡ None) }
     ensures stops { IfSome result (λ stop. Stops line.now stop) }
 {
-    let mut rest = skip_blanks(line);
+    let mut rest = behind_blanks(line);
     while let Some(passed) = past_token(rest) {
         match passed {
-            Passed::Read(after) => rest = skip_blanks(after),
+            Passed::Read(after) => rest = behind_blanks(after),
             Passed::Stopped(stop) => return Some(stop),
         }
     }

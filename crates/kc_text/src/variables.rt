@@ -2,7 +2,7 @@
 
 ghost use Rattle.std.specs.Prelude.{◌≡◌, [], None, Some, map, MatchOption, OnOk, ◌++◌, ◌∷◌, IfOk, Ok};
 ghost use Rattle.kc_text.specs.Bytes.{behind_blanks};
-ghost use Rattle.kc_text.specs.Definitions.{assignment_in, definition_of, may_assign, with, assigned, appended, behind_recursive, behind_simple, defined, text_behind};
+ghost use Rattle.kc_text.specs.Definitions.{assignment_in, definition_of, may_assign, with, assigned, appended, defined, text_behind, text_meant, text_with, value_with};
 ghost use Rattle.kc_text.specs.Faults.{GivesBy, ReadsAfter, ReadsBy};
 ghost use Rattle.kc_text.specs.Names.{texts_in};
 ghost use Rattle.kc_text.specs.Vars.{text_problem, vars_of};
@@ -10,11 +10,10 @@ ghost use Rattle.kc_text.specs.declared.variables.Value.{Value as NameValue};
 ghost use Rattle.kc_text.specs.Expansion.{names_in, expansion, then_on};
 ghost use Rattle.std.specs.String.{string_bytes};
 ghost use Rattle.kc_text.specs.declared.variables.Assignment.TheVariants.{AtOnce};
-ghost use Rattle.kc_text.specs.declared.variables.Value.TheVariants.{Recursive, Simple};
 ghost use Rattle.kc_text.specs.References.{value_pieces};
 ghost use Rattle.kc_text.specs.Scanning.{progress_of};
 
-use crate::bytes::{behind, behind_blanks, name_len, trimmed};
+use crate::bytes::{behind_blanks, name_len, text_after, trimmed};
 use crate::expansion::{Expansion, Scope, expand, value_pieces};
 use crate::fault::{LineFault, TextFault, TextProblem};
 use crate::text::{Text, TextRef};
@@ -67,9 +66,9 @@ fn assignment_in<'a>(name: &'a str, text: &'a str) -> Option<Definition<'a>>
     ensures { result ≡ assignment_in name.now text.now }
 {
     let (assignment, value) = match text.as_bytes() {
-        [b'=', ..] => (Assignment::Later, behind(text, 0)),
-        [b':', b'=', ..] => (Assignment::AtOnce, behind(text, 1)),
-        [b'+', b'=', ..] => (Assignment::Append, behind(text, 1)),
+        [b'=', ..] => (Assignment::Later, text_after(text, 0)),
+        [b':', b'=', ..] => (Assignment::AtOnce, text_after(text, 1)),
+        [b'+', b'=', ..] => (Assignment::Append, text_after(text, 1)),
         _ => return None,
     };
     Some(Definition {
@@ -249,7 +248,7 @@ fn define_at_once(
 ) -> Result<(), LineFault>
     ensures { ReadsAfter result (names_in variables.new) (assigned (texts_in outside.now) (names_in variables.old) AtOnce name.now value.now) }
 {
-    let mut out = Expansion::behind(alloc, "");
+    let mut out = Expansion::after(alloc, "");
     expand_value(alloc, outside, variables, value, &mut out)?;
     variables.define(name, Value::Simple(Text::new(out.text)))?;
     Ok(())
@@ -286,77 +285,27 @@ fn append(
 ) -> Result<(), LineFault>
     ensures { ReadsAfter result (names_in variables.new) (appended (texts_in outside.now) (names_in variables.old) name.now value.now) }
 {
-    if let Some(Value::Simple(text)) = variables.get(name) {
-        let addition = addition_behind(alloc, outside, variables, text.as_str(), value)?;
-        append_to_simple(alloc, variables, name, addition.as_str())?;
-        return Ok(());
-    }
-    append_later(alloc, variables, name, value)?;
+    let addition = addition_to(alloc, outside, variables, name, value)?;
+    let meant = variables.take(name);
+    let value = value_with(meant, addition)?;
+    variables.define(name, value)?;
     Ok(())
 }
 
-/// Appends a value to the text of a name that is expanded at each use; else the name gets the value alone.
-fn append_later(
-    alloc: Global,
-    variables: &mut Variables,
-    name: &str,
-    value: &str,
-) -> Result<(), AllocError>
-    ensures { OnOk result (names_in variables.new ≡ with name.now (Recursive (behind_recursive (names_in variables.old name.now) value.now)) (names_in variables.old)) }
-{
-    let meant = variables.take(name);
-    let text = behind_recursive(alloc, meant, value)?;
-    variables.define(name, Value::Recursive(text))
-}
-
-/// The text of a name that each use expands, with a value appended to it after one space; else the value alone.
-fn behind_recursive(alloc: Global, meant: Option<Value>, value: &str) -> Result<Text, AllocError>
-    ensures { IfOk result (λ t. t ≡ behind_recursive meant value.now) }
+/// The value of a name with bytes appended to its text; a name without definition has the bytes for a text that each use
+/// expands.
+fn value_with(meant: Option<Value>, addition: String) -> Result<Value, AllocError>
+    ensures { IfOk result (λ v. v ≡ value_with meant (text_meant meant ++ string_bytes addition)) }
 {
     match meant {
-        Some(Value::Recursive(text)) => behind_space(text, value),
-        Some(Value::Simple(_text)) => Text::copy_of(alloc, value),
-        None => Text::copy_of(alloc, value),
-    }
-}
-
-/// A text with one space and another text appended, without a copy of it.
-fn behind_space(text: Text, other: &str) -> Result<Text, AllocError>
-    ensures { IfOk result (λ t. t ≡ text ++ 32 ∷ other.now) }
-{
-    let mut joined = text.into_string();
-    joined.push(' ')?;
-    joined.push_str(other)?;
-    Ok(Text::new(joined))
-}
-
-/// Appends bytes to the text of a name that no use expands; else the name gets the bytes alone.
-fn append_to_simple(
-    alloc: Global,
-    variables: &mut Variables,
-    name: &str,
-    bytes: &str,
-) -> Result<(), AllocError>
-    ensures { OnOk result (names_in variables.new ≡ with name.now (Simple (behind_simple (names_in variables.old name.now) bytes.now)) (names_in variables.old)) }
-{
-    let meant = variables.take(name);
-    let text = behind_simple(alloc, meant, bytes)?;
-    variables.define(name, Value::Simple(text))
-}
-
-/// The text of a name that no use expands, with bytes appended to it; else the bytes alone.
-fn behind_simple(alloc: Global, meant: Option<Value>, bytes: &str) -> Result<Text, AllocError>
-    ensures { IfOk result (λ t. t ≡ behind_simple meant bytes.now) }
-{
-    match meant {
-        Some(Value::Simple(text)) => joined_behind(text, bytes),
-        Some(Value::Recursive(_text)) => Text::copy_of(alloc, bytes),
-        None => Text::copy_of(alloc, bytes),
+        Some(Value::Recursive(text)) => Ok(Value::Recursive(joined(text, addition.as_str())?)),
+        Some(Value::Simple(text)) => Ok(Value::Simple(joined(text, addition.as_str())?)),
+        None => Ok(Value::Recursive(Text::new(addition))),
     }
 }
 
 /// A text with bytes appended, without a copy of it.
-fn joined_behind(text: Text, bytes: &str) -> Result<Text, AllocError>
+fn joined(text: Text, bytes: &str) -> Result<Text, AllocError>
     ensures { IfOk result (λ t. t ≡ text ++ bytes.now) }
 {
     let mut joined = text.into_string();
@@ -364,8 +313,37 @@ fn joined_behind(text: Text, bytes: &str) -> Result<Text, AllocError>
     Ok(Text::new(joined))
 }
 
-/// The bytes that are appended to a text: one space and the expanded text of a value. The text is not copied.
-fn addition_behind(
+/// The bytes that are appended to the text of a name: one space and a value, which is expanded where the text was. A
+/// name without definition gets the value alone.
+fn addition_to(
+    alloc: Global,
+    outside: &Vars,
+    variables: &Variables,
+    name: &str,
+    value: &str,
+) -> Result<String, LineFault>
+    ensures { ReadsBy (λ s. text_meant (names_in variables.now name.now) ++ string_bytes s) result (text_with (texts_in outside.now) (names_in variables.now) (names_in variables.now name.now) value.now) }
+{
+    match variables.get(name) {
+        Some(Value::Simple(text)) => {
+            expanded_addition(alloc, outside, variables, text.as_str(), value)
+        }
+        Some(Value::Recursive(_)) => Ok(spaced(alloc, value)?),
+        None => Ok(String::from_str(alloc, value)?),
+    }
+}
+
+/// One space and a value.
+fn spaced(alloc: Global, value: &str) -> Result<String, AllocError>
+    ensures { IfOk result (λ s. string_bytes s ≡ 32 ∷ value.now) }
+{
+    let mut out = String::from_str(alloc, " ")?;
+    out.push_str(value)?;
+    Ok(out)
+}
+
+/// One space and the expanded text of a value. The text before them is not copied.
+fn expanded_addition(
     alloc: Global,
     outside: &Vars,
     variables: &Variables,
@@ -374,7 +352,7 @@ fn addition_behind(
 ) -> Result<String, LineFault>
     ensures { ReadsBy (λ s. text.now ++ string_bytes s) result (then_on (text_behind (texts_in outside.now) (names_in variables.now) text.now value.now) (λ p. Ok p.text)) }
 {
-    let mut out = Expansion::behind(alloc, text);
+    let mut out = Expansion::after(alloc, text);
     out.put(" ")?;
     expand_value(alloc, outside, variables, value, &mut out)?;
     Ok(out.text)

@@ -25,8 +25,8 @@ returns-in-Some-clause-begins c =
     let found = c.in-Some.ensures in
     let some : 0 < length text = search rules in
     let none : 0 ≡ prefix_len is_no_dollar text = omega (arith, c.plain_len-len.ensures.count) in
-    let named = ap reference_after_dollar (sym c.behind.ensures) ∙ found.finds.0 in
-    let rest = found.finds.1 ∙ ap (drop (reference_len c.in-Some.name.now)) c.behind.ensures in
+    let named = ap reference_after_dollar (sym c.text_after.ensures) ∙ found.finds.0 in
+    let rest = found.finds.1 ∙ ap (drop (reference_len c.in-Some.name.now)) c.text_after.ensures in
     value_pieces-reference text c.in-Some.name.now some (sym none) named ∙ ap (λ bs. reference c.in-Some.name.now ∷ value_pieces bs) (sym rest)
 
 pub returns-then-len-gt0-clause-leaves : goal.returns-then-len-gt0-clause-leaves
@@ -35,6 +35,6 @@ returns-then-len-gt0-clause-leaves c = ends_behind c.plain_len-len.result c.args
 pub returns-in-Some-clause-leaves : goal.returns-in-Some-clause-leaves
 returns-in-Some-clause-leaves c =
     let text = c.args.text.now in
-    let opened = c.behind.result.now in
+    let opened = c.text_after.result.now in
     let after = c.in-Some.after.now in
-    ends_through text opened after (ends_behind 1 text opened c.behind.ensures) (ends_behind (reference_len c.in-Some.name.now) opened after c.in-Some.ensures.finds.1)
+    ends_through text opened after (ends_behind 1 text opened c.text_after.ensures) (ends_behind (reference_len c.in-Some.name.now) opened after c.in-Some.ensures.finds.1)

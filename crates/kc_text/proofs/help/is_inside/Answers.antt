@@ -23,7 +23,7 @@ returns-else-column-reached c =
     let i = c.loop-byte.byte-index in
     let fails : is_blank (get_or text i 0) ≡ false = sym c.is_blank.ensures ∙ c.if-not-is_blank.true in
     let ends = run_ends is_blank text i c.loop-byte.invariant.blanks fails in
-    c.begins_with_end.ensures ∙ ap begins_with_end c.behind_blanks.ensures
+    c.begins_with_end.ensures ∙ ap begins_with_end c.behind_blanks.ensures.value
     ∙ ap (λ bs. begins_with_end (behind_blanks bs)) (sym c.as_bytes-byte-items.ensures.value)
     ∙ inside_near c.args.column text i c.loop-byte.reached c.loop-byte.invariant.column ends (grind (arith, nat_tests))
     ∙ ap (λ bs. is_inside c.args.column (first_of bs)) c.as_bytes-byte-items.ensures.value

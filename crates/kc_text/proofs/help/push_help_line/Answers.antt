@@ -15,7 +15,7 @@ returns c =
     let spaces : c.loop.counter - c.args.column ≡ indentation line - c.args.column = omega (arith, c.indentation-end.ensures) in
     let indented : string_bytes c.loop.out ≡ out ++ replicate (indentation line - c.args.column) 32 =
     c.loop.invariant.out ∙ ap (λ n. out ++ replicate n 32) spaces in
-    let kept : c.before_blanks.result.now ≡ before_blanks (behind_blanks line) = c.before_blanks.ensures ∙ ap before_blanks c.behind_blanks.ensures in
+    let kept : c.before_blanks.result.now ≡ before_blanks (behind_blanks line) = c.before_blanks.ensures ∙ ap before_blanks c.behind_blanks.ensures.value in
     let pushed : string_bytes c.push_str.new.self ≡ (out ++ replicate (indentation line - c.args.column) 32) ++ before_blanks (behind_blanks line) =
     c.in_ok-push_str.ensures.bytes ∙ (λ i. indented i ++ kept i) in
     rw text (on_ok c.push-2.result _ _ _ _ c.push-2.ensures.bytes ((λ i. pushed i ++ c.push-2.ensures.ascii (omega arith) i) ∙ simp append_assoc))

@@ -12,7 +12,7 @@ pub returns-in-10-clause-lines : goal.returns-in-10-clause-lines
 returns-in-10-clause-lines c =
     let text = c.args.text.now in
     let feed : slice_index text 0 ≡ 10 = search rules in
-    ap lines (first_is text 10 c.requires.some feed) ∙ lines-empty (drop 1 text) ∙ ap (λ bs. [] ∷ lines bs) (sym c.behind.ensures)
+    ap lines (first_is text 10 c.requires.some feed) ∙ lines-empty (drop 1 text) ∙ ap (λ bs. [] ∷ lines bs) (sym c.text_after.ensures)
 
 pub returns-then-len-text-clause-lines : goal.returns-then-len-text-clause-lines
 returns-then-len-text-clause-lines c =
@@ -23,8 +23,8 @@ split_at-requires c =
     let text = c.args.text.now in
     subst (IsCharBoundary text) (sym c.line_len-len.ensures) (boundary_before_stop (λ b. not (is_feed b)) feed_is_ascii text)
 
-pub behind-requires-2-clause-ascii : goal.behind-requires-2-clause-ascii
-behind-requires-2-clause-ascii c =
+pub text_after-requires-2-clause-ascii : goal.text_after-requires-2-clause-ascii
+text_after-requires-2-clause-ascii c =
     let text = c.args.text.now in
     let len = c.line_len-len.ensures in
     let inside : position_or_len is_feed text < length text = omega (arith, len, c.if-len-text.false, prefix_len-le-length (λ b. not (is_feed b)) text) in
@@ -37,5 +37,5 @@ returns-clause-lines c =
     let len = c.line_len-len.ensures in
     let inside : position_or_len is_feed text < length text = omega (arith, len, c.if-len-text.false, prefix_len-le-length (λ b. not (is_feed b)) text) in
     let line = c.before_return.ensures ∙ ap strip_carriage_return (c.split_at.ensures.front ∙ ap (λ n. take n text) len) in
-    let rest = c.behind-2.ensures ∙ ap (drop 1) (c.split_at.ensures.back ∙ ap (λ n. drop n text) len) ∙ drop-drop 1 (position_or_len is_feed text) text in
+    let rest = c.text_after-2.ensures ∙ ap (drop 1) (c.split_at.ensures.back ∙ ap (λ n. drop n text) len) ∙ drop-drop 1 (position_or_len is_feed text) text in
     lines-cut text inside ∙ (λ i. sym line i ∷ lines (sym rest i))

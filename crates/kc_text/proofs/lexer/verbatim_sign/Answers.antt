@@ -8,5 +8,5 @@ pub returns-in-Some-clause-shows : goal.returns-in-Some-clause-shows
 returns-in-Some-clause-shows c = λ names outside.
     let found = c.in-Some in
     let lexes = raw_tokens-operator c.args.text.now found.operator found.last c.requires.some c.requires.no_blank c.requires.no_word found.ensures.reads
-    ∙ ap (λ bs. operator found.operator ∷ raw_tokens bs) (sym c.behind.ensures) in
-    shows_first names outside (raw_tokens c.args.text.now) c.behind.result.now (operator found.operator) _ lexes refl
+    ∙ ap (λ bs. operator found.operator ∷ raw_tokens bs) (sym c.text_after.ensures) in
+    shows_first names outside (raw_tokens c.args.text.now) c.text_after.result.now (operator found.operator) _ lexes refl

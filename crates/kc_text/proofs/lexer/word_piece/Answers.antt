@@ -27,8 +27,8 @@ returns-in-Some-clause-lexes c = λ ps.
     let some : 0 < length text = search rules in
     let dollar : slice_index text 0 ≡ 36 = search rules in
     let found = c.in-Some.ensures in
-    let named = ap reference_after_dollar (sym c.behind.ensures) ∙ found.finds.0 in
-    let rest = found.finds.1 ∙ ap (drop (reference_len name)) c.behind.ensures in
+    let named = ap reference_after_dollar (sym c.text_after.ensures) ∙ found.finds.0 in
+    let rest = found.finds.1 ∙ ap (drop (reference_len name)) c.text_after.ensures in
     ap (lexed 0 (in_word ps)) (first_is text 36 some dollar) ∙ lexed-word_reference ps (drop 1 text) name named
     ∙ ap (lexed 0 (in_word (ps ++ reference name ∷ []))) (sym rest)
 
@@ -38,6 +38,6 @@ returns-then-len-gt0-clause-leaves c = ends_behind c.word_len-len.result c.args.
 pub returns-in-Some-clause-leaves : goal.returns-in-Some-clause-leaves
 returns-in-Some-clause-leaves c =
     let text = c.args.text.now in
-    let opened = c.behind.result.now in
+    let opened = c.text_after.result.now in
     let after = c.in-Some.after.now in
-    ends_through text opened after (ends_behind 1 text opened c.behind.ensures) (ends_behind (reference_len c.in-Some.name.now) opened after c.in-Some.ensures.finds.1)
+    ends_through text opened after (ends_behind 1 text opened c.text_after.ensures) (ends_behind (reference_len c.in-Some.name.now) opened after c.in-Some.ensures.finds.1)

@@ -7,8 +7,8 @@ use Rattle.kc_text.proofs.stops.past_quotes.Goals as goal
 pub loop-piece-init : goal.loop-piece-init
 loop-piece-init c = record {
   utf8 = search rules;
-  found = so_far_begin (in_quotes c.args.quote) (drop 1 c.args.quoted.now) c.behind-rest.result.now c.behind-rest.ensures;
-  ends = ends_behind 1 c.args.quoted.now c.behind-rest.result.now c.behind-rest.ensures;
+  found = so_far_begin (in_quotes c.args.quote) (drop 1 c.args.quoted.now) c.text_after-rest.result.now c.text_after-rest.ensures;
+  ends = ends_behind 1 c.args.quoted.now c.text_after-rest.result.now c.text_after-rest.ensures;
 }
 
 pub returns-then-is_malformed : goal.returns-then-is_malformed
@@ -40,4 +40,4 @@ returns c =
     let rest = c.loop-piece.rest.now in
     let some : 0 < length rest = omega (arith, eqb-false _ 0 (sym c.is_empty.ensures ∙ c.if-is_empty.false)) in
     quotes_pass c.args.quote c.args.quoted.now rest c.requires.kind c.requires.some c.requires.begins c.loop-piece.invariant.found c.loop-piece.invariant.ends
-    c.behind.result.now c.behind.ensures some (c.in_default.ensures.none some)
+    c.text_after.result.now c.text_after.ensures some (c.in_default.ensures.none some)

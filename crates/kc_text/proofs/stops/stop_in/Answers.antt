@@ -7,13 +7,13 @@ use Rattle.kc_text.proofs.stops.stop_in.Goals as goal
 
 pub loop-passed-init : goal.loop-passed-init
 loop-passed-init c =
-    let begun = c.skip_blanks-rest in
+    let begun = c.behind_blanks-rest in
     let line = c.args.line.now in
     record { utf8 = search rules; first = begun.ensures.first; read = read_to_begin line begun.result.now (prefix_len is_blank line) begun.ensures.value begun.ensures.same }
 
 pub loop-passed-preserved : goal.loop-passed-preserved
 loop-passed-preserved c =
-    let next = c.skip_blanks-rest-in-Read in
+    let next = c.behind_blanks-rest-in-Read in
     let rest = c.loop-passed.rest.now in
     let after = c.in-Read.after.now in
     let passes = subst (IsPassed rest) c.in-Read.is c.in-Some.ensures.passes in

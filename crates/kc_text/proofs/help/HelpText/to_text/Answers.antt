@@ -9,7 +9,7 @@ use Rattle.kc_text.proofs.help.HelpText.to_text.Goals as goal
 
 pub returns : goal.returns
 returns c =
-    let all = lines c.self.inside.behind.now in
+    let all = lines c.self.inside.rest.now in
     let those = behind_passed all in
     let text = λ (t : Bor (List ℕ)). t.now in
     let back : lines c.skip_blank_lines.result.1.now ≡ those = c.skip_blank_lines.ensures.rest ∙ ap (λ n. drop n all) c.skip_blank_lines.ensures.count in

@@ -1,5 +1,5 @@
 use Rattle.std.proofs.lemmas.Str.{IsCharBoundary-after_ascii}
-use Rattle.kc_text.proofs.bytes.behind.Goals as goal
+use Rattle.kc_text.proofs.bytes.text_after.Goals as goal
 
 pub range_from-requires : goal.range_from-requires
 range_from-requires c = λ _. IsCharBoundary-after_ascii c.args.text.now c.args.place c.utf8.text c.requires.within c.requires.ascii
