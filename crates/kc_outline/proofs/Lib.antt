@@ -13,6 +13,7 @@ pub mod Examples
 pub mod FaultyLaws
 pub mod FirstLaws
 pub mod FormLaws
+pub mod LendingLaws
 pub mod MemberLaws
 pub mod MenuLaws
 pub mod NameLaws

@@ -7,6 +7,7 @@ pub mod FaultyLines
 pub mod FirstProblem
 pub mod FormMistakes
 pub mod Grouped
+pub mod Lending
 pub mod LineFaults
 pub mod Members
 pub mod NameList

@@ -1,15 +1,19 @@
 //! What one more line changes of an outline, a part at a time. A number that names nothing changes nothing.
 
 ghost use Rattle.std.specs.Prelude.{◌≡◌, [], ◌∷◌, ◌++◌, None, Some, true, false, option_map, IfOk, OnOk};
+ghost use Rattle.std.specs.Borrow.{sem, LendsIf};
 ghost use Rattle.std.specs.Option.{option_map_or};
 ghost use Rattle.kc_outline.specs.declared.block.BlockKind.TheVariants.{Menu, If, Choice as ChoiceBlock};
 ghost use Rattle.kc_outline.specs.declared.entry.Entry.TheVariants.{EndMenu};
 ghost use Rattle.kc_outline.specs.TreeOf.{choice_default, menu_entry, choice_entry, comment_entry};
 ghost use Rattle.kc_outline.specs.Adding.{with_some, change_at};
 ghost use Rattle.kc_outline.specs.Adding.{new_definition, definition_with_depends, definition_with_prompt, definition_with_default, definition_with_range, definition_with_select, definition_with_imply, change_definition, definition_entry};
-ghost use Rattle.kc_outline.specs.Adding.{symbol_with_type, symbol_with_modules, symbol_yes_in_allnoconfig, change_symbol, numbered, placed, selecting, selected, implied, selects_of, implies_of};
+ghost use Rattle.kc_outline.specs.Adding.{symbol_with_type, change_symbol, numbered, placed, selecting, selected, implied, selects_of, implies_of};
 ghost use Rattle.kc_outline.specs.Adding.{new_block, block_with_depends, block_with_visible, change_block, new_comment, comment_with_depends, change_comment};
 ghost use Rattle.kc_outline.specs.Adding.{choice_with_prompt, choice_with_default, optional_choice, change_choice, with_member, with_choice};
+ghost use Rattle.kc_outline.specs.Lending.{IsChanged};
+ghost use Rattle.kc_outline.specs.contracts.outline.Outline.{the_row};
+ghost use Rattle.kc_outline.specs.contracts.symbol.Symbol as symbol;
 
 use super::Outline;
 use crate::block::{Block, BlockKind, Comment};
@@ -19,7 +23,7 @@ use crate::definition::Definition;
 use crate::entry::Entry;
 use crate::id::{BlockId, ChoiceId, CommentId};
 use crate::room::push_one;
-use crate::symbol::Reverse;
+use crate::symbol::{Reverse, Symbol};
 use kc_statement::{DefaultValue, Expr, Prompt, Range, SymId, SymbolType};
 use kc_text::Text;
 use std::alloc::{AllocError, Global};
@@ -165,29 +169,23 @@ impl Outline {
         }
         Ok(())
     }
-
-    /// Adds a type to the symbol and a prompt to the definition or the choice that owns them.
-    #[inline(never)]
-    pub(super) fn add_typed_prompt(
-        &mut self,
-        owner: Option<Owner>,
-        kind: SymbolType,
-        prompt: Prompt,
-    ) -> Result<(), AllocError>
-        ensures { OnOk result (self.new ≡ record self.old {
-          symbols = change_symbol owner (symbol_with_type kind) self.old.symbols;
-          definitions = change_definition owner (definition_with_prompt prompt) self.old.definitions;
-          choices = change_choice owner (choice_with_prompt prompt) self.old.choices;
-        }) }
-    {
-        self.add_type(owner, kind)?;
-        self.add_prompt(owner, prompt)
-    }
 }
 
 // Each of these writes at one place of a list.
 #[tactic(auto, using(crate::proofs::ChangeLaws::change_laws))]
 impl Outline {
+    /// The symbol whose definition owns a line, to be changed.
+    #[tactic(auto, using(crate::proofs::ChangeLaws::change_laws, crate::proofs::LendingLaws::change_at_result))]
+    pub(super) fn symbol_mut(&mut self, owner: Option<Owner>) -> Option<&mut Symbol>
+        ensures* lent { sem 𝓛 (LendsIf the_row symbol.the_row self.entry result (λ x. record self.old { symbols = change_symbol owner (λ _. x) self.old.symbols }) self.old) }
+        ensures owned { IsChanged (change_symbol owner) self.old.symbols result }
+    {
+        match owner {
+            Some(Owner::Definition(symbol, _)) => self.symbols.get_mut(symbol.0 as usize),
+            _ => None,
+        }
+    }
+
     /// Gives a symbol the choice in which a `config` line defines it.
     fn add_symbol_choice(&mut self, symbol: SymId, choice: Option<ChoiceId>)
         ensures { self.new ≡ record self.old { symbols = placed symbol choice self.old.symbols } }
@@ -231,26 +229,19 @@ impl Outline {
     ) -> Result<(), AllocError>
         ensures { OnOk result (self.new ≡ record self.old { symbols = change_symbol owner (symbol_with_type kind) self.old.symbols }) }
     {
-        let Some(Owner::Definition(symbol, _)) = owner else {
-            return Ok(());
-        };
-        let Some(symbol) = self.symbols.get_mut(symbol.0 as usize) else {
-            return Ok(());
-        };
-        symbol.add_type(kind)
+        match self.symbol_mut(owner) {
+            Some(symbol) => symbol.add_type(kind),
+            None => Ok(()),
+        }
     }
 
     /// Notes that the owner's symbol selects or implies.
     fn add_own_selection(&mut self, owner: Option<Owner>)
         ensures { self.new ≡ record self.old { symbols = selecting owner self.old.symbols } }
     {
-        let Some(Owner::Definition(symbol, _)) = owner else {
-            return;
-        };
-        let Some(symbol) = self.symbols.get_mut(symbol.0 as usize) else {
-            return;
-        };
-        symbol.add_own_selection();
+        if let Some(symbol) = self.symbol_mut(owner) {
+            symbol.add_own_selection();
+        }
     }
 
     /// Adds an `optional` line to the choice that owns it.
@@ -264,32 +255,6 @@ impl Outline {
             return;
         };
         choice.add_optional();
-    }
-
-    /// Adds a `modules` line to the owner's symbol.
-    pub(super) fn add_modules(&mut self, owner: Option<Owner>)
-        ensures { self.new ≡ record self.old { symbols = change_symbol owner symbol_with_modules self.old.symbols } }
-    {
-        let Some(Owner::Definition(symbol, _)) = owner else {
-            return;
-        };
-        let Some(symbol) = self.symbols.get_mut(symbol.0 as usize) else {
-            return;
-        };
-        symbol.add_modules();
-    }
-
-    /// Adds an `option allnoconfig_y` line to the owner's symbol.
-    pub(super) fn add_yes_in_allnoconfig(&mut self, owner: Option<Owner>)
-        ensures { self.new ≡ record self.old { symbols = change_symbol owner symbol_yes_in_allnoconfig self.old.symbols } }
-    {
-        let Some(Owner::Definition(symbol, _)) = owner else {
-            return;
-        };
-        let Some(symbol) = self.symbols.get_mut(symbol.0 as usize) else {
-            return;
-        };
-        symbol.add_yes_in_allnoconfig();
     }
 
     /// Adds a `depends on` line to what owns it.

@@ -83,7 +83,8 @@ impl Outline {
             return Ok(());
         }
         let prompt = read_prompt(alloc, &self.names, line)?;
-        self.add_typed_prompt(owner, kind, prompt)?;
+        self.add_type(owner, kind)?;
+        self.add_prompt(owner, prompt)?;
         Ok(())
     }
 
@@ -236,7 +237,9 @@ impl Outline {
         ensures stop { (nearest : Option Keyword) → IfErr result (IsNotAdded nearest self.old self.new line.now) }
     {
         read_alone(line)?;
-        self.add_modules(owner);
+        if let Some(symbol) = self.symbol_mut(owner) {
+            symbol.add_modules();
+        }
         Ok(())
     }
 
@@ -259,9 +262,12 @@ impl Outline {
         ensures added { OnOk result ((nearest : Option Keyword) (block : Option BlockId) (choice : Option ChoiceId) → IsAdded nearest block choice owner line.now self.old self.new) }
         ensures stop { (nearest : Option Keyword) → IfErr result (IsNotAdded nearest self.old self.new line.now) }
     {
-        match read_option(line)? {
-            Setting::Modules => self.add_modules(owner),
-            Setting::AllNoConfigYes => self.add_yes_in_allnoconfig(owner),
+        let setting = read_option(line)?;
+        if let Some(symbol) = self.symbol_mut(owner) {
+            match setting {
+                Setting::Modules => symbol.add_modules(),
+                Setting::AllNoConfigYes => symbol.add_yes_in_allnoconfig(),
+            }
         }
         Ok(())
     }
