@@ -19,6 +19,7 @@ pub mod GivenValues
 pub mod Kept
 pub mod KeptLaws
 pub mod Known
+pub mod LineValues
 pub mod NodeLists
 pub mod NodeValues
 pub mod Numerals

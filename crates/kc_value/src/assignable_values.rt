@@ -1,61 +1,70 @@
 //! The values that a user can give a symbol with an effect.
 
-ghost use Rattle.std.specs.Prelude.{◌≡◌, [], ◌∷◌, ◌++◌, ◌||◌, ◌&&◌, false, Some, IfOk, OnOk, if◌then◌else◌, filter, is_some, unwrap_or};
+ghost use Rattle.std.specs.Prelude.{◌≡◌, [], ◌∷◌, false, Some, IfOk, filter, is_some};
+ghost use Rattle.std.specs.List.{list_any};
 ghost use Rattle.kc_tree.specs.declared.node.Node.{Node};
 ghost use Rattle.kc_tree.specs.declared.node.Node.TheVariants.{Vis, Val};
-ghost use Rattle.kc_statement.specs.declared.symbol_type.SymbolType.TheVariants.{Tristate};
 ghost use Rattle.kc_tree.specs.declared.user_value.UserVal.TheVariants.{Tri as TriVal};
 ghost use Rattle.kc_statement.specs.declared.tri.Tri.TheVariants.{No, Module, Yes};
-ghost use Rattle.kc_statement.specs.Tristate.{greatest, least};
 ghost use Rattle.kc_tree.specs.Accepted.{IsAccepted};
 ghost use Rattle.kc_tree.specs.Nodes.{IsNodeOf};
-ghost use Rattle.kc_statement.specs.SymbolTypes.{is_tri_type};
 ghost use Rattle.kc_tree.specs.Uses.{Uses};
-ghost use Rattle.kc_outline.specs.TreeValue.{same_type};
 ghost use Rattle.kc_outline.specs.TreeValue.{choice_of};
-ghost use Rattle.kc_value.specs.Assignable.{same_tri, is_shown_with_some, assignable_values};
+ghost use Rattle.kc_value.specs.Assignable.{same_tri, values_of_type, is_shown_with_some, assignable_values};
 ghost use Rattle.kc_value.specs.Known.{given};
-ghost use Rattle.kc_value.specs.Rule.{in_type, user_part};
+ghost use Rattle.kc_value.specs.LineValues.{shown_by};
 ghost use Rattle.kc_value.specs.Solution.{solution, AreSolved, IsOnlySolution};
 ghost use Rattle.kc_value.specs.UserValues.{UserValues, IsUserFor};
 
 use crate::asked_values::values_of_used;
 use crate::known::Known;
 use crate::resolver::Resolver;
-use crate::symbol_value::{LineValues, line_values, shown_tri};
+use crate::symbol_value::{LineValues, line_values};
 use kc_tree::{Node, SymId, SymbolType, Tree, Tri, UserVal};
 use std::alloc::{AllocError, Global};
 
-/// What a symbol of this visibility shows with a user value; `lines` is what its lines give.
-fn shown_with(lines: LineValues, visibility: Tri, value: Tri) -> Tri
-    ensures { result ≡ in_type lines.has_modules (greatest (unwrap_or (user_part visibility (Some (TriVal value)))
-        (least (greatest lines.default lines.implied) lines.direct)) lines.selected) }
+/// The values of a type: n and y of a bool, n, m and y of a tristate, and none of a string, an int or a hex.
+fn values_of_type(kind: SymbolType) -> &'static [Tri]
+    ensures { result.now ≡ values_of_type kind }
 {
-    shown_tri(lines, visibility, Some(&UserVal::Tri(value)))
-}
-
-/// Whether a value is among those that are shown with n, with m and with y; m counts for a tristate alone, and a type
-/// that is neither bool nor tristate has none of them.
-fn is_shown(kind: SymbolType, with_no: Tri, with_module: Tri, with_yes: Tri, value: Tri) -> bool
-    ensures { result ≡ (is_tri_type kind && (same_tri with_no value
-        || ((same_type kind Tristate && same_tri with_module value) || same_tri with_yes value))) }
-{
-    let is_module_shown = match kind {
-        SymbolType::Bool => false,
-        SymbolType::Tristate => with_module == value,
-        SymbolType::String | SymbolType::Int | SymbolType::Hex => return false,
-    };
-    with_no == value || is_module_shown || with_yes == value
-}
-
-/// Appends a value where it is wanted.
-fn push_if(values: &mut Vec<Tri>, value: Tri, is_wanted: bool) -> Result<(), AllocError>
-    ensures { OnOk result (values.new.items ≡ (if is_wanted then values.old.items ++ value ∷ [] else values.old.items)) }
-{
-    if is_wanted {
-        values.push(value)?;
+    match kind {
+        SymbolType::Bool => &[Tri::No, Tri::Yes],
+        SymbolType::Tristate => &[Tri::No, Tri::Module, Tri::Yes],
+        SymbolType::String | SymbolType::Int | SymbolType::Hex => &[],
     }
-    Ok(())
+}
+
+/// Whether a symbol of this visibility shows a value with a user value; `lines` is what its lines give.
+fn is_shown_with(lines: LineValues, visibility: Tri, given: Tri, value: Tri) -> bool
+    ensures { result ≡ same_tri (shown_by lines visibility (Some (TriVal given))) value }
+{
+    lines.shown(visibility, Some(&UserVal::Tri(given))) == value
+}
+
+/// Whether it shows a value with one of some user values.
+fn is_shown(lines: LineValues, visibility: Tri, given: &[Tri], value: Tri) -> bool
+    ensures { result ≡ list_any (λ v. same_tri (shown_by lines visibility (Some (TriVal v))) value) given.now }
+{
+    given
+        .iter()
+        .any(|given| is_shown_with(lines, visibility, *given, value))
+}
+
+/// Those of n, m and y, in this order, that it shows with one of some user values. The error comes where memory is refused.
+fn shown_with_some(
+    alloc: Global,
+    lines: LineValues,
+    visibility: Tri,
+    given: &[Tri],
+) -> Result<Vec<Tri>, AllocError>
+    ensures { IfOk result (λ v. v.items
+        ≡ filter (λ w. list_any (λ v. same_tri (shown_by lines visibility (Some (TriVal v))) w) given.now) (No ∷ Module ∷ Yes ∷ [])) }
+{
+    values_of_type(SymbolType::Tristate)
+        .iter()
+        .copied()
+        .filter(|value| is_shown(lines, visibility, given, *value))
+        .collect(alloc)
 }
 
 /// The values that a symbol, which is no member of a choice, shows for some user value of its type, in the order n, m,
@@ -66,32 +75,12 @@ fn shown_values(alloc: Global, known: &Known<'_>, id: SymId) -> Result<Vec<Tri>,
     ensures { (u : UserValues) → IsUserFor known.now.tree u → IfOk result (λ v. v.items
         ≡ filter (is_shown_with_some known.now.tree u (given known.now) id) (No ∷ Module ∷ Yes ∷ [])) }
 {
-    let mut values = Vec::with_capacity(alloc, 3)?;
     let Some(symbol) = known.symbol(id) else {
-        return Ok(values);
+        return Ok(Vec::new(alloc));
     };
     let lines = line_values(known, symbol);
     let visibility = known.tri(Node::Vis(id));
-    let with_no = shown_with(lines, visibility, Tri::No);
-    let with_module = shown_with(lines, visibility, Tri::Module);
-    let with_yes = shown_with(lines, visibility, Tri::Yes);
-    let kind = symbol.kind();
-    push_if(
-        &mut values,
-        Tri::No,
-        is_shown(kind, with_no, with_module, with_yes, Tri::No),
-    )?;
-    push_if(
-        &mut values,
-        Tri::Module,
-        is_shown(kind, with_no, with_module, with_yes, Tri::Module),
-    )?;
-    push_if(
-        &mut values,
-        Tri::Yes,
-        is_shown(kind, with_no, with_module, with_yes, Tri::Yes),
-    )?;
-    Ok(values)
+    shown_with_some(alloc, lines, visibility, values_of_type(symbol.kind()))
 }
 
 /// Whether a symbol is a member of a choice.

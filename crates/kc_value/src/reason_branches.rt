@@ -62,8 +62,8 @@ fn line_reason(known: &Known<'_>, symbol: &Symbol, lines: LineValues) -> Reason
         is_selected p ≡ false → given_level p ≡ None → IsTriReason p result }
 {
     let by_default = in_type(lines.has_modules, lines.default.and(lines.direct));
-    let by_imply = lines.default.or(lines.implied).and(lines.direct);
-    if is_more(in_type(lines.has_modules, by_imply), by_default) {
+    let by_imply = in_type(lines.has_modules, lines.otherwise());
+    if is_more(by_imply, by_default) {
         return Reason::Implied(first_that_gives(known, symbol.implied(), lines.implied));
     }
     match default_place(known, symbol) {
@@ -85,8 +85,7 @@ pub(crate) fn tri_reason(
 {
     let lines = line_values(known, symbol);
     let given = user_tri(visibility, user);
-    let otherwise = lines.default.or(lines.implied).and(lines.direct);
-    let base = given.unwrap_or(otherwise);
+    let base = given.unwrap_or(lines.otherwise());
     let unselected = in_type(lines.has_modules, base);
     if is_more(
         in_type(lines.has_modules, base.or(lines.selected)),

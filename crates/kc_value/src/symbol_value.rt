@@ -1,6 +1,6 @@
 //! The visibility and the value of a symbol.
 
-ghost use Rattle.std.specs.Prelude.{◌≡◌, IfOk, not, slice_get, option_and_then, option_map, find, filter_map, unwrap_or};
+ghost use Rattle.std.specs.Prelude.{◌≡◌, IfOk, not, slice_get, option_and_then, option_map, find, filter_map};
 ghost use Rattle.std.specs.List.{position_or_len};
 ghost use Rattle.std.specs.Option.{option_copied, option_map_or, option_or};
 ghost use Rattle.kc_statement.specs.declared.tri.Tri.TheVariants.{No};
@@ -9,6 +9,7 @@ ghost use Rattle.kc_outline.specs.TreeValue.{definitions_of};
 ghost use Rattle.kc_value.specs.Conditions.{dependency};
 ghost use Rattle.kc_value.specs.ExprValue.{own_condition};
 ghost use Rattle.kc_value.specs.Known.{given};
+ghost use Rattle.kc_value.specs.LineValues.{has_line_by, otherwise, shown_by};
 ghost use Rattle.kc_value.specs.Defaults.{is_active};
 ghost use Rattle.kc_value.specs.Rule.{in_bool, has_modules, in_type, visibility, definition_default, default_value, reverse_value, reverse_values, direct, user_part, tri_rule, symbol_rule};
 
@@ -232,15 +233,32 @@ pub(crate) fn line_values(known: &Known<'_>, symbol: &Symbol) -> LineValues
     }
 }
 
-/// What a bool or tristate symbol shows: what the user chose where it is visible, else its default or what is implied,
-/// within its dependencies, and at least what is selected.
-pub(crate) fn shown_tri(lines: LineValues, visibility: Tri, user: Option<&UserVal>) -> Tri
-    ensures { result ≡ in_type lines.has_modules (greatest (unwrap_or (user_part visibility (option_copied user.entry))
-        (least (greatest lines.default lines.implied) lines.direct)) lines.selected) }
-{
-    let otherwise = lines.default.or(lines.implied).and(lines.direct);
-    let base = user_tri(visibility, user).unwrap_or(otherwise);
-    in_type(lines.has_modules, base.or(lines.selected))
+impl LineValues {
+    /// What counts where no user value does: the default or what is implied, within the dependencies.
+    pub(crate) fn otherwise(self) -> Tri
+        ensures { result ≡ otherwise self }
+    {
+        self.default.or(self.implied).and(self.direct)
+    }
+
+    /// What the symbol shows: what the user chose where it is visible, else what counts otherwise, and at least what is
+    /// selected.
+    pub(crate) fn shown(self, visibility: Tri, user: Option<&UserVal>) -> Tri
+        ensures { result ≡ shown_by self visibility (option_copied user.entry) }
+    {
+        let base = user_tri(visibility, user).unwrap_or(self.otherwise());
+        in_type(self.has_modules, base.or(self.selected))
+    }
+
+    /// Whether the `.config` has a line of the symbol.
+    fn has_line(self, visibility: Tri) -> bool
+        ensures { result ≡ has_line_by self visibility }
+    {
+        !visibility.is_no()
+            || !self.default.is_no()
+            || (!self.implied.is_no() && !self.direct.is_no())
+            || !self.selected.is_no()
+    }
 }
 
 /// The value of a bool or tristate symbol (kconfig-language.rst, "Menu attributes", and Kconfiglib, "tri_value"), and
@@ -249,12 +267,8 @@ fn tri_value(known: &Known<'_>, symbol: &Symbol, visibility: Tri, user: Option<&
     ensures { result ≡ tri_rule known.now.tree (given known.now) symbol.now visibility (option_copied user.entry) }
 {
     let lines = line_values(known, symbol);
-    let shown = shown_tri(lines, visibility, user);
-    let written = !visibility.is_no()
-        || !lines.default.is_no()
-        || (!lines.implied.is_no() && !lines.direct.is_no())
-        || !lines.selected.is_no();
-    Value::Shown(UserVal::Tri(shown), written)
+    let shown = lines.shown(visibility, user);
+    Value::Shown(UserVal::Tri(shown), lines.has_line(visibility))
 }
 
 /// The value of a symbol of this number: of a member of a choice whether it is selected, else by its type. The error is
