@@ -5,7 +5,8 @@ from typing import Iterator, List
 
 from fuzz_reports import EXCHANGED, LOST, PLACED, UNUSABLE_IN_MERGE, Run, line_problems, lines_of
 
-COUNTS = re.compile(rb"(\d+) wanted(?:, (\d+) kept)?: (\d+) lines?(?:; (\d+) lines? of (.*) lost)?")
+OTHERS = rb"(?:; (?:1 other value changes|\d+ other values change)(?:, 1 is lower|, \d+ are lower)?)?"
+COUNTS = re.compile(rb"(\d+) wanted(?:, (\d+) kept)?: (\d+) lines?" + OTHERS + rb"(?:; (\d+) lines? of (.*) lost)?")
 CHANGE = re.compile(rb"\w+: .* to .*(?:, wanted|, kept|, needed for \w+=.*|, needed to keep \w+=.*)", re.DOTALL)
 DEFINITION = re.compile(rb"  .+", re.DOTALL)
 NOT_FOUND = re.compile(rb"nothing was found that gives what is wanted|gave up: .*|impossible: no user values give \w+=.*", re.DOTALL)

@@ -15,7 +15,7 @@ use Rattle.kc_value.specs.Solution.{IsOnlySolution, solution}
 use Rattle.kc_value.specs.UserValues.{UserValues}
 use Rattle.kc_bounds.specs.declared.tri_set.TriSet.{TriSet}
 use Rattle.kc_bounds.specs.TriSets.{IsIn, any_tri}
-use Rattle.kc_bounds.specs.Bounds.{AreBounds, BoundsValue, Covers}
+use Rattle.kc_bounds.specs.Bounds.{AreScopedBounds, CoversIn, ScopedValue}
 
 any_in : (v : Tri) → IsIn any_tri v
 any_in No = record { there = refl }
@@ -23,9 +23,9 @@ any_in Module = record { there = refl }
 any_in Yes = record { there = refl }
 
 -- all values for each cell
-pub at_first : (t : TreeValue) → CellLaws t → ((w : UserValues) → IsOnlySolution t w (solution t w))
-    → AreBounds (record { tree = t; sets = replicate (cell_count t) any_tri })
-at_first t laws only = record {
+pub at_first : (t : TreeValue) (m : TriSet) → CellLaws t → ((w : UserValues) → IsOnlySolution t w (solution t w))
+    → AreScopedBounds (record { tree = t; modules = m; sets = replicate (cell_count t) any_tri })
+at_first t m laws only = record {
   whole = length-replicate (cell_count t) any_tri;
   covers = λ c inside w u.
       subst (λ s. IsIn s (as_tri (cell_worth t (solution t w) c))) (sym (get_or-replicate (cell_count t) (cell_number t c) any_tri any_tri (laws.below c inside)))
@@ -34,8 +34,8 @@ at_first t laws only = record {
 }
 
 -- a set in place of another
-pub with_set : (b : BoundsValue) (number : ℕ) (s : TriSet) → AreBounds b → CellLaws b.tree → number < cell_count b.tree
-    → Covers b.tree s (λ a. as_tri (cell_worth b.tree a (cell_at b.tree number))) → AreBounds (record { tree = b.tree; sets = set b.sets number s })
+pub with_set : (b : ScopedValue) (number : ℕ) (s : TriSet) → AreScopedBounds b → CellLaws b.tree → number < cell_count b.tree
+    → CoversIn b.tree b.modules s (λ a. as_tri (cell_worth b.tree a (cell_at b.tree number))) → AreScopedBounds (record { tree = b.tree; modules = b.modules; sets = set b.sets number s })
 with_set b number s are laws inside covers = record {
   whole = length-set b.sets number s ∙ are.whole;
   covers = λ c within w u.

@@ -5,12 +5,12 @@ ghost use Rattle.std.specs.Ordering.{int_cmp};
 ghost use Rattle.kc_statement.specs.declared.tri.Tri.{Tri};
 ghost use Rattle.kc_statement.specs.Formula.{compare};
 ghost use Rattle.kc_value.specs.ExprValue.{constant_of, expr_value, is_related, term_order, tri_number, yes_if};
-ghost use Rattle.kc_bounds.specs.Bounds.{Covers};
+ghost use Rattle.kc_bounds.specs.Bounds.{CoversIn};
 ghost use Rattle.kc_bounds.specs.Counting.{CountsWithin, is_fixed};
 ghost use Rattle.kc_bounds.specs.TriSets.{IsIn};
 ghost use Rattle.kc_statement.specs.declared.expr.Term.TheVariants.{Symbol};
 
-use crate::table::Bounds;
+use crate::table::ScopedBounds;
 use crate::tri_set::TriSet;
 use kc_tree::{Comparison, Expr, Node, Operands, SymId, SymbolType, Term, Tri};
 use kc_value::tri;
@@ -88,8 +88,8 @@ fn compared(comparison: Comparison, left: TriSet, right: TriSet) -> TriSet
 
 /// The values that a symbol may count as in a comparison, if it is a bool or a tristate. A number that the tree doesn't
 /// have is n.
-fn counted_symbol(bounds: &Bounds<'_>, symbol: SymId) -> Option<TriSet>
-    ensures { IfSome result (CountsWithin bounds.now.tree (Symbol symbol)) }
+fn counted_symbol(bounds: &ScopedBounds<'_>, symbol: SymId) -> Option<TriSet>
+    ensures { IfSome result (CountsWithin bounds.now.tree bounds.now.modules (Symbol symbol)) }
 {
     let Some(found) = bounds.symbol(symbol) else {
         return Some(TriSet::only(Tri::No));
@@ -101,8 +101,8 @@ fn counted_symbol(bounds: &Bounds<'_>, symbol: SymId) -> Option<TriSet>
 }
 
 /// The tristate values that a term may count as in a comparison, if it counts as one.
-fn counted(bounds: &Bounds<'_>, term: &Term) -> Option<TriSet>
-    ensures { IfSome result (CountsWithin bounds.now.tree term.now) }
+fn counted(bounds: &ScopedBounds<'_>, term: &Term) -> Option<TriSet>
+    ensures { IfSome result (CountsWithin bounds.now.tree bounds.now.modules term.now) }
 {
     match term {
         Term::Tri(tri) => Some(TriSet::only(*tri)),
@@ -127,7 +127,7 @@ fn is_fixed(term: &Term) -> bool
 
 /// The value of a comparison without symbols.
 fn fixed_set(
-    bounds: &Bounds<'_>,
+    bounds: &ScopedBounds<'_>,
     expr: &Expr,
     comparison: Comparison,
     operands: &Operands,
@@ -135,7 +135,7 @@ fn fixed_set(
     requires written { expr.now ≡ compare comparison operands.now.left operands.now.right }
     requires left { is_fixed operands.now.left ≡ true }
     requires right { is_fixed operands.now.right ≡ true }
-    ensures { Covers bounds.now.tree result (λ a. expr_value bounds.now.tree a expr.now) }
+    ensures { CoversIn bounds.now.tree bounds.now.modules result (λ a. expr_value bounds.now.tree a expr.now) }
 {
     TriSet::only(tri(&bounds.nothing(), expr))
 }
@@ -143,13 +143,13 @@ fn fixed_set(
 /// Which values a comparison may have, which is the expression: its own without symbols, those that the values of its
 /// sides give, where both count as tristate values, and else n and y.
 pub(crate) fn comparison_set(
-    bounds: &Bounds<'_>,
+    bounds: &ScopedBounds<'_>,
     expr: &Expr,
     comparison: Comparison,
     operands: &Operands,
 ) -> TriSet
     requires { expr.now ≡ compare comparison operands.now.left operands.now.right }
-    ensures { Covers bounds.now.tree result (λ a. expr_value bounds.now.tree a expr.now) }
+    ensures { CoversIn bounds.now.tree bounds.now.modules result (λ a. expr_value bounds.now.tree a expr.now) }
 {
     if is_fixed(&operands.left) && is_fixed(&operands.right) {
         return fixed_set(bounds, expr, comparison, operands);
@@ -158,8 +158,8 @@ pub(crate) fn comparison_set(
 }
 
 /// Which values a comparison may have by those of its sides.
-fn counted_set(bounds: &Bounds<'_>, comparison: Comparison, operands: &Operands) -> TriSet
-    ensures { Covers bounds.now.tree result (λ a. yes_if (is_related comparison
+fn counted_set(bounds: &ScopedBounds<'_>, comparison: Comparison, operands: &Operands) -> TriSet
+    ensures { CoversIn bounds.now.tree bounds.now.modules result (λ a. yes_if (is_related comparison
         (term_order bounds.now.tree a operands.now.left operands.now.right))) }
 {
     let left = counted(bounds, &operands.left);

@@ -7,16 +7,16 @@ ghost use Rattle.kc_outline.specs.TreeValue.{blocks_around};
 ghost use Rattle.kc_tree.specs.Cells.{IsCellOf};
 ghost use Rattle.kc_value.specs.Assignment.{as_tri};
 ghost use Rattle.kc_value.specs.Conditions.{blocks_depend, blocks_visible, choice_prompt_value, dependency, mode_around, prompt_value};
-ghost use Rattle.kc_bounds.specs.Bounds.{Covers};
+ghost use Rattle.kc_bounds.specs.Bounds.{CoversIn};
 
 use crate::expressions::{conditions_set, own_condition_set};
-use crate::table::Bounds;
+use crate::table::ScopedBounds;
 use crate::tri_set::TriSet;
 use kc_tree::{BlockId, Cell, Choice, ChoiceId, Node, Tri};
 
 /// Which values there may be of what all inside the blocks around a place depends on.
-pub(crate) fn depends_around(bounds: &Bounds<'_>, innermost: Option<BlockId>) -> TriSet
-    ensures { Covers bounds.now.tree result (λ a. blocks_depend bounds.now.tree a (blocks_around bounds.now.tree innermost)) }
+pub(crate) fn depends_around(bounds: &ScopedBounds<'_>, innermost: Option<BlockId>) -> TriSet
+    ensures { CoversIn bounds.now.tree bounds.now.modules result (λ a. blocks_depend bounds.now.tree a (blocks_around bounds.now.tree innermost)) }
 {
     match innermost {
         Some(block) if block.0 < bounds.tree().blocks().len() => bounds.cell(Cell::Depends(block)),
@@ -26,8 +26,8 @@ pub(crate) fn depends_around(bounds: &Bounds<'_>, innermost: Option<BlockId>) ->
 }
 
 /// Which values there may be of what the prompts inside the blocks around a place depend on besides.
-pub(crate) fn visible_around(bounds: &Bounds<'_>, innermost: Option<BlockId>) -> TriSet
-    ensures { Covers bounds.now.tree result (λ a. blocks_visible bounds.now.tree a (blocks_around bounds.now.tree innermost)) }
+pub(crate) fn visible_around(bounds: &ScopedBounds<'_>, innermost: Option<BlockId>) -> TriSet
+    ensures { CoversIn bounds.now.tree bounds.now.modules result (λ a. blocks_visible bounds.now.tree a (blocks_around bounds.now.tree innermost)) }
 {
     match innermost {
         Some(block) if block.0 < bounds.tree().blocks().len() => bounds.cell(Cell::Visible(block)),
@@ -37,8 +37,8 @@ pub(crate) fn visible_around(bounds: &Bounds<'_>, innermost: Option<BlockId>) ->
 }
 
 /// Which values there may be of what all inside a block depends on, by its lines and the block around it.
-pub(crate) fn block_depends(bounds: &Bounds<'_>, id: BlockId) -> TriSet
-    ensures { Covers bounds.now.tree result (λ a. blocks_depend bounds.now.tree a (blocks_around bounds.now.tree (Some id))) }
+pub(crate) fn block_depends(bounds: &ScopedBounds<'_>, id: BlockId) -> TriSet
+    ensures { CoversIn bounds.now.tree bounds.now.modules result (λ a. blocks_depend bounds.now.tree a (blocks_around bounds.now.tree (Some id))) }
 {
     let Some(block) = bounds.block(id) else {
         return TriSet::any();
@@ -48,8 +48,8 @@ pub(crate) fn block_depends(bounds: &Bounds<'_>, id: BlockId) -> TriSet
 }
 
 /// Which values there may be of what the prompts inside a block depend on besides, by its lines and the block around it.
-pub(crate) fn block_visible(bounds: &Bounds<'_>, id: BlockId) -> TriSet
-    ensures { Covers bounds.now.tree result (λ a. blocks_visible bounds.now.tree a (blocks_around bounds.now.tree (Some id))) }
+pub(crate) fn block_visible(bounds: &ScopedBounds<'_>, id: BlockId) -> TriSet
+    ensures { CoversIn bounds.now.tree bounds.now.modules result (λ a. blocks_visible bounds.now.tree a (blocks_around bounds.now.tree (Some id))) }
 {
     let Some(block) = bounds.block(id) else {
         return TriSet::any();
@@ -60,8 +60,8 @@ pub(crate) fn block_visible(bounds: &Bounds<'_>, id: BlockId) -> TriSet
 
 /// Which values the dependencies of the definition of a number may have, by its lines and the blocks around it; n where
 /// there is no such definition.
-pub(crate) fn definition_lines(bounds: &Bounds<'_>, number: usize) -> TriSet
-    ensures { Covers bounds.now.tree result
+pub(crate) fn definition_lines(bounds: &ScopedBounds<'_>, number: usize) -> TriSet
+    ensures { CoversIn bounds.now.tree bounds.now.modules result
         (λ a. option_map_or (dependency bounds.now.tree a) (slice_get bounds.now.tree.definitions number) No) }
 {
     let Some(definition) = bounds.definition(number) else {
@@ -72,8 +72,8 @@ pub(crate) fn definition_lines(bounds: &Bounds<'_>, number: usize) -> TriSet
 }
 
 /// Which values the dependencies of the definition of a number may have; n where there is no such definition.
-pub(crate) fn dependency_set(bounds: &Bounds<'_>, number: usize) -> TriSet
-    ensures { Covers bounds.now.tree result
+pub(crate) fn dependency_set(bounds: &ScopedBounds<'_>, number: usize) -> TriSet
+    ensures { CoversIn bounds.now.tree bounds.now.modules result
         (λ a. option_map_or (dependency bounds.now.tree a) (slice_get bounds.now.tree.definitions number) No) }
 {
     if number < bounds.tree().definitions().len() {
@@ -85,8 +85,8 @@ pub(crate) fn dependency_set(bounds: &Bounds<'_>, number: usize) -> TriSet
 
 /// Which values the condition of the prompt of the definition of a number may have, n without a prompt and where there is
 /// no definition.
-pub(crate) fn prompt_set(bounds: &Bounds<'_>, number: usize) -> TriSet
-    ensures { Covers bounds.now.tree result
+pub(crate) fn prompt_set(bounds: &ScopedBounds<'_>, number: usize) -> TriSet
+    ensures { CoversIn bounds.now.tree bounds.now.modules result
         (λ a. option_map_or (prompt_value bounds.now.tree a) (slice_get bounds.now.tree.definitions number) No) }
 {
     let Some(definition) = bounds.definition(number) else {
@@ -101,8 +101,8 @@ pub(crate) fn prompt_set(bounds: &Bounds<'_>, number: usize) -> TriSet
 }
 
 /// Which values the mode of the choice that something is in may have, y outside of choices.
-pub(crate) fn mode_around(bounds: &Bounds<'_>, choice: Option<ChoiceId>) -> TriSet
-    ensures { Covers bounds.now.tree result (λ a. mode_around bounds.now.tree a choice) }
+pub(crate) fn mode_around(bounds: &ScopedBounds<'_>, choice: Option<ChoiceId>) -> TriSet
+    ensures { CoversIn bounds.now.tree bounds.now.modules result (λ a. mode_around bounds.now.tree a choice) }
 {
     let Some(choice) = choice else {
         return TriSet::only(Tri::Yes);
@@ -114,8 +114,8 @@ pub(crate) fn mode_around(bounds: &Bounds<'_>, choice: Option<ChoiceId>) -> TriS
 }
 
 /// Which values the condition of a choice's prompt may have, n without one.
-pub(crate) fn choice_prompt_set(bounds: &Bounds<'_>, choice: &Choice) -> TriSet
-    ensures { Covers bounds.now.tree result (λ a. choice_prompt_value bounds.now.tree a choice.now) }
+pub(crate) fn choice_prompt_set(bounds: &ScopedBounds<'_>, choice: &Choice) -> TriSet
+    ensures { CoversIn bounds.now.tree bounds.now.modules result (λ a. choice_prompt_value bounds.now.tree a choice.now) }
 {
     let Some(prompt) = choice.prompt() else {
         return TriSet::only(Tri::No);

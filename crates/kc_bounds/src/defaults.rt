@@ -6,21 +6,21 @@ ghost use Rattle.kc_statement.specs.Tristate.{least};
 ghost use Rattle.kc_value.specs.ExprValue.{expr_value, own_condition};
 ghost use Rattle.kc_value.specs.Rule.{default_value, definition_default};
 ghost use Rattle.kc_value.specs.Solution.{solution};
-ghost use Rattle.kc_value.specs.UserValues.{IsUserFor, UserValues};
-ghost use Rattle.kc_bounds.specs.Bounds.{Covers};
+ghost use Rattle.kc_value.specs.UserValues.{UserValues};
+ghost use Rattle.kc_bounds.specs.Bounds.{CoversIn, IsScoped};
 ghost use Rattle.kc_bounds.specs.Given.{given};
 ghost use Rattle.kc_bounds.specs.TriSets.{IsAmong, IsIn};
 
 use crate::conditions::dependency_set;
 use crate::expressions::{expr_set, own_condition_set};
-use crate::table::Bounds;
+use crate::table::ScopedBounds;
 use crate::tri_choice::TriChoice;
 use crate::tri_set::TriSet;
 use kc_tree::{DefaultValue, Symbol, Tri};
 
 /// What a default may give, in a definition whose dependencies have a value of this set.
-fn default_choice(bounds: &Bounds<'_>, default: &DefaultValue, depends: TriSet) -> TriChoice
-    ensures { (w : UserValues) → IsUserFor bounds.now.tree w → (v : Tri) → IsIn depends v → IsAmong result
+fn default_choice(bounds: &ScopedBounds<'_>, default: &DefaultValue, depends: TriSet) -> TriChoice
+    ensures { (w : UserValues) → IsScoped bounds.now.tree bounds.now.modules w → (v : Tri) → IsIn depends v → IsAmong result
         (given (least (own_condition bounds.now.tree (solution bounds.now.tree w) default.now.condition) v)
         (expr_value bounds.now.tree (solution bounds.now.tree w) default.now.value)) }
 {
@@ -29,8 +29,8 @@ fn default_choice(bounds: &Bounds<'_>, default: &DefaultValue, depends: TriSet) 
 }
 
 /// What the first active default of the definition of a number may give.
-fn definition_choice(bounds: &Bounds<'_>, number: usize) -> TriChoice
-    ensures { (w : UserValues) → IsUserFor bounds.now.tree w → IsAmong result (option_and_then
+fn definition_choice(bounds: &ScopedBounds<'_>, number: usize) -> TriChoice
+    ensures { (w : UserValues) → IsScoped bounds.now.tree bounds.now.modules w → IsAmong result (option_and_then
         (definition_default bounds.now.tree (solution bounds.now.tree w)) (slice_get bounds.now.tree.definitions number)) }
 {
     let Some(definition) = bounds.definition(number) else {
@@ -45,8 +45,8 @@ fn definition_choice(bounds: &Bounds<'_>, number: usize) -> TriChoice
 }
 
 /// Which values the first active default of a symbol may give it, n without one.
-pub(crate) fn default_set(bounds: &Bounds<'_>, symbol: &Symbol) -> TriSet
-    ensures { Covers bounds.now.tree result (λ a. default_value bounds.now.tree a symbol.now) }
+pub(crate) fn default_set(bounds: &ScopedBounds<'_>, symbol: &Symbol) -> TriSet
+    ensures { CoversIn bounds.now.tree bounds.now.modules result (λ a. default_value bounds.now.tree a symbol.now) }
 {
     let mut found = TriChoice::nothing();
     for number in symbol.definitions() {

@@ -5,17 +5,17 @@ ghost use Rattle.std.specs.Option.{option_copied};
 ghost use Rattle.kc_statement.specs.declared.tri.Tri.{Tri};
 ghost use Rattle.kc_statement.specs.Formula.{any_joined};
 ghost use Rattle.kc_value.specs.ExprValue.{complements, conditions_value, expr_value, formula_value, modules_value, own_condition, symbol_tri, term_tri};
-ghost use Rattle.kc_bounds.specs.Bounds.{Covers};
+ghost use Rattle.kc_bounds.specs.Bounds.{CoversIn};
 ghost use Rattle.kc_bounds.specs.TriSets.{IsIn};
 
 use crate::comparisons::{comparison_set, constant_of};
-use crate::table::Bounds;
+use crate::table::ScopedBounds;
 use crate::tri_set::TriSet;
 use kc_tree::{Expr, ExprNode, Node, SymId, Term, Tri};
 
 /// Which values a symbol may have; a number that the tree doesn't have is n.
-pub fn symbol_set(bounds: &Bounds<'_>, symbol: SymId) -> TriSet
-    ensures { Covers bounds.now.tree result (λ a. symbol_tri bounds.now.tree a symbol) }
+pub(crate) fn symbol_set(bounds: &ScopedBounds<'_>, symbol: SymId) -> TriSet
+    ensures { CoversIn bounds.now.tree bounds.now.modules result (λ a. symbol_tri bounds.now.tree a symbol) }
 {
     match bounds.symbol(symbol) {
         Some(_) => bounds.node(Node::Val(symbol)),
@@ -24,18 +24,18 @@ pub fn symbol_set(bounds: &Bounds<'_>, symbol: SymId) -> TriSet
 }
 
 /// Which values `MODULES` may have: n where it is not defined.
-pub(crate) fn modules_set(bounds: &Bounds<'_>) -> TriSet
-    ensures { Covers bounds.now.tree result (λ a. modules_value bounds.now.tree a) }
+pub(crate) fn modules_set(bounds: &ScopedBounds<'_>) -> TriSet
+    ensures { CoversIn bounds.now.tree bounds.now.modules result (λ a. modules_value bounds.now.tree a) }
 {
     match bounds.tree().modules() {
-        Some(symbol) => symbol_set(bounds, symbol),
+        Some(symbol) => symbol_set(bounds, symbol).both(bounds.modules()),
         None => TriSet::only(Tri::No),
     }
 }
 
 /// Which values a term that is alone may have.
-fn term_set(bounds: &Bounds<'_>, term: &Term) -> TriSet
-    ensures { Covers bounds.now.tree result (λ a. term_tri bounds.now.tree a term.now) }
+fn term_set(bounds: &ScopedBounds<'_>, term: &Term) -> TriSet
+    ensures { CoversIn bounds.now.tree bounds.now.modules result (λ a. term_tri bounds.now.tree a term.now) }
 {
     match term {
         Term::Tri(tri) => TriSet::only(*tri),
@@ -58,8 +58,8 @@ fn negated(set: TriSet, count: usize) -> TriSet
 
 /// Which values an expression may have: those that its parts give, each of them by itself.
 #[cycle(expressions)]
-pub fn expr_set(bounds: &Bounds<'_>, expr: &Expr) -> TriSet
-    ensures { Covers bounds.now.tree result (λ a. expr_value bounds.now.tree a expr.now) }
+pub(crate) fn expr_set(bounds: &ScopedBounds<'_>, expr: &Expr) -> TriSet
+    ensures { CoversIn bounds.now.tree bounds.now.modules result (λ a. expr_value bounds.now.tree a expr.now) }
 {
     match expr.node() {
         ExprNode::Term(term) => term_set(bounds, term),
@@ -76,8 +76,8 @@ pub fn expr_set(bounds: &Bounds<'_>, expr: &Expr) -> TriSet
 
 /// Which values conditions, or the parts of an expression, may have that `&&` joins.
 #[cycle(expressions)]
-pub(crate) fn conditions_set(bounds: &Bounds<'_>, parts: &[Expr]) -> TriSet
-    ensures { Covers bounds.now.tree result (λ a. conditions_value bounds.now.tree a parts.now) }
+pub(crate) fn conditions_set(bounds: &ScopedBounds<'_>, parts: &[Expr]) -> TriSet
+    ensures { CoversIn bounds.now.tree bounds.now.modules result (λ a. conditions_value bounds.now.tree a parts.now) }
 {
     let mut least = TriSet::only(Tri::Yes);
     for part in parts {
@@ -88,8 +88,8 @@ pub(crate) fn conditions_set(bounds: &Bounds<'_>, parts: &[Expr]) -> TriSet
 
 /// Which values expressions may have that `||` joins.
 #[cycle(expressions)]
-fn any_set(bounds: &Bounds<'_>, parts: &[Expr]) -> TriSet
-    ensures { Covers bounds.now.tree result (λ a. formula_value bounds.now.tree a (any_joined parts.now)) }
+fn any_set(bounds: &ScopedBounds<'_>, parts: &[Expr]) -> TriSet
+    ensures { CoversIn bounds.now.tree bounds.now.modules result (λ a. formula_value bounds.now.tree a (any_joined parts.now)) }
 {
     let mut greatest = TriSet::only(Tri::No);
     for part in parts {
@@ -99,8 +99,8 @@ fn any_set(bounds: &Bounds<'_>, parts: &[Expr]) -> TriSet
 }
 
 /// Which values the condition after `if` may have, y where there is none.
-pub(crate) fn own_condition_set(bounds: &Bounds<'_>, condition: Option<&Expr>) -> TriSet
-    ensures { Covers bounds.now.tree result (λ a. own_condition bounds.now.tree a (option_copied condition.entry)) }
+pub(crate) fn own_condition_set(bounds: &ScopedBounds<'_>, condition: Option<&Expr>) -> TriSet
+    ensures { CoversIn bounds.now.tree bounds.now.modules result (λ a. own_condition bounds.now.tree a (option_copied condition.entry)) }
 {
     match condition {
         Some(expr) => expr_set(bounds, expr),

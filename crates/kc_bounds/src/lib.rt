@@ -7,12 +7,12 @@ mod comparisons;
 mod conditions;
 mod defaults;
 mod expressions;
+mod possible;
 mod symbols;
 mod table;
 mod tri_choice;
 mod tri_set;
 
 pub use cells::bounds;
-pub use expressions::{expr_set, symbol_set};
-pub use table::Bounds;
+pub use possible::{Bounds, expr_set, symbol_set};
 pub use tri_set::TriSet;

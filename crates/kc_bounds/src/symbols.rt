@@ -8,21 +8,21 @@ ghost use Rattle.kc_tree.specs.declared.user_value.UserVal.{UserVal};
 ghost use Rattle.kc_value.specs.Conditions.{prompt_value};
 ghost use Rattle.kc_value.specs.Rule.{direct, has_modules, in_type, reverse_value, reverse_values, shown_value, visibility};
 ghost use Rattle.kc_value.specs.Solution.{solution};
-ghost use Rattle.kc_value.specs.UserValues.{IsUserFor, UserValues};
-ghost use Rattle.kc_bounds.specs.Bounds.{Covers};
+ghost use Rattle.kc_value.specs.UserValues.{UserValues};
+ghost use Rattle.kc_bounds.specs.Bounds.{CoversIn, IsScoped};
 ghost use Rattle.kc_bounds.specs.TriSets.{IsIn};
 
 use crate::conditions::{dependency_set, mode_around, prompt_set};
 use crate::defaults::default_set;
 use crate::expressions::{modules_set, own_condition_set, symbol_set};
-use crate::table::Bounds;
+use crate::table::ScopedBounds;
 use crate::tri_choice::TriChoice;
 use crate::tri_set::TriSet;
 use kc_tree::{Reverse, Symbol, SymbolType, Tri};
 
 /// The values of a set as a symbol can have them: m is y unless the symbol is a tristate and `MODULES` is not n.
-fn in_type(bounds: &Bounds<'_>, symbol: &Symbol, set: TriSet) -> TriSet
-    ensures { (w : UserValues) → IsUserFor bounds.now.tree w → (v : Tri) → IsIn set v
+fn in_type(bounds: &ScopedBounds<'_>, symbol: &Symbol, set: TriSet) -> TriSet
+    ensures { (w : UserValues) → IsScoped bounds.now.tree bounds.now.modules w → (v : Tri) → IsIn set v
         → IsIn result (in_type (has_modules bounds.now.tree (solution bounds.now.tree w) symbol.now) v) }
 {
     match symbol.kind() {
@@ -32,8 +32,8 @@ fn in_type(bounds: &Bounds<'_>, symbol: &Symbol, set: TriSet) -> TriSet
 }
 
 /// Which values the greatest condition of the prompts of a symbol may have.
-fn prompts_set(bounds: &Bounds<'_>, symbol: &Symbol) -> TriSet
-    ensures { Covers bounds.now.tree result
+fn prompts_set(bounds: &ScopedBounds<'_>, symbol: &Symbol) -> TriSet
+    ensures { CoversIn bounds.now.tree bounds.now.modules result
         (λ a. greatest_of (map (prompt_value bounds.now.tree a) (definitions_of bounds.now.tree symbol.now))) }
 {
     let mut greatest = TriSet::only(Tri::No);
@@ -44,16 +44,16 @@ fn prompts_set(bounds: &Bounds<'_>, symbol: &Symbol) -> TriSet
 }
 
 /// Which values the visibility of a symbol may have.
-pub(crate) fn visibility_set(bounds: &Bounds<'_>, symbol: &Symbol) -> TriSet
-    ensures { Covers bounds.now.tree result (λ a. visibility bounds.now.tree a symbol.now) }
+pub(crate) fn visibility_set(bounds: &ScopedBounds<'_>, symbol: &Symbol) -> TriSet
+    ensures { CoversIn bounds.now.tree bounds.now.modules result (λ a. visibility bounds.now.tree a symbol.now) }
 {
     let within = prompts_set(bounds, symbol).and(mode_around(bounds, symbol.choice()));
     in_type(bounds, symbol, within)
 }
 
 /// Which values the greatest of the dependencies of a symbol's definitions may have.
-fn direct_set(bounds: &Bounds<'_>, symbol: &Symbol) -> TriSet
-    ensures { Covers bounds.now.tree result (λ a. direct bounds.now.tree a symbol.now) }
+fn direct_set(bounds: &ScopedBounds<'_>, symbol: &Symbol) -> TriSet
+    ensures { CoversIn bounds.now.tree bounds.now.modules result (λ a. direct bounds.now.tree a symbol.now) }
 {
     let mut greatest = TriSet::only(Tri::No);
     for number in symbol.definitions() {
@@ -63,8 +63,8 @@ fn direct_set(bounds: &Bounds<'_>, symbol: &Symbol) -> TriSet
 }
 
 /// Which values a `select` or an `imply` may give.
-fn reverse_set(bounds: &Bounds<'_>, reverse: &Reverse) -> TriSet
-    ensures { Covers bounds.now.tree result (λ a. reverse_value bounds.now.tree a reverse.now) }
+fn reverse_set(bounds: &ScopedBounds<'_>, reverse: &Reverse) -> TriSet
+    ensures { CoversIn bounds.now.tree bounds.now.modules result (λ a. reverse_value bounds.now.tree a reverse.now) }
 {
     let own = own_condition_set(bounds, reverse.condition.as_ref());
     let condition = own.and(dependency_set(bounds, reverse.definition));
@@ -72,8 +72,8 @@ fn reverse_set(bounds: &Bounds<'_>, reverse: &Reverse) -> TriSet
 }
 
 /// Which values the greatest that some `select` or `imply` lines give may have.
-fn reverses_set(bounds: &Bounds<'_>, reverses: &[Reverse]) -> TriSet
-    ensures { Covers bounds.now.tree result (λ a. reverse_values bounds.now.tree a reverses.now) }
+fn reverses_set(bounds: &ScopedBounds<'_>, reverses: &[Reverse]) -> TriSet
+    ensures { CoversIn bounds.now.tree bounds.now.modules result (λ a. reverse_values bounds.now.tree a reverses.now) }
 {
     let mut greatest = TriSet::only(Tri::No);
     for reverse in reverses {
@@ -85,8 +85,8 @@ fn reverses_set(bounds: &Bounds<'_>, reverses: &[Reverse]) -> TriSet
 /// Which values a bool or a tristate symbol may show, whose visibility has a value of this set, whatever the user gives
 /// it: all up to the visibility, else its default or what is implied, within its dependencies; and at least what is
 /// selected.
-pub(crate) fn shown_set(bounds: &Bounds<'_>, symbol: &Symbol, visibility: TriSet) -> TriSet
-    ensures { (w : UserValues) → IsUserFor bounds.now.tree w → (v : Tri) (u : Option UserVal) → IsIn visibility v
+pub(crate) fn shown_set(bounds: &ScopedBounds<'_>, symbol: &Symbol, visibility: TriSet) -> TriSet
+    ensures { (w : UserValues) → IsScoped bounds.now.tree bounds.now.modules w → (v : Tri) (u : Option UserVal) → IsIn visibility v
         → IsIn result (shown_value bounds.now.tree (solution bounds.now.tree w) symbol.now v u) }
 {
     let implied = reverses_set(bounds, symbol.implied());

@@ -6,6 +6,7 @@ ghost use Rattle.kc_statement.specs.Tristate.{least, greatest, complement, is_no
 ghost use Rattle.kc_value.specs.ExprValue.{yes_if};
 ghost use Rattle.kc_value.specs.Rule.{in_bool, in_type};
 ghost use Rattle.kc_bounds.specs.TriSets.{IsIn, any_tri, has};
+ghost use Rattle.kc_bounds.specs.Bounds.{with_modules, without_modules};
 
 use kc_tree::Tri;
 
@@ -91,6 +92,39 @@ impl TriSet {
             no: self.no || other.no,
             module: self.module || other.module,
             yes: self.yes || other.yes,
+        }
+    }
+
+    /// The values that both sets have.
+    pub(crate) fn both(self, other: TriSet) -> TriSet
+        ensures { (v : Tri) → IsIn self v → IsIn other v → IsIn result v }
+    {
+        TriSet {
+            no: self.no && other.no,
+            module: self.module && other.module,
+            yes: self.yes && other.yes,
+        }
+    }
+
+    /// n alone.
+    pub(crate) fn without_modules() -> TriSet
+        ensures { result ≡ without_modules }
+    {
+        TriSet {
+            no: true,
+            module: false,
+            yes: false,
+        }
+    }
+
+    /// m and y.
+    pub(crate) fn with_modules() -> TriSet
+        ensures { result ≡ with_modules }
+    {
+        TriSet {
+            no: false,
+            module: true,
+            yes: true,
         }
     }
 

@@ -7,6 +7,7 @@ use kc_facts::{View, push_shortfall};
 use kc_files::{
     Assign, FragmentLine, FragmentLines, Input, LineSays, Prefix, ReadFault, read_fragments,
 };
+use kc_how::Changes;
 use kc_tree::SymId;
 use std::alloc::{AllocError, Global};
 
@@ -207,6 +208,8 @@ pub struct HowCounts {
     pub kept: usize,
     /// The lines that give them.
     pub lines: usize,
+    /// The other symbols that change their values.
+    pub changes: Changes,
     /// The lines of the `.config` that were lost.
     pub lost: usize,
 }
@@ -225,6 +228,7 @@ pub fn push_how_counts(
         wanted,
         kept,
         lines,
+        changes,
         lost,
     } = counts;
     write!(text, "{wanted} wanted")?;
@@ -235,9 +239,25 @@ pub fn push_how_counts(
         1 => text.push_str(": 1 line")?,
         _ => write!(text, ": {lines} lines")?,
     }
+    push_changes(text, changes)?;
     match lost {
         _ if config == "" => text.push('\n'),
         1 => write!(text, "; 1 line of {config} lost\n"),
         _ => write!(text, "; {lost} lines of {config} lost\n"),
+    }
+}
+
+/// Adds how many other symbols change their values, nothing where none does.
+fn push_changes(text: &mut String, changes: Changes) -> Result<(), AllocError> {
+    let Changes { changed, lower } = changes;
+    match changed {
+        0 => return Ok(()),
+        1 => text.push_str("; 1 other value changes")?,
+        _ => write!(text, "; {changed} other values change")?,
+    }
+    match lower {
+        0 => Ok(()),
+        1 => text.push_str(", 1 is lower"),
+        _ => write!(text, ", {lower} are lower"),
     }
 }

@@ -1,5 +1,6 @@
 pub mod AnswerLaws
 pub mod ApartLaws
+pub mod ChangedLaws
 pub mod FewestLaws
 pub mod FragmentLaws
 pub mod LackingLaws

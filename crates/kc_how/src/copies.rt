@@ -6,17 +6,23 @@ use kc_files::Assign;
 use kc_tree::UserVal;
 use std::alloc::{AllocError, Global};
 
+/// A copy of a value, which shares its text. The error comes where the owners of that can't be counted.
+pub(crate) fn value_copy(value: &UserVal) -> Result<UserVal, AllocError>
+    ensures { IfOk result (λ copy. copy ≡ value.now) }
+{
+    match value {
+        UserVal::Tri(tri) => Ok(UserVal::Tri(*tri)),
+        UserVal::Text(text) => Ok(UserVal::Text(text.share()?)),
+    }
+}
+
 /// A copy of a line, which shares its text. The error comes where the owners of that can't be counted.
 fn copy_of(line: &Assign) -> Result<Assign, AllocError>
     ensures { IfOk result (λ a. a ≡ line.now) }
 {
-    let value = match &line.value {
-        UserVal::Tri(tri) => UserVal::Tri(*tri),
-        UserVal::Text(text) => UserVal::Text(text.share()?),
-    };
     Ok(Assign {
         symbol: line.symbol,
-        value,
+        value: value_copy(&line.value)?,
     })
 }
 

@@ -10,4 +10,4 @@ use Rattle.kc_program.specs.declared.how.Ending.TheVariants.{NotFound, GaveUp, I
 abbrev pub IsRightEnding : TreeValue → List Assign → Ending → Type 0
 IsRightEnding t wanted NotFound = Unit {0}
 IsRightEnding t wanted GaveUp = Unit {0}
-IsRightEnding t wanted (Impossible i limits) = IsImpossible t wanted i
+IsRightEnding t wanted (Impossible i) = IsImpossible t wanted i

@@ -9,7 +9,7 @@ use crate::how_kept::with_values_kept;
 use crate::messages::Status;
 use crate::report_texts::{input_of, read_again, status_of, unusable_words_of_files};
 use crate::reports::{Outcome, ReportInputs};
-use kc_bounds::{Bounds, bounds};
+use kc_bounds::bounds;
 use kc_check::{
     EffectsBefore, HowCounts, LostLine, Need, effects_before, how_costs, push_how_counts,
     push_impossible, push_needed_line, push_not_found, push_unusable_lines,
@@ -18,7 +18,10 @@ use kc_facts::{LineIndex, View};
 use kc_files::{
     Assign, Input, Prefix, ReadFault, Warning, WarningKind, has_effect, read_config, read_fragments,
 };
-use kc_how::{answer, first_impossible, fragment_text, needed_for, plain_candidates};
+use kc_how::{
+    Changes, answer, first_impossible, fragment_text, named_symbols, needed_for, other_changes,
+    plain_candidates, value_lines,
+};
 use kc_how_search::{Search, candidates};
 use kc_report::push_definitions_of;
 use kc_session::{Body, Command, Reply, Session};
@@ -49,7 +52,10 @@ pub(crate) fn how_outcome(
     let view = View::new(session.solved());
     let config = input_of(inputs.config);
     let prefix = &inputs.arguments.prefix;
-    let before = read_again(effects_before(alloc, &view, prefix, &config))?;
+    let before = Before {
+        effects: read_again(effects_before(alloc, &view, prefix, &config))?,
+        values: value_lines(alloc, view.tree(), view.values())?,
+    };
     let wanted = WantedTexts::of(alloc, inputs)?;
     match answer_in_session(alloc, inputs, session, &before, wanted)? {
         WantedAnswer::Found(found) if inputs.arguments.keeps_values => {
@@ -60,6 +66,15 @@ pub(crate) fn how_outcome(
         WantedAnswer::NotFound(errors) => failed(alloc, errors),
         WantedAnswer::Unusable => unusable_outcome(alloc, inputs, session.tree()),
     }
+}
+
+/// What there is before lines are merged.
+#[derive(Drop)]
+pub(crate) struct Before {
+    /// The lines of CONFIG that have their effect.
+    effects: EffectsBefore,
+    /// The values of all symbols.
+    values: Vec<Assign>,
 }
 
 /// What comes of wanted values.
@@ -79,6 +94,8 @@ pub(crate) struct Found {
     pub wanted: WantedTexts,
     /// The symbols that values are asked for of.
     pub asked: Vec<SymId>,
+    /// By number, whether a line or a wanted value names the symbol.
+    named: Vec<bool>,
     counts: HowCounts,
     fragment: String,
     /// What each line changes, and what it is needed for.
@@ -124,7 +141,7 @@ pub(crate) fn answer_in_session(
     alloc: Global,
     inputs: &ReportInputs<'_, '_>,
     session: &mut Session,
-    before: &EffectsBefore,
+    before: &Before,
     wanted: WantedTexts,
 ) -> Result<WantedAnswer, AllocError> {
     session.fill_all()?;
@@ -188,7 +205,7 @@ fn how(
     let wanted = wanted.as_slice();
     let Searched { lines, ending } = answer_of(alloc, solved, wanted)?;
     let Some(lines) = lines else {
-        return not_found(alloc, words.view, wanted, &ending);
+        return not_found(alloc, words.view, wanted, ending);
     };
     let lines = lines.as_slice();
     let asked = asked_symbols(alloc, wanted, words.kept)?;
@@ -197,9 +214,14 @@ fn how(
             wanted: asked.len(),
             kept: words.kept,
             lines: lines.len(),
+            changes: Changes {
+                changed: 0,
+                lower: 0,
+            },
             lost: 0,
         },
         wanted: texts,
+        named: named_symbols(alloc, tree, wanted, lines)?,
         asked,
         fragment: fragment_text(alloc, tree, prefix, lines)?,
         changes: changes_text(alloc, solved, words, wanted, lines)?,
@@ -219,31 +241,27 @@ fn asked_symbols(alloc: Global, wanted: &[Assign], kept: usize) -> Result<Vec<Sy
 
 /// What comes of a search.
 #[derive(Drop)]
-struct Searched<'t> {
+struct Searched {
     /// The lines, where some were found.
     lines: Option<Vec<Assign>>,
     /// How it ended, where none were found.
-    ending: Ending<'t>,
+    ending: Ending,
 }
 
 /// How a search ends that finds no lines.
-#[derive(Drop)]
-enum Ending<'t> {
+#[derive(Clone, Copy)]
+enum Ending {
     /// All that it looks at was tried.
     NotFound,
     /// It ended before that.
     GaveUp,
-    /// The wanted value of an index is one that no user values give, as these bounds show.
-    Impossible(usize, Bounds<'t>),
+    /// The wanted value of an index is one that no user values give, as bounds show.
+    Impossible(usize),
 }
 
 /// The lines that give wanted values: the wanted values themselves, where these are enough, else what a search finds.
 /// Where it finds nothing, bounds may show that no user values give one of the wanted values.
-fn answer_of<'t>(
-    alloc: Global,
-    solved: &Solved<'t>,
-    wanted: &[Assign],
-) -> Result<Searched<'t>, AllocError>
+fn answer_of(alloc: Global, solved: &Solved<'_>, wanted: &[Assign]) -> Result<Searched, AllocError>
     requires { All (IsAssignFor solved.now.tree) wanted.now }
     ensures lines { IfOk result (λ found. IfSome found.lines (λ lines. IsAnswer solved.now.tree solved.now.user wanted.now lines.items)) }
     ensures ending { IfOk result (λ found. IsRightEnding solved.now.tree wanted.now found.ending) }
@@ -259,22 +277,35 @@ fn answer_of<'t>(
     if searched.lines.is_some() {
         return Ok(searched);
     }
-    let limits = bounds(alloc, solved.tree())?;
+    Ok(Searched {
+        lines: None,
+        ending: or_impossible(alloc, solved.tree(), wanted, searched.ending)?,
+    })
+}
+
+/// The ending of a search that found nothing, or the first wanted value that bounds show to be impossible.
+fn or_impossible(
+    alloc: Global,
+    tree: &Tree,
+    wanted: &[Assign],
+    ending: Ending,
+) -> Result<Ending, AllocError>
+    requires { IsRightEnding tree.now wanted.now ending }
+    ensures { IfOk result (IsRightEnding tree.now wanted.now) }
+{
+    let limits = bounds(alloc, tree)?;
     match first_impossible(&limits, wanted) {
-        Some(index) => Ok(Searched {
-            lines: None,
-            ending: Ending::Impossible(index, limits),
-        }),
-        None => Ok(searched),
+        Some(index) => Ok(Ending::Impossible(index)),
+        None => Ok(ending),
     }
 }
 
 /// The lines that a search finds.
-fn searched_answer<'t>(
+fn searched_answer(
     alloc: Global,
-    solved: &Solved<'t>,
+    solved: &Solved<'_>,
     wanted: &[Assign],
-) -> Result<Searched<'t>, AllocError>
+) -> Result<Searched, AllocError>
     requires { All (IsAssignFor solved.now.tree) wanted.now }
     ensures lines { IfOk result (λ found. IfSome found.lines (λ lines. IsAnswer solved.now.tree solved.now.user wanted.now lines.items)) }
     ensures ending { IfOk result (λ found. IsRightEnding solved.now.tree wanted.now found.ending) }
@@ -358,7 +389,7 @@ fn not_found(
     alloc: Global,
     view: &View<'_>,
     wanted: &[Assign],
-    ending: &Ending<'_>,
+    ending: Ending,
 ) -> Result<WantedAnswer, AllocError> {
     let mut text = String::new(alloc);
     for line in wanted {
@@ -366,22 +397,23 @@ fn not_found(
             push_not_found(alloc, &mut text, view, line)?;
         }
     }
-    push_ending(&mut text, view, wanted, ending)?;
+    push_ending(alloc, &mut text, view, wanted, ending)?;
     Ok(WantedAnswer::NotFound(text))
 }
 
 /// Adds how a search ended that found nothing.
 fn push_ending(
+    alloc: Global,
     text: &mut String,
     view: &View<'_>,
     wanted: &[Assign],
-    ending: &Ending<'_>,
+    ending: Ending,
 ) -> Result<(), AllocError> {
     match ending {
         Ending::NotFound => text.push_str(NOT_FOUND),
         Ending::GaveUp => text.push_str(GAVE_UP),
-        Ending::Impossible(index, limits) => match wanted.get(*index) {
-            Some(line) => push_impossible(text, view, limits, line),
+        Ending::Impossible(index) => match wanted.get(index) {
+            Some(line) => push_impossible(text, view, &bounds(alloc, view.tree())?, line),
             None => text.push_str(NOT_FOUND),
         },
     }
@@ -392,7 +424,7 @@ fn with_costs(
     alloc: Global,
     inputs: &ReportInputs<'_, '_>,
     session: &mut Session,
-    before: &EffectsBefore,
+    before: &Before,
     mut found: Found,
 ) -> Result<Found, AllocError> {
     merge(session, found.fragment.as_str())?;
@@ -403,7 +435,10 @@ fn with_costs(
         bytes: found.fragment.as_str().as_bytes(),
     };
     let prefix = &inputs.arguments.prefix;
-    let costs = read_again(how_costs(alloc, &view, prefix, before, &fragment))?;
+    let costs = read_again(how_costs(alloc, &view, prefix, &before.effects, &fragment))?;
+    let named = found.named.as_slice();
+    let values = before.values.as_slice();
+    found.counts.changes = other_changes(view.tree(), view.values(), values, named);
     found.counts.lost = costs.lost.len();
     found.costs = costs.text;
     found.lost = costs.lost;

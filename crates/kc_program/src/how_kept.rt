@@ -1,8 +1,8 @@
 //! The target `how` with `--keep`: the values of CONFIG that are lost are wanted, too.
 
-use crate::how::{Found, WantedAnswer, WantedTexts, answer_in_session};
+use crate::how::{Before, Found, WantedAnswer, WantedTexts, answer_in_session};
 use crate::reports::ReportInputs;
-use kc_check::{EffectsBefore, LostLine};
+use kc_check::LostLine;
 use kc_session::{Body, Command, Reply, Session};
 use kc_tree::{SymId, Tree};
 use kc_value::Resolver;
@@ -18,7 +18,7 @@ pub(crate) fn with_values_kept(
     alloc: Global,
     inputs: &ReportInputs<'_, '_>,
     session: &mut Session,
-    before: &EffectsBefore,
+    before: &Before,
     first: Found,
 ) -> Result<Found, AllocError> {
     let mut best = first;
