@@ -95,6 +95,11 @@ SHAPES += [
     ("recursion behind comments", "olddefconfig", "byte", MIB16 // 20, MIB16 // 2, 1),
     ("selected, shown again", "session", "command", 600, 6_000, 0),
     ("definitions, shown again", "session", "command", 600, 6_000, 0),
+    ("chain of selects, how", "how", "symbol", 6_000, 60_000, 0),
+    ("chain of dependencies, how", "how", "symbol", 6_000, 60_000, 1),
+    ("fan, how", "how", "symbol", 6_000, 60_000, 0),
+    ("any of many, how", "how", "name", 600, 6_000, 0),
+    ("all of many, how", "how", "name", 600, 6_000, 1),
 ]
 LINES = ("empty lines", "blanks", "`#`", "`config A`", "`default y`", '`comment "c"`', "menus", "`if A`", "`A&&A`", "variables")
 SHAPES += [(f"all {what}", "olddefconfig", "byte", MIB16 // 10, MIB16, 0) for what in LINES]
@@ -106,6 +111,11 @@ WORDS = {
     "long condition, merge": lambda size: ["config"],
     "named again, why": lambda size: ["A"],
     "recursion behind comments": lambda size: ["--explain"],
+    "chain of selects, how": lambda size: [f"CONFIG_S{size - 1}=y"],
+    "chain of dependencies, how": lambda size: [f"CONFIG_S{size - 1}=y"],
+    "fan, how": lambda size: [f"CONFIG_S{size - 1}=y"],
+    "any of many, how": lambda size: ["CONFIG_T=y"],
+    "all of many, how": lambda size: ["CONFIG_T=y"],
 }
 
 

@@ -27,6 +27,22 @@ def chained(count, line):
     return "".join(BOOL.format(f"S{at}") + (f"\t{line} S{at - 1}\n" if at else "\tdefault y\n") for at in range(count))
 
 
+def selected_in_turn(size):
+    """So many bools without a prompt, each of which selects the next one, and a bool that selects the first."""
+    links = "".join(f"config S{at}\n\tbool\n\tselect S{at + 1}\n" for at in range(size - 1))
+    return BOOL.format("T") + f"\tselect S0\n{links}config S{size - 1}\n\tbool\n"
+
+
+def depending_in_turn(size):
+    """So many bools, each of which depends on the one before."""
+    return "".join(BOOL.format(f"S{at}") + (f"\tdepends on S{at - 1}\n" if at else "") for at in range(size))
+
+
+def needing_many(joint):
+    """A bool that depends on so many others, as far as a line has room."""
+    return lambda size: bools(size) + BOOL.format("T") + f"\tdepends on {joint.join(f'S{at}' for at in range(size))}\n"
+
+
 def repeated_term(term, joint, size):
     """A term again and again, in so many bytes at most."""
     return joint.join([term] * max(1, size // (len(term) + len(joint))))
@@ -404,6 +420,11 @@ KCONFIGS = {
     "recursion behind comments": recursive_behind_comments,
     "selected, shown again": lambda size: bools(size, "\tselect T\n") + BOOL.format("T"),
     "definitions, shown again": definitions,
+    "chain of selects, how": selected_in_turn,
+    "chain of dependencies, how": depending_in_turn,
+    "fan, how": lambda size: BOOL.format("T") + bools(size, "\tdepends on T\n"),
+    "any of many, how": needing_many(" || "),
+    "all of many, how": needing_many(" && "),
 }
 
 # The shapes of a `.config` or a stream, over one symbol.

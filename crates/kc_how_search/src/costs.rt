@@ -15,9 +15,12 @@ pub(crate) struct Costs {
     pub no: u32,
 }
 
-/// Two costs together.
+/// Two costs together: never, where one is of what can't be, and else less than that.
 pub(crate) fn plus(left: u32, right: u32) -> u32 {
-    left.saturating_add(right).min(NEVER)
+    if left >= NEVER || right >= NEVER {
+        return NEVER;
+    }
+    left.saturating_add(right).min(NEVER - 1)
 }
 
 /// Nothing for what is so, and never for what is not.

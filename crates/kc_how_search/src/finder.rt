@@ -4,7 +4,8 @@ ghost use Rattle.kc_value.specs.UserValues.{IsUserFor};
 
 use crate::cell_prices::cell_costs;
 use crate::costs::{Costs, NEVER, plus};
-use crate::goals::{Deed, Goal, Task, Way, are_at_odds, expr_goal, is_less};
+use crate::goals::{Deed, Goal, Task, Way, expr_goal, is_less};
+use crate::pins::Pins;
 use crate::prices::{MOST_TO_SHOW, Prices};
 use crate::trial::{Trial, has_given};
 use crate::weights::TEXT_LINE;
@@ -43,7 +44,9 @@ pub(crate) struct Finder<'t> {
     /// What is still to be done, the next at the end.
     pub agenda: Vec<Task<'t>>,
     /// The goals that are not to be undone.
-    pub pins: Vec<Goal<'t>>,
+    pub pins: Pins,
+    /// How many more links of long chains count as no steps.
+    pub links: usize,
     /// What was done.
     pub deeds: Vec<Deed>,
     /// The symbols that have what the user gave them.
@@ -72,7 +75,8 @@ impl<'t> Finder<'t> {
             costs,
             texts: Vec::new(alloc),
             agenda: Vec::new(alloc),
-            pins: Vec::new(alloc),
+            pins: Pins::new(alloc),
+            links: tree.cell_count(),
             deeds: Vec::new(alloc),
             given,
         })
@@ -157,23 +161,7 @@ impl<'t> Finder<'t> {
 
     /// Whether a goal is against one that is pinned.
     fn is_against_pins(&self, goal: Goal<'t>) -> bool {
-        self.pins.iter().any(|pin| are_at_odds(*pin, goal)) || self.is_against_member(goal)
-    }
-
-    /// Whether a goal is that a member of a choice is y, of which another one is pinned to be y.
-    fn is_against_member(&self, goal: Goal<'t>) -> bool {
-        let Goal::AtLeast(member, Tri::Module | Tri::Yes) = goal else {
-            return false;
-        };
-        let Some(choice) = self.tree.choice_of(member) else {
-            return false;
-        };
-        self.pins.iter().any(|pin| match pin {
-            Goal::AtLeast(other, Tri::Module | Tri::Yes) => {
-                *other != member && self.tree.choice_of(*other) == Some(choice)
-            }
-            _ => false,
-        })
+        self.pins.exclude(self.tree, goal)
     }
 
     /// Whether a deed is against what is pinned.
@@ -202,16 +190,7 @@ impl<'t> Finder<'t> {
         if self.is_against_pins(goal) {
             return Ok(false);
         }
-        if matches!(
-            &goal,
-            Goal::AtLeast(_, _)
-                | Goal::AtMost(_, _)
-                | Goal::Text(_, _)
-                | Goal::Open(_)
-                | Goal::Closed(_)
-        ) {
-            self.pins.push(goal)?;
-        }
+        self.pins.add(self.tree, goal)?;
         Ok(true)
     }
 

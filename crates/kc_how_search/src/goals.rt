@@ -93,19 +93,3 @@ fn symbol_goal<'t>(symbol: SymId, is_least: bool, bound: Tri) -> Goal<'t> {
 pub(crate) fn is_less(value: Tri, bound: Tri) -> bool {
     value.or(bound) != value
 }
-
-/// Whether two goals of one symbol exclude each other.
-pub(crate) fn are_at_odds(left: Goal<'_>, right: Goal<'_>) -> bool {
-    match (left, right) {
-        (Goal::AtLeast(first, least), Goal::AtMost(second, most)) => {
-            first == second && is_less(most, least)
-        }
-        (Goal::AtMost(first, most), Goal::AtLeast(second, least)) => {
-            first == second && is_less(most, least)
-        }
-        (Goal::Text(first, one), Goal::Text(second, other)) => first == second && one != other,
-        (Goal::Open(first), Goal::Closed(second)) => first == second,
-        (Goal::Closed(first), Goal::Open(second)) => first == second,
-        _ => false,
-    }
-}

@@ -5,6 +5,7 @@ mod cell_prices;
 mod costs;
 mod finder;
 mod goals;
+mod pins;
 mod prices;
 mod reached;
 mod run;

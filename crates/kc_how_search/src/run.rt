@@ -22,6 +22,20 @@ const MOST_WAYS: usize = 10;
 /// How many lines that are looked at for ways count as a step.
 const WEIGHT: usize = 32;
 
+/// How many links of a chain count as steps, one after another. The others are free, as far as the search has free links.
+const COUNTED_LINKS: usize = 64;
+
+/// What came of a task.
+#[derive(Clone, Copy, Debug, PartialEq, Eq)]
+enum Done {
+    /// It can't be done.
+    Nothing,
+    /// Its goal holds already, or has one way, without a deed: a link of a chain.
+    Link,
+    /// A deed was done, or a way was taken of several, or one with a deed.
+    Step,
+}
+
 /// A way that is taken in place of the cheapest one: at which goal of the run, and which.
 #[derive(Clone, Copy, Debug)]
 pub(crate) struct Turn {
@@ -46,6 +60,8 @@ pub(crate) struct Course {
     /// The turns that could be taken after these.
     pub branches: Vec<Branch>,
     pub steps: usize,
+    /// How many links came one after another up to now.
+    pub row: usize,
     /// Whether it ended since it had too many steps.
     pub is_spent: bool,
 }
@@ -167,30 +183,36 @@ impl<'t> Finder<'t> {
         }
     }
 
-    /// Takes a goal apart, unless it holds; false where it can't be. The error comes where memory is refused.
+    /// Takes a goal apart, unless it holds. The error comes where memory is refused.
     fn take_apart(
         &mut self,
         course: &mut Course,
         goal: Goal<'t>,
         tries: u32,
-    ) -> Result<bool, AllocError> {
+    ) -> Result<Done, AllocError> {
         if self.holds(goal)? {
-            return Ok(true);
+            return Ok(Done::Link);
         }
         if tries >= MOST_TRIES || !self.pin(goal)? {
-            return Ok(false);
+            return Ok(Done::Nothing);
         }
         let ways = self.ways(goal)?;
         course.steps = course.steps.saturating_add(self.weight_of(goal) / WEIGHT);
+        let is_only = ways.len() == 1;
         let Some(way) = course.take(ways)? else {
-            return Ok(false);
+            return Ok(Done::Nothing);
         };
         self.agenda.push(Task::Goal(goal, tries.saturating_add(1)))?;
-        if !matches!(&way.deed, Deed::Nothing) {
+        let has_deed = !matches!(&way.deed, Deed::Nothing);
+        if has_deed {
             self.agenda.push(Task::Deed(way.deed, goal))?;
         }
         self.add_goals(way.goals.as_slice())?;
-        Ok(true)
+        Ok(if is_only && !has_deed {
+            Done::Link
+        } else {
+            Done::Step
+        })
     }
 
     /// Adds goals to what is to be done, the first on top. The error comes where memory is refused.
@@ -201,28 +223,50 @@ impl<'t> Finder<'t> {
         Ok(())
     }
 
-    /// Does a deed, unless its goal holds; false where it is against what is pinned. The error comes where memory is
-    /// refused.
-    fn make_for(&mut self, deed: Deed, goal: Goal<'t>) -> Result<bool, AllocError> {
-        if self.holds(goal)? {
-            return Ok(true);
+    /// Does a deed, unless its goal holds. The error comes where memory is refused.
+    fn make_for(&mut self, deed: Deed, goal: Goal<'t>) -> Result<Done, AllocError> {
+        if self.holds(goal)? || self.make(deed)? {
+            Ok(Done::Step)
+        } else {
+            Ok(Done::Nothing)
         }
-        self.make(deed)
+    }
+
+    /// Whether a task counts as no step: it was a link in a long chain, and there are free links.
+    fn is_free(&mut self, course: &mut Course, done: Done) -> bool {
+        if done != Done::Link {
+            course.row = 0;
+            return false;
+        }
+        course.row = course.row.saturating_add(1);
+        if course.row <= COUNTED_LINKS || self.links == 0 {
+            return false;
+        }
+        self.links -= 1;
+        true
     }
 
     /// Does all that is to be done; false where it can't be. The error comes where memory is refused.
     fn work_off(&mut self, course: &mut Course) -> Result<bool, AllocError> {
-        for _ in 0..MOST_STEPS {
+        let mut left = MOST_STEPS;
+        for _ in 0..MOST_STEPS.saturating_add(self.links) {
             let Some(task) = self.agenda.pop() else {
                 return Ok(true);
             };
-            course.steps = course.steps.saturating_add(1);
-            let is_done = match task {
+            let done = match task {
                 Task::Goal(goal, tries) => self.take_apart(course, goal, tries)?,
                 Task::Deed(deed, goal) => self.make_for(deed, goal)?,
             };
-            if !is_done {
+            if done == Done::Nothing {
                 return Ok(false);
+            }
+            if self.is_free(course, done) {
+                continue;
+            }
+            course.steps = course.steps.saturating_add(1);
+            left = left.saturating_sub(1);
+            if left == 0 {
+                break;
             }
         }
         course.is_spent = true;

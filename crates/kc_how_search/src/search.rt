@@ -158,6 +158,7 @@ impl Paths {
             points: 0,
             branches: Vec::new(self.alloc),
             steps: 0,
+            row: 0,
             is_spent: false,
         };
         match finder.run(&mut course, wanted)? {
@@ -173,6 +174,35 @@ impl Paths {
         self.steps = self.steps.saturating_add(course.steps);
         self.is_spent = self.is_spent || course.is_spent;
         self.add_branches(course.turns.as_slice(), cost, course.branches.as_slice())
+    }
+
+    /// Tries runs until it is over or none is left. The error comes where memory is refused.
+    fn try_all(&mut self, finder: &mut Finder<'_>, wanted: &[Assign]) -> Result<(), AllocError> {
+        for _ in 0..MOST_RUNS {
+            if self.is_over() {
+                return Ok(());
+            }
+            let Some(path) = self.next() else {
+                return Ok(());
+            };
+            self.try_path(finder, path, wanted)?;
+        }
+        Ok(())
+    }
+
+    /// Takes what the runs came to. The error comes where memory is refused.
+    fn take_search(&mut self) -> Result<Search, AllocError> {
+        let missed = self.most_missed();
+        if self.found.is_empty() {
+            let is_all = self.waiting.is_empty() && !self.is_spent;
+            return Ok(if is_all {
+                Search::NotFound(missed)
+            } else {
+                Search::GaveUp(missed)
+            });
+        }
+        let found = std::mem::replace(&mut self.found, Vec::new(self.alloc));
+        Ok(Search::Candidates(lists_of(self.alloc, found)?))
     }
 }
 
@@ -200,21 +230,6 @@ pub fn candidates(
     let start = Known::of_nodes(solved.tree(), solved.values());
     let mut finder = Finder::new(alloc, solved.tree(), &start, solved.user())?;
     let mut paths = Paths::new(alloc)?;
-    for _ in 0..MOST_RUNS {
-        if paths.is_over() {
-            break;
-        }
-        let Some(path) = paths.next() else {
-            break;
-        };
-        paths.try_path(&mut finder, path, wanted)?;
-    }
-    let missed = paths.most_missed();
-    if !paths.found.is_empty() {
-        Ok(Search::Candidates(lists_of(alloc, paths.found)?))
-    } else if paths.waiting.is_empty() && !paths.is_spent {
-        Ok(Search::NotFound(missed))
-    } else {
-        Ok(Search::GaveUp(missed))
-    }
+    paths.try_all(&mut finder, wanted)?;
+    paths.take_search()
 }
