@@ -1,10 +1,15 @@
 //! All that is found in a tree and a `.config`.
 
+ghost use Rattle.std.specs.Prelude.{◌≡◌, IfOk};
+ghost use Rattle.kc_text.specs.LineReferences.{lent_names};
+ghost use Rattle.kc_value.specs.Assignment.{assignment_of};
+ghost use Rattle.kc_check.specs.CheckReport.{IsCheckReport};
+
 use crate::config_findings::config_findings;
 use crate::finding::Findings;
 use crate::inputs::CheckInputs;
-use crate::tree_findings::tree_findings;
-use crate::variables::Variables;
+use crate::kconfig_findings::kconfig_findings;
+use crate::tree_findings::TreeReport;
 use kc_facts::{Extent, LineIndex, View};
 use kc_files::ReadFault;
 use kc_text::Text;
@@ -27,34 +32,21 @@ pub fn check(
     index: &LineIndex<'_, '_>,
     inputs: &CheckInputs<'_, '_>,
     extent: Extent,
-) -> Result<Findings, ReadFault> {
-    let variables = Variables::of(alloc, inputs.sources)?;
-    let mut findings = Findings {
-        config: None,
-        of_config: Vec::new(alloc),
-        of_tree: Vec::new(alloc),
-        unlisted: 0,
-    };
+) -> Result<Findings, ReadFault>
+    ensures { IfOk result (λ f. IsCheckReport inputs.now.sources.now index.now view.now.tree (assignment_of view.now.tree view.now.values)
+        (lent_names inputs.now.given.now) inputs.now.prefix.now extent f.of_tree.items) }
+{
+    let mut path = None;
+    let mut of_config = Vec::new(alloc);
     if let Some(config) = inputs.config {
-        findings.config = Some(Text::copy_of(alloc, config.path)?);
-        config_findings(alloc, view, index, inputs, config, &mut findings.of_config)?;
+        path = Some(Text::copy_of(alloc, config.path)?);
+        config_findings(alloc, view, index, inputs, config, &mut of_config)?;
     }
-    let is_tree = !view.tree().symbols().is_empty();
-    if !is_tree {
-        variables.add_exchanged(alloc, &mut findings.of_tree)?;
-    }
-    tree_findings(
-        alloc,
-        view,
-        index,
-        inputs,
-        &variables,
-        extent,
-        &mut findings,
-    )?;
-    if is_tree && extent == Extent::All {
-        variables.add_unused_definitions(alloc, &mut findings.of_tree)?;
-    }
-    variables.add_unused(alloc, inputs.given, &mut findings.of_tree)?;
-    Ok(findings)
+    let TreeReport { findings, unlisted } = kconfig_findings(alloc, view, index, inputs, extent)?;
+    Ok(Findings {
+        config: path,
+        of_config,
+        of_tree: findings,
+        unlisted,
+    })
 }

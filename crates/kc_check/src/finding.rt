@@ -1,5 +1,10 @@
 //! What is found, as lines of a report.
 
+ghost use Rattle.std.specs.Prelude.{◌≡◌, ◌++◌, IfOk, None, OnOk, Some};
+ghost use Rattle.std.specs.String.{string_bytes};
+ghost use Rattle.kc_check.specs.ReportLines.{at_text, line_text, lines_text, name_text};
+
+use crate::said::Said;
 use kc_text::Text;
 use std::alloc::{AllocError, Global};
 
@@ -18,12 +23,36 @@ impl FoundAt {
     /// # Errors
     ///
     /// `AllocError` where memory is refused.
-    pub fn new(alloc: Global, path: &str, line: usize) -> Result<FoundAt, AllocError> {
+    pub fn new(alloc: Global, path: &str, line: usize) -> Result<FoundAt, AllocError>
+        ensures { IfOk result (λ at. at ≡ record { path = path.now; line = line }) }
+    {
         Ok(FoundAt {
             path: Text::copy_of(alloc, path)?,
             line,
         })
     }
+}
+
+impl FoundAt {
+    /// Adds it: `PATH:LINE: `.
+    fn push_to(&self, text: &mut String) -> Result<(), AllocError>
+        ensures { OnOk result (string_bytes text.new ≡ string_bytes text.old ++ at_text self.now) }
+    {
+        let path = self.path.as_str();
+        let line = self.line;
+        write!(text, "{path}:{line}: ")
+    }
+}
+
+/// Adds a name, if it is not empty: `NAME: `.
+fn push_name(text: &mut String, name: &str) -> Result<(), AllocError>
+    ensures { OnOk result (string_bytes text.new ≡ string_bytes text.old ++ name_text name.now) }
+{
+    if name != "" {
+        text.push_str(name)?;
+        text.push_str(": ")?;
+    }
+    Ok(())
 }
 
 /// Something that is likely a mistake: where it is, the name that it is about, and what is wrong (this project's own).
@@ -48,7 +77,10 @@ impl Finding {
         line: usize,
         name: &str,
         words: String,
-    ) -> Result<Finding, AllocError> {
+    ) -> Result<Finding, AllocError>
+        ensures place { IfOk result (λ f. f.at ≡ Some (record { path = path.now; line = line })) }
+        ensures name { IfOk result (λ f. f.name ≡ name.now) }
+    {
         Ok(Finding {
             at: Some(FoundAt::new(alloc, path, line)?),
             name: Text::copy_of(alloc, name)?,
@@ -61,7 +93,10 @@ impl Finding {
     /// # Errors
     ///
     /// `AllocError` where memory is refused.
-    pub(crate) fn of_name(alloc: Global, name: &str, words: String) -> Result<Finding, AllocError> {
+    pub(crate) fn of_name(alloc: Global, name: &str, words: String) -> Result<Finding, AllocError>
+        ensures place { IfOk result (λ f. f.at ≡ None) }
+        ensures name { IfOk result (λ f. f.name ≡ name.now) }
+    {
         Ok(Finding {
             at: None,
             name: Text::copy_of(alloc, name)?,
@@ -69,24 +104,38 @@ impl Finding {
         })
     }
 
+    /// What is said, in a line or in none.
+    pub(crate) fn said(at: Option<FoundAt>, said: Said) -> Finding
+        ensures { result.at ≡ at }
+    {
+        let Said { name, words } = said;
+        Finding { at, name, words }
+    }
+
+    /// What it says.
+    pub(crate) fn into_said(self) -> Said {
+        let Finding {
+            at: _at,
+            name,
+            words,
+        } = self;
+        Said { name, words }
+    }
+
     /// Adds it as a line `PATH:LINE: NAME: WORDS`, without what it does not have.
     ///
     /// # Errors
     ///
     /// `AllocError` where memory is refused.
-    pub fn push_line(&self, text: &mut String) -> Result<(), AllocError> {
+    pub fn push_line(&self, text: &mut String) -> Result<(), AllocError>
+        ensures { OnOk result (string_bytes text.new ≡ string_bytes text.old ++ line_text self.now) }
+    {
         if let Some(at) = &self.at {
-            let path = at.path.as_str();
-            let line = at.line;
-            write!(text, "{path}:{line}: ")?;
+            at.push_to(text)?;
         }
-        if self.name.as_str() != "" {
-            text.push_str(self.name.as_str())?;
-            text.push_str(": ")?;
-        }
+        push_name(text, self.name.as_str())?;
         text.push_str(self.words.as_str())?;
-        text.push('\n')?;
-        Ok(())
+        text.push_str("\n")
     }
 }
 
@@ -153,7 +202,9 @@ impl Findings {
 }
 
 /// Adds the lines of findings.
-fn push_lines(text: &mut String, findings: &[Finding]) -> Result<(), AllocError> {
+fn push_lines(text: &mut String, findings: &[Finding]) -> Result<(), AllocError>
+    ensures { OnOk result (string_bytes text.new ≡ string_bytes text.old ++ lines_text findings.now) }
+{
     for finding in findings {
         finding.push_line(text)?;
     }

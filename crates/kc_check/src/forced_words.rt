@@ -1,13 +1,12 @@
 //! Symbols that are selected for more than their dependencies are worth, in words.
 
-use crate::finding::Finding;
+use crate::said::Said;
 use crate::said_lines::SaidLines;
 use crate::selections::push_bracketed;
 use kc_facts::{
     Attribute, Family, Forced, LineIndex, Part, View, is_if, part_of_factor, push_expr, shown_line,
 };
 use kc_outline::MOST_OPEN_BLOCKS;
-use kc_text::Line;
 use kc_tree::{BlockId, Definition, Expr, Reverse, Tree, Tri};
 use kc_value::{Factor, FactorPart, Origin, tri};
 use std::alloc::{AllocError, Global};
@@ -38,39 +37,35 @@ impl ForcedWords {
         }
     }
 
-    /// Adds that a symbol is selected for more than its dependencies are worth, which a `select` passes over
-    /// (docs/VALUES.md, "Select"), in the line that defines it first.
+    /// That a symbol is selected for more than its dependencies are worth, which a `select` passes over (docs/VALUES.md,
+    /// "Select").
     ///
     /// # Errors
     ///
     /// `AllocError` where memory is refused.
-    pub fn add(
+    pub fn said(
         &mut self,
         alloc: Global,
         view: &View<'_>,
         index: &LineIndex<'_, '_>,
-        line: &Line<'_>,
         forced: &Forced,
-        found: &mut Vec<Finding>,
-    ) -> Result<(), AllocError> {
+    ) -> Result<Said, AllocError> {
         let tree = view.tree();
         let Some(definition) = tree.definitions().get(forced.definition) else {
-            return Ok(());
+            return Said::nothing(alloc);
         };
         let id = definition.symbol();
         let Some(symbol) = tree.symbols().get(id.0 as usize) else {
-            return Ok(());
+            return Said::nothing(alloc);
         };
         let Some(selection) = symbol.selected().get(forced.selection) else {
-            return Ok(());
+            return Said::nothing(alloc);
         };
         let mut words = String::from_str(alloc, "selected by ")?;
         self.push_selection(alloc, &mut words, tree, index, selection)?;
         words.push_str(", while ")?;
         self.push_unmet(alloc, &mut words, view, index, forced)?;
-        let name = tree.name(id);
-        found.push(Finding::in_line(alloc, line.path(), line.number(), name, words)?)?;
-        Ok(())
+        Said::of(alloc, tree.name(id), words)
     }
 
     /// Adds which symbol selects another by a `select` line, and where: `U (Kconfig:26)`.

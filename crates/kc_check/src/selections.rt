@@ -1,25 +1,24 @@
 //! Selects that have no effect.
 
-use crate::finding::Finding;
+use crate::said::Said;
 use kc_facts::{push_place, token_word};
 use kc_statement::{Keyword, read_keyword};
 use kc_text::Line;
 use kc_tree::Tree;
 use std::alloc::{AllocError, Global};
 
-/// Adds that a `select` or an `imply` of the definition of a number names a member of a choice, which passes it over
-/// (docs/VALUES.md).
+/// That a `select` or an `imply` of the definition of a number, which a line has, names a member of a choice, which passes it
+/// over (docs/VALUES.md).
 ///
 /// # Errors
 ///
 /// `AllocError` where memory is refused.
-pub(crate) fn add_member(
+pub(crate) fn said_of_member(
     alloc: Global,
     tree: &Tree,
     line: &Line<'_>,
     definition: usize,
-    found: &mut Vec<Finding>,
-) -> Result<(), AllocError> {
+) -> Result<Said, AllocError> {
     let verb = match read_keyword(line) {
         Some(Keyword::Select) => "select",
         _ => "imply",
@@ -30,9 +29,7 @@ pub(crate) fn add_member(
         .and_then(|token| token_word(token))
         .unwrap_or("");
     let words = format!(in alloc; "{verb} {name} has no effect: {name} is a member of a choice")?;
-    let owner = name_at(tree, definition);
-    found.push(Finding::in_line(alloc, line.path(), line.number(), owner, words)?)?;
-    Ok(())
+    Said::of(alloc, name_at(tree, definition), words)
 }
 
 /// The name of the symbol that the definition of a number defines.

@@ -1,6 +1,6 @@
 //! Defaults that are never used, since one before them always counts.
 
-use crate::finding::Finding;
+use crate::said::Said;
 use crate::said_lines::SaidLines;
 use kc_facts::{LineIndex, UnusedDefault, push_expr, push_place, shown_line, token_word};
 use kc_statement::DefaultValue;
@@ -8,52 +8,44 @@ use kc_text::Line;
 use kc_tree::Tree;
 use std::alloc::{AllocError, Global};
 
-/// Adds that a default is never used, which a line has. The line of the one before it is one of those that say defaults.
+/// That a default is never used, which a line has. The line of the one before it is one of those that say defaults.
 ///
 /// # Errors
 ///
 /// `AllocError` where memory is refused.
-pub(crate) fn add_unused_default(
+pub(crate) fn said_of_unused(
     alloc: Global,
     tree: &Tree,
     index: &LineIndex<'_, '_>,
     line: &Line<'_>,
     unused: &UnusedDefault,
     defaults: &mut SaidLines,
-    found: &mut Vec<Finding>,
-) -> Result<(), AllocError> {
+) -> Result<Said, AllocError> {
     let Some(definition) = tree.definitions().get(unused.definition) else {
-        return Ok(());
+        return Said::nothing(alloc);
     };
     let Some(default) = definition.defaults().get(unused.place) else {
-        return Ok(());
+        return Said::nothing(alloc);
     };
     let earlier = unused.before;
     let Some(before) = defaults.line(alloc, index, earlier.definition, earlier.place)? else {
-        return Ok(());
+        return Said::nothing(alloc);
     };
     let words = unused_words(alloc, tree, line, default, before)?;
-    let name = tree.name(definition.symbol());
-    found.push(Finding::in_line(alloc, line.path(), line.number(), name, words)?)?;
-    Ok(())
+    Said::of(alloc, tree.name(definition.symbol()), words)
 }
 
-/// Adds that the default of a choice has no effect, which a line has, since the choice is never visible (docs/VALUES.md,
+/// That the default of a choice has no effect, which a line has, since the choice is never visible (docs/VALUES.md,
 /// "Mode and selection").
 ///
 /// # Errors
 ///
 /// `AllocError` where memory is refused.
-pub(crate) fn add_hidden_default(
-    alloc: Global,
-    line: &Line<'_>,
-    found: &mut Vec<Finding>,
-) -> Result<(), AllocError> {
+pub(crate) fn said_of_hidden(alloc: Global, line: &Line<'_>) -> Result<Said, AllocError> {
     let member = line.tokens().get(1).and_then(|token| token_word(token));
     let name = member.unwrap_or("");
     let words = format!(in alloc; "default {name} is never used: its choice is never visible")?;
-    found.push(Finding::in_line(alloc, line.path(), line.number(), "", words)?)?;
-    Ok(())
+    Said::of(alloc, "", words)
 }
 
 /// What is said of a default, which a line has, after one of another line without a condition.

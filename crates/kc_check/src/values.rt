@@ -1,32 +1,29 @@
 //! Findings about defaults and ranges.
 
-use crate::finding::Finding;
+use crate::said::Said;
 use kc_facts::{
     DefaultFault, FaultyDefault, meant_tri, push_expr, push_term, range_of, shown_line,
 };
 use kc_statement::{DefaultValue, Range, SymbolType, Term, lone_term};
-use kc_text::Line;
 use kc_tree::{Definition, Tree};
 use kc_value::RangePlace;
 use std::alloc::{AllocError, Global};
 
-/// Adds what is wrong with a default, which a line has.
+/// What is wrong with a default.
 ///
 /// # Errors
 ///
 /// `AllocError` where memory is refused.
-pub(crate) fn add_default(
+pub(crate) fn said_of_default(
     alloc: Global,
     tree: &Tree,
-    line: &Line<'_>,
     faulty: &FaultyDefault,
-    found: &mut Vec<Finding>,
-) -> Result<(), AllocError> {
+) -> Result<Said, AllocError> {
     let Some(definition) = tree.definitions().get(faulty.definition) else {
-        return Ok(());
+        return Said::nothing(alloc);
     };
     let Some(default) = definition.defaults().get(faulty.place) else {
-        return Ok(());
+        return Said::nothing(alloc);
     };
     let words = match faulty.fault {
         DefaultFault::OfMember => member_words(alloc, tree, definition, default)?,
@@ -36,9 +33,7 @@ pub(crate) fn add_default(
             number_words(alloc, tree, default, range)?
         }
     };
-    let name = tree.name(definition.symbol());
-    found.push(Finding::in_line(alloc, line.path(), line.number(), name, words)?)?;
-    Ok(())
+    Said::of(alloc, tree.name(definition.symbol()), words)
 }
 
 /// What is said of the default of a member of a choice, which has no effect (docs/VALUES.md, "Choices").
@@ -106,30 +101,26 @@ fn number_words(
     Ok(words)
 }
 
-/// Adds that the sides of a range are exchanged, which a line has.
+/// That the sides of a range are exchanged.
 ///
 /// # Errors
 ///
 /// `AllocError` where memory is refused.
-pub(crate) fn add_range(
+pub(crate) fn said_of_range(
     alloc: Global,
     tree: &Tree,
-    line: &Line<'_>,
     place: RangePlace,
-    found: &mut Vec<Finding>,
-) -> Result<(), AllocError> {
+) -> Result<Said, AllocError> {
     let Some(definition) = tree.definitions().get(place.definition) else {
-        return Ok(());
+        return Said::nothing(alloc);
     };
     let Some(range) = definition.ranges().get(place.range) else {
-        return Ok(());
+        return Said::nothing(alloc);
     };
     let mut words = String::new(alloc);
     push_range(alloc, &mut words, tree, range)?;
     words.push_str(": its low bound is above its high bound")?;
-    let name = tree.name(definition.symbol());
-    found.push(Finding::in_line(alloc, line.path(), line.number(), name, words)?)?;
-    Ok(())
+    Said::of(alloc, tree.name(definition.symbol()), words)
 }
 
 /// Adds a range: `range LOW HIGH`.

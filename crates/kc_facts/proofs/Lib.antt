@@ -1,5 +1,6 @@
 pub mod BlockLaws
 pub mod CulpritLaws
+pub mod EarlierLaws
 pub mod FirstLaws
 pub mod ForcedLaws
 pub mod FormLaws
@@ -21,3 +22,9 @@ pub mod DoubtfulLaws
 pub mod UnusedLaws
 pub mod VariableLaws
 pub mod WhyLaws
+pub mod BareLaws
+pub mod EndLaws
+pub mod LongWordLaws
+pub mod UnsetLaws
+pub mod ListedLaws
+pub mod MeantLaws

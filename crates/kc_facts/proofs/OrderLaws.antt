@@ -17,7 +17,7 @@ use Rattle.kc_facts.specs.UnusedDefaults.{is_end}
 use Rattle.kc_facts.proofs.RangeLaws.{flat_map_next}
 use Rattle.kc_facts.proofs.SourcedLaws.{plus_none}
 
--- ---- the line after the end of a putting in place
+-- ---- the line after the end of an inclusion
 rest_by : (rests : List ℕ) (r k rest old : ℕ) (is lt : Bool) → nat_lt r (length rests) ≡ lt → k < length rests → get_or rests k 0 ≡ old
     → get_or (if is && lt then slice_set rests r rest else rests) k 0 ≡ (if (r == k) && is then rest else old)
 rest_by rests r k rest old false lt inside within e = e ∙ none old (r == k)

@@ -103,7 +103,7 @@ pub below_zero : {X : Type 0} (key : X → ℕ) (xs : List X) → prefix_len (λ
 below_zero key [] = refl
 below_zero key (x ∷ xs) = ap (λ b. cond b (1 + prefix_len (λ y. nat_lt (key y) 0) xs) 0) (le-ltb (key x) 0 (omega arith))
 
--- ---- where a putting in place begins
+-- ---- where an inclusion begins
 pub start_next : (lines : List LineValue) (r s : ℕ) → r ≤ s
     → start_of lines s ≡ start_of lines r + prefix_len (λ l. nat_lt l.run s) (drop (start_of lines r) lines)
 start_next lines r s le = below_next (λ (l : LineValue). l.run) lines r s le
@@ -158,7 +158,7 @@ pub noted_slot : (noted : List Bool) (r k : ℕ) (is old : Bool) → k < length 
     → get_or (noted_run noted r is) k false ≡ (old || ((r == k) && is))
 noted_slot noted r k is old within e = noted_by noted r k is (nat_lt r (length noted)) old refl within e
 
--- ---- the first putting in place of a file
+-- ---- the first inclusion of a file
 prefix_lent : {X : Type 0} (p : X → Bool) (es : List (Bor X)) → prefix_len (λ e. p e.now) es ≡ prefix_len p (map (λ e. e.now) es)
 prefix_lent p [] = refl
 prefix_lent p (e ∷ es) = ap (λ n. cond (p e.now) (1 + n) 0) (prefix_lent p es)
@@ -189,7 +189,7 @@ same_around : (lines : List LineValue) (r : ℕ) (around : List ℕ) (b d : Opti
 same_around lines r around b d is same =
     ap (λ o. option_map_or (λ n. list_any (λ k. k == n) around) o true) same ∙ ap (λ xs. option_map_or (λ n. list_any (λ k. k == n) xs) d true) is
 
--- a putting in place that an earlier one made superfluous, by what is known of those before it
+-- an inclusion that an earlier one made superfluous, by what is known of those before it
 module _ (lines : List LineValue) (t : TreeValue) (r count : ℕ) (statements : List Bool) (conditions : List (Option ℕ)) (around : List ℕ)
     (within : r < count) (noted : (k : ℕ) → k < count → get_or statements k false ≡ has_statement lines k)
     (conditions_are : conditions ≡ map (condition_around lines t) (range_with_len 0 r)) (around_is : around ≡ open_numbers lines (start_of lines r)) where

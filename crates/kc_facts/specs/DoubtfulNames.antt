@@ -41,7 +41,7 @@ abbrev pub named_uses : List LineValue → List DoubtfulUse → List NamedUse
 named_uses lines us = flat_map (named_at lines us) (range_with_len 0 (length us))
 
 -- ---- lines of files
--- two lines are one line of a file, which may be put in place twice
+-- two lines are one line of a file, which may be included twice
 abbrev pub is_same_line : LineValue → LineValue → Bool
 is_same_line x y = (x.number == y.number) && bytes_eq x.path y.path
 

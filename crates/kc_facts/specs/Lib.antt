@@ -1,8 +1,10 @@
 pub mod Attributes
+pub mod BareNames
 pub mod Culprits
 pub mod Defaults
 pub mod DoubtfulNames
 pub mod DoubtfulUses
+pub mod EarlierFindings
 pub mod FactorPlaces
 pub mod FaultyDefaults
 pub mod FileVariables
@@ -12,11 +14,15 @@ pub mod FreshNames
 pub mod HiddenChoices
 pub mod LineIndex
 pub mod ListedNames
+pub mod LongWords
 pub mod LoopSteps
+pub mod MeantNames
+pub mod MeantSymbols
 pub mod MenuTree
+pub mod NameEnds
+pub mod NameForms
 pub mod NameReadings
 pub mod Named
-pub mod NameForms
 pub mod NearName
 pub mod NeverModules
 pub mod Numbers
@@ -26,7 +32,9 @@ pub mod RowSteps
 pub mod SelectedMembers
 pub mod Shown
 pub mod SourcedFiles
+pub mod SymbolNames
 pub mod TreeFindings
 pub mod Unset
 pub mod UnusedDefaults
+pub mod VariableNames
 pub mod WhyRows

@@ -1,7 +1,7 @@
 -- In which order the reader of a Kconfig comes to the uses of variables and to the `source` lines of its files: this
 -- project's own, by docs/ERRORS.md, "Findings of `check`". In place of a `source` line are the lines of its file. Each
--- putting in place has a number, in the order in which they begin: the first one within another has the next number. What
--- is in a file counts the first time that it is put in place.
+-- inclusion has a number, in the order in which they begin: the first one within another has the next number. What
+-- is in a file counts the first time that it is included.
 use Rattle.std.specs.Prelude.{ℕ, Bool, not, ◌+◌, ◌-◌, ◌==◌, ◌&&◌, List, [], ◌∷◌, ◌++◌, Option, if◌then◌else◌, drop, filter, flat_map, length, map, nat_le, nat_lt, option_map, slice_get, slice_index_or, slice_set, take}
 use denote.Ref.{Bor}
 use Rattle.std.specs.List.{prefix_len, range_with_len}
@@ -19,7 +19,7 @@ use Rattle.kc_facts.specs.Culprits.{first_with}
 use Rattle.kc_facts.specs.SourcedFiles.{first_run_of, start_of}
 use Rattle.kc_facts.specs.UnusedDefaults.{is_end}
 
--- ---- the lines of a putting in place
+-- ---- the lines of an inclusion
 abbrev pub ends : ℕ → LineValue → Bool
 ends r line = (line.run == r) && is_end line
 
@@ -52,7 +52,7 @@ uses_between gap from file uses k n = map (use_at gap from file uses) (range_wit
 abbrev pub uses_up_to : List NamedVariable → ℕ → ℕ → ℕ
 uses_up_to uses k line = k + prefix_len (λ u. nat_le u.line line) (drop k uses)
 
--- a file is cut at its `source` lines. These are left, and the first of them puts a file in place the time of a number; k
+-- a file is cut at its `source` lines. These are left, and the first of them begins the inclusion of a number; k
 -- uses are before; and the lines begin after the end of the file before. A `source` line comes where its file begins, after
 -- the uses in lines up to it. The last lines are before the one after the end of the file
 abbrev pub file_marks : List LineValue → List ℕ → List ℕ → ℕ → List NamedVariable → ℕ → ℕ → ℕ → ℕ → List ℕ → List Reached
@@ -62,7 +62,7 @@ file_marks lines starts rests file uses rest from k run (line ∷ more) =
     ++ record { before = slice_index_or starts run 0; file = file; mark = Source line run }
     ∷ file_marks lines starts rests file uses rest (slice_index_or rests run 0) (uses_up_to uses k line) (run_after starts run (slice_index_or rests run 0)) more
 
--- those of a file that is put in place the time of a number
+-- those of a file in the inclusion of a number
 abbrev pub run_marks : List LineValue → List ℕ → List ℕ → ℕ → List NamedVariable → List ℕ → ℕ → List Reached
 run_marks lines starts rests file uses sources r =
     file_marks lines starts rests file uses (slice_index_or rests r 0) (slice_index_or starts r 0) 0 (r + 1) sources
@@ -75,7 +75,7 @@ marks_from lines starts rests file found run =
 abbrev pub runs_of : List LineValue → List ℕ
 runs_of lines = range_with_len 0 (length (filter is_end lines))
 
--- what is in the file of a number, the first time that it is put in place
+-- what is in the file of a number, the first time that it is included
 abbrev pub marks_of_file : List LineValue → ℕ → VariableFile → List Reached
 marks_of_file lines file f = marks_from lines (map (start_of lines) (runs_of lines)) (map (rest_of lines) (runs_of lines)) file f.found (first_run_of lines f.path.now)
 
@@ -92,10 +92,10 @@ pub record AreReached (lines : List LineValue) (files : List VariableFile) (reac
   pub stable : IsStableByKey (λ (r : Reached). r.before) nat_cmp (marks_of lines files) reached
 
 -- ---- a walk over lines
--- the first putting in place of a file, by the ends of files that are lent
+-- the first inclusion of a file, by the ends of files that are lent
 abbrev pub lent_run : List (Bor LineValue) → List ℕ → Option ℕ
 lent_run ends path = option_map (λ e. e.now.run) (first_with (λ e. bytes_eq e.now.path path) ends)
 
--- the line after the end of a putting in place is noted, if a line is that end
+-- the line after the end of an inclusion is noted, if a line is that end
 abbrev pub noted_rest : List ℕ → ℕ → Bool → ℕ → List ℕ
 noted_rest rests r is rest = if is && nat_lt r (length rests) then slice_set rests r rest else rests

@@ -1,4 +1,4 @@
--- Files that are put in place twice, where the first time is enough: this project's own, by docs/ERRORS.md, "Findings of
+-- Files that are included twice, where the first time is enough: this project's own, by docs/ERRORS.md, "Findings of
 -- check". The lines of a file count already where the blocks around it the first time, as far as they have a condition,
 -- are around it the second time, too.
 use Rattle.std.specs.Prelude.{ℕ, Bool, true, false, not, ◌&&◌, ◌||◌, ◌==◌, List, ◌∷◌, Option, Some, None, if◌then◌else◌, drop, filter, flat_map, length, map, nat_lt, option_and_then, option_map, option_to_list, slice_get, slice_set}
@@ -18,7 +18,7 @@ use Rattle.kc_facts.specs.Culprits.{first_with}
 use Rattle.kc_facts.specs.UnusedDefaults.{is_end}
 
 -- ---- the blocks around a file
--- where a putting in place of a number begins: after the lines of those before it
+-- where an inclusion of a number begins: after the lines of those before it
 abbrev pub start_of : List LineValue → ℕ → ℕ
 start_of lines r = prefix_len (λ line. nat_lt line.run r) lines
 
@@ -38,7 +38,7 @@ has_condition b = is_choice_kind b.kind || (not (length b.depends == 0) || not (
 abbrev pub is_conditional : TreeValue → ℕ → Bool
 is_conditional t b = option_map_or has_condition (slice_get t.blocks b) false
 
--- the innermost block with a condition around a putting in place
+-- the innermost block with a condition around an inclusion
 abbrev pub condition_around : List LineValue → TreeValue → ℕ → Option ℕ
 condition_around lines t r = find (is_conditional t) (open_numbers lines (start_of lines r))
 
@@ -50,21 +50,21 @@ is_around lines r b = option_map_or (λ n. list_any (λ k. k == n) (open_numbers
 abbrev pub is_statement : LineValue → Bool
 is_statement line = option_map_or (λ word. not (is_attribute_word word)) (keyword_of line) false
 
--- a putting in place has a statement, and no attributes alone, which may be meant for one statement after the other
+-- an inclusion has a statement, and no attributes alone, which may be meant for one statement after the other
 abbrev pub has_statement : List LineValue → ℕ → Bool
 has_statement lines r = list_any (λ line. (line.run == r) && is_statement line) lines
 
 abbrev pub end_of_run : List LineValue → ℕ → Option LineValue
 end_of_run lines r = first_with (λ end. end.run == r) (filter is_end lines)
 
--- the number of the first putting in place of a file
+-- the number of the first inclusion of a file
 abbrev pub first_run_of : List LineValue → List ℕ → Option ℕ
 first_run_of lines path = option_map (λ end. end.run) (first_with (λ end. bytes_eq end.path path) (filter is_end lines))
 
 abbrev pub if_earlier : ℕ → ℕ → Option ℕ
 if_earlier r f = if nat_lt f r then Some f else None
 
--- the first putting in place of the file that is put in place, where that is an earlier one
+-- the first inclusion of the file that is included, where that is an earlier one
 abbrev pub first_before : List LineValue → ℕ → Option ℕ
 first_before lines r =
     option_and_then (λ end. option_and_then (if_earlier r) (first_run_of lines end.path)) (end_of_run lines r)
@@ -83,7 +83,7 @@ abbrev pub repeated_files : List LineValue → TreeValue → List RepeatedFile
 repeated_files lines t = flat_map (repeated_at lines t) (range_with_len 0 (length (filter is_end lines)))
 
 -- ---- a walk over lines
--- the first putting in place, by the ends of files that are lent
+-- the first inclusion, by the ends of files that are lent
 abbrev pub lent_first : ℕ → List (Bor LineValue) → List ℕ → Option ℕ
 lent_first r ends path = option_and_then (if_earlier r) (option_map (λ e. e.now.run) (first_with (λ e. bytes_eq e.now.path path) ends))
 

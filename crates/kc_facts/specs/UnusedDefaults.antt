@@ -1,5 +1,5 @@
 -- Defaults that are never used, since one before them always counts: kconfig-language.rst, "default value", and this
--- project's own. A file that is put in place twice has each of its lines twice, and a default is used if it is the first
+-- project's own. A file that is included twice has each of its lines twice, and a default is used if it is the first
 -- time.
 use Rattle.std.specs.Prelude.{ℕ, Bool, true, false, ◌&&◌, ◌==◌, List, [], Option, Some, None, if◌then◌else◌, filter, flat_map, is_none, is_some, length, nat_lt, option_and_then, option_map, option_to_list, position, slice_get, slice_index_or, slice_set}
 use Rattle.std.specs.List.{list_any, range_with_len}
@@ -26,11 +26,11 @@ is_end_kind EndOfFile = true
 abbrev pub is_end : LineValue → Bool
 is_end line = is_end_kind line.kind
 
--- the end of a file is that of an earlier putting in place of the file of a line
+-- the end of a file is that of an earlier inclusion of the file of a line
 abbrev pub ends_before : LineValue → LineValue → Bool
 ends_before line end = nat_lt end.run line.run && bytes_eq end.path line.path
 
--- the file of a line was put in place before
+-- the file of a line was included before
 abbrev pub is_read_again : List LineValue → LineValue → Bool
 is_read_again lines line = list_any (ends_before line) (filter is_end lines)
 

@@ -1,14 +1,31 @@
 //! What a name that no symbol has may have been meant as, where a user wrote it: in a `.config` or on the command line.
 
+ghost use Rattle.std.specs.Prelude.{◌≡◌, IfOk};
+ghost use Rattle.std.specs.Option.{option_copied};
+ghost use Rattle.kc_facts.specs.MeantNames.{IsMeantName, IsNearOrEnding};
+ghost use Rattle.kc_text.specs.LineReferences.{lent_names};
+
+use crate::bare_names::bare_name;
 use crate::name_ends::NameEnds;
 use crate::near_names::NearNames;
 use std::alloc::{AllocError, Global};
+use std::marker::Model;
 
-/// The names of symbols, as those that a name may have been meant as.
+/// The names of symbols, as those that a name may have been meant as. Contracts see the names.
 #[derive(Drop)]
 pub struct MeantNames<'n> {
     near: NearNames<'n>,
     ends: NameEnds<'n>,
+}
+
+impl<'n> Model for MeantNames<'n> {
+    ghost use Rattle.std.specs.Prelude.{◌≡◌, ℕ, List};
+
+    ghost Value = { List (List ℕ) };
+
+    ghost view = { λ n. n.near };
+
+    ghost invariant = { λ n. n.ends ≡ n.near };
 }
 
 impl<'n> MeantNames<'n> {
@@ -21,30 +38,33 @@ impl<'n> MeantNames<'n> {
         alloc: Global,
         names: Vec<&'n str>,
         asked: usize,
-    ) -> Result<MeantNames<'n>, AllocError> {
-        let ends = NameEnds::of(alloc, names)?;
-        let names = ends.names().iter().copied().collect(alloc)?;
+    ) -> Result<MeantNames<'n>, AllocError>
+        ensures { IfOk result (λ meant. meant ≡ lent_names names.entry.items) }
+    {
+        let others = Vec::from_slice(alloc, names.as_slice())?;
+        let ends = NameEnds::of(alloc, others)?;
         let near = NearNames::of(alloc, names, asked)?;
         Ok(MeantNames { near, ends })
     }
 
-    /// What a name that no symbol has, where names have a prefix, may have been meant as (this project's own): the name
-    /// without the prefix, if it begins with that; else a name that it is near (`is_near`); else the one name that ends in
-    /// `_` and it.
-    pub fn meant(&self, prefix: &str, name: &str) -> Option<&'n str> {
-        let bare = name.strip_prefix(prefix).unwrap_or(name);
-        let same = if bare.len() < name.len() {
-            self.ends.same(bare)
-        } else {
-            None
-        };
-        let near = match same {
-            Some(same) => Some(same),
-            None => self.near.nearest(bare, None),
-        };
+    /// What a name that no symbol has, where names have a prefix, may have been meant as (this project's own): the name,
+    /// read without the prefix that it begins with, in other small and capital letters; else a name that it is near
+    /// (`is_near`); else the one name that ends in `_` and it.
+    pub fn meant(&self, prefix: &str, name: &str) -> Option<&'n str>
+        ensures { IsMeantName self.now prefix.now name.now (option_copied result) }
+    {
+        let bare = bare_name(prefix, name);
+        let near = self.near.nearest(bare, None);
+        self.near_or_ending(bare, near)
+    }
+
+    /// A name that is near, and else the one name that ends in `_` and a name.
+    fn near_or_ending(&self, name: &str, near: Option<&'n str>) -> Option<&'n str>
+        ensures { IsNearOrEnding self.now name.now (option_copied near.entry) (option_copied result) }
+    {
         match near {
             Some(near) => Some(near),
-            None => self.ends.ending_in(bare),
+            None => self.ends.ending_in(name),
         }
     }
 }

@@ -1,139 +1,191 @@
 //! Of many names, those that end in `_` and a name, as a new name of a symbol often does.
 
-use crate::likeness::MOST_BYTES;
-use crate::name_forms::{START, hash_from};
-use crate::near_name::is_alike;
-use std::alloc::{AllocError, Global};
+ghost use Rattle.std.specs.Prelude.{◌≡◌, ◌↔◌, ◌∷◌, ℕ, List, IsTrue, IfOk, OnOk, Some, slice_get};
+ghost use Rattle.std.specs.Option.{option_copied};
+ghost use Rattle.kc_facts.specs.NameEnds.{EndsIn, HasEnds, IsEnding, IsEndOf, IsOnly, IsOtherAt, IsOtherNumber, IsOtherOf, KeepsEnds};
+ghost use Rattle.kc_facts.specs.NameForms.{IsKept, KeepsMore, lowered};
+ghost use Rattle.kc_text.specs.LineReferences.{lent_names};
 
-/// The most names with one end that are compared with a name.
-const MOST_COMPARED: usize = 64;
+use crate::likeness::{MOST_BYTES, is_excepted};
+use crate::name_forms::{Kept, START, hash_from, place_of};
+use std::alloc::{AllocError, Global};
+use std::marker::Model;
 
 /// The fewest bytes of a name that others end in.
 const FEWEST_BYTES: usize = 4;
 
-/// An end of a name.
-#[derive(Clone, Copy)]
-struct End {
-    /// Of its bytes.
-    hash: u64,
-    /// The index of the name.
-    name: usize,
-    /// Where it begins in the name.
-    start: usize,
-}
-
-/// Names by their ends: each whole, and what comes after each `_` in it.
+/// Names by what comes after each `_` in them. Contracts see the names.
 #[derive(Drop)]
 pub(crate) struct NameEnds<'n> {
     names: Vec<&'n str>,
-    /// In the order of their hashes.
-    ends: Vec<End>,
+    /// What comes after each `_`, in the order of the hashes.
+    kept: Vec<Kept>,
+}
+
+impl<'n> Model for NameEnds<'n> {
+    ghost use Rattle.std.specs.Prelude.{ℕ, List};
+    ghost use Rattle.kc_facts.specs.NameEnds.{HasEnds};
+    ghost use Rattle.kc_text.specs.LineReferences.{lent_names};
+
+    ghost Value = { List (List ℕ) };
+
+    ghost view = { λ n. lent_names n.names.items };
+
+    ghost invariant = { λ n. HasEnds (lent_names n.names.items) n.kept.items };
 }
 
 impl<'n> NameEnds<'n> {
-    /// Those of these names that have at most 64 bytes.
+    /// These names.
     ///
     /// # Errors
     ///
     /// `AllocError` where memory is refused.
-    pub fn of(alloc: Global, names: Vec<&'n str>) -> Result<NameEnds<'n>, AllocError> {
-        let mut ends = Vec::with_capacity(alloc, names.len())?;
-        for (index, name) in names.iter().enumerate() {
-            push_ends(&mut ends, index, name.as_bytes())?;
-        }
-        ends.sort_unstable_by_key(|end| end.hash);
-        Ok(NameEnds { names, ends })
+    pub fn of(alloc: Global, names: Vec<&'n str>) -> Result<NameEnds<'n>, AllocError>
+        ensures { IfOk result (λ ends. ends ≡ lent_names names.entry.items) }
+    {
+        let kept = sorted_ends(alloc, names.as_slice())?;
+        Ok(NameEnds { names, kept })
     }
 
     /// The names themselves.
-    pub fn names(&self) -> &[&'n str] {
+    pub fn names(&self) -> &[&'n str]
+        ensures { lent_names result.now ≡ self.now }
+    {
         self.names.as_slice()
     }
 
-    /// The first of the names that is a name, but for small and capital letters.
-    pub fn same(&self, name: &str) -> Option<&'n str> {
-        let alike = self.alike(name);
-        let found = alike
-            .iter()
-            .find(|end| end.start == 0 && self.is_end(end, name))?;
-        self.names.get(found.name).copied()
-    }
-
-    /// The one name that ends in `_` and a name of at least four bytes: none where several do.
-    pub fn ending_in(&self, name: &str) -> Option<&'n str> {
-        if name.len() < FEWEST_BYTES {
+    /// The one name that ends in `_` and a name of at least four bytes: none where several do. Names of more than 64 bytes
+    /// are passed over.
+    pub fn ending_in(&self, name: &str) -> Option<&'n str>
+        ensures { IsOnly (IsEnding self.now name.now) (option_copied result) }
+    {
+        let Some(found) = self.other(name, None) else {
             return None;
+        };
+        match self.other(name, Some(found)) {
+            Some(_) => None,
+            None => Some(found),
         }
-        let mut found: Option<&'n str> = None;
-        for end in self
-            .alike(name)
-            .iter()
-            .filter(|end| end.start > 0 && self.is_end(end, name))
-        {
-            let other = self.names.get(end.name).copied();
-            if found.is_some() && found != other {
-                return None;
-            }
-            found = other;
-        }
-        found
     }
 
-    /// The ends with the hash of a name, of many the first.
-    fn alike(&self, name: &str) -> &[End] {
-        if name.len() > MOST_BYTES {
-            return &[];
-        }
-        let hash = hash_from(START, name.as_bytes());
-        let first = self.ends.partition_point(|end| end.hash < hash);
-        let rest = self.ends.as_slice().get(first..).unwrap_or(&[]);
-        let count = rest
-            .iter()
-            .take(MOST_COMPARED)
-            .take_while(|end| end.hash == hash)
-            .count();
-        rest.get(..count).unwrap_or(&[])
+    /// A name that ends in `_` and a name, and is not the excepted one.
+    fn other(&self, name: &str, excepted: Option<&str>) -> Option<&'n str>
+        ensures { IsOtherOf self.now (option_copied excepted.entry) name.now (option_copied result) }
+    {
+        let Some(number) = self.other_number(name, excepted) else {
+            return None;
+        };
+        self.name(number)
     }
 
-    /// Whether an end is a name, but for small and capital letters.
-    fn is_end(&self, end: &End, name: &str) -> bool {
-        match self
-            .names
-            .get(end.name)
-            .and_then(|other| other.get(end.start..))
-        {
-            Some(other) => is_alike(name, other),
-            None => false,
-        }
+    /// The number of such a name.
+    fn other_number(&self, name: &str, excepted: Option<&str>) -> Option<usize>
+        ensures { IsOtherNumber self.now (option_copied excepted.entry) name.now result }
+    {
+        other_among(self.names.as_slice(), self.kept.as_slice(), name, excepted)
+    }
+
+    /// The name of a number.
+    fn name(&self, number: usize) -> Option<&'n str>
+        ensures { option_copied result ≡ slice_get self.now number }
+    {
+        self.names.get(number).copied()
     }
 }
 
-/// Adds the ends of the name of an index, unless it is too long.
-fn push_ends(ends: &mut Vec<End>, index: usize, name: &[u8]) -> Result<(), AllocError> {
+/// Whether the name of a number ends in `_` and a name, and is not the excepted one.
+fn is_other_at(names: &[&str], name: &str, excepted: Option<&str>, number: usize) -> bool
+    ensures { IsTrue result ↔ IsOtherAt (lent_names names.now) (option_copied excepted.entry) name.now number }
+{
+    match names.get(number) {
+        Some(other) => !is_excepted(excepted, other) && is_ending(name, other),
+        None => false,
+    }
+}
+
+/// The number of a name that ends in `_` and a name, and is not the excepted one, by what is kept of the names.
+fn other_among(names: &[&str], kept: &[Kept], name: &str, excepted: Option<&str>) -> Option<usize>
+    requires { HasEnds (lent_names names.now) kept.now }
+    ensures { IsOtherNumber (lent_names names.now) (option_copied excepted.entry) name.now result }
+{
+    let hash = hash_from(START, name.as_bytes());
+    let first = place_of(kept, hash);
+    for place in first..kept.len() {
+        let found = kept[place];
+        if found.hash != hash {
+            return None;
+        }
+        if is_other_at(names, name, excepted, found.name) {
+            return Some(found.name);
+        }
+    }
+    None
+}
+
+/// Whether another name of at most 64 bytes ends in `_` and a name of at least four.
+fn is_ending(name: &str, other: &str) -> bool
+    ensures { IsTrue result ↔ IsEndOf name.now other.now }
+{
+    name.len() >= FEWEST_BYTES
+        && other.len() <= MOST_BYTES
+        && ends_in(name.as_bytes(), other.as_bytes())
+}
+
+/// Whether another name ends in `_` and a name, but for small and capital letters.
+fn ends_in(name: &[u8], other: &[u8]) -> bool
+    ensures { IsTrue result ↔ EndsIn name.now other.now }
+{
+    if other.len() <= name.len() {
+        return false;
+    }
+    let place = other.len() - name.len();
+    other[place - 1] == b'_' && name.eq_ignore_ascii_case(&other[place..])
+}
+
+/// Adds what comes after a `_`, with which bytes of the name of a number begin, or nothing.
+fn push_end(kept: &mut Vec<Kept>, name: usize, bytes: &[u8]) -> Result<(), AllocError>
+    ensures more { OnOk result (KeepsMore kept.old.items kept.new.items) }
+    ensures end { OnOk result ((rest : List ℕ) → bytes.now ≡ 95 ∷ rest → IsKept kept.new.items (lowered rest) name) }
+{
+    if let [first, rest @ ..] = bytes {
+        if *first == b'_' {
+            let hash = hash_from(START, rest);
+            kept.push(Kept { hash, name })?;
+        }
+    }
+    Ok(())
+}
+
+/// Adds what comes after each `_` in the name of a number, unless it is too long.
+fn push_ends(kept: &mut Vec<Kept>, number: usize, name: &[u8]) -> Result<(), AllocError>
+    ensures more { OnOk result (KeepsMore kept.old.items kept.new.items) }
+    ensures ends { OnOk result (KeepsEnds kept.new.items number name.now) }
+{
     if name.len() > MOST_BYTES {
         return Ok(());
     }
-    push_end(ends, index, name, 0)?;
-    for (place, byte) in name.iter().enumerate() {
-        if *byte == b'_' {
-            push_end(ends, index, name, place.saturating_add(1))?;
-        }
+    for place in 0..name.len() {
+        push_end(kept, number, &name[place..])?;
     }
     Ok(())
 }
 
-/// Adds the end of the name of an index that begins at a place.
-fn push_end(
-    ends: &mut Vec<End>,
-    index: usize,
-    name: &[u8],
-    start: usize,
-) -> Result<(), AllocError> {
-    let hash = hash_from(START, name.get(start..).unwrap_or(&[]));
-    ends.push(End {
-        hash,
-        name: index,
-        start,
-    })?;
-    Ok(())
+/// What comes after each `_` in names.
+fn ends_of(alloc: Global, names: &[&str]) -> Result<Vec<Kept>, AllocError>
+    ensures { IfOk result (λ kept. (j : ℕ) (b : List ℕ) → slice_get (lent_names names.now) j ≡ Some b → KeepsEnds kept.items j b) }
+{
+    let mut kept = Vec::new(alloc);
+    for number in 0..names.len() {
+        push_ends(&mut kept, number, names[number].as_bytes())?;
+    }
+    Ok(kept)
+}
+
+/// The same in the order of the hashes.
+fn sorted_ends(alloc: Global, names: &[&str]) -> Result<Vec<Kept>, AllocError>
+    ensures { IfOk result (λ kept. HasEnds (lent_names names.now) kept.items) }
+{
+    let mut kept = ends_of(alloc, names)?;
+    kept.sort_unstable_by_key(|kept| kept.hash);
+    Ok(kept)
 }

@@ -1,4 +1,4 @@
-//! Lines of files that were put in place before.
+//! Lines of files that were included before.
 
 ghost use Rattle.std.specs.Prelude.{◌≡◌, IfOk, map};
 ghost use Rattle.std.specs.List.{filter, list_any};
@@ -26,21 +26,21 @@ pub(crate) fn ends_of<'l, 'a>(
     lines.iter().filter(|line| is_end(line)).collect(alloc)
 }
 
-/// Whether the end of a file is that of an earlier putting in place of the file of a line.
+/// Whether the end of a file is that of an earlier inclusion of the file of a line.
 fn ends_before(line: &Line<'_>, end: &Line<'_>) -> bool
     ensures { result ≡ ends_before line.now end.now }
 {
     end.run() < line.run() && end.path() == line.path()
 }
 
-/// Whether the file of a line was put in place before, by the ends of files.
+/// Whether the file of a line was included before, by the ends of files.
 fn is_read_again(ends: &[&Line<'_>], line: &Line<'_>) -> bool
     ensures { result ≡ list_any (λ e. ends_before line.now e.now) ends.now }
 {
     ends.iter().any(|end| ends_before(line, end))
 }
 
-/// Whether the file of the line that begins the definition of a number was put in place before, by the ends of files.
+/// Whether the file of the line that begins the definition of a number was included before, by the ends of files.
 pub(crate) fn is_defined_again(index: &LineIndex<'_, '_>, ends: &[&Line<'_>], number: usize) -> bool
     requires { map (λ e. e.now) ends.now ≡ filter is_end index.now }
     ensures { result ≡ is_defined_again index.now number }

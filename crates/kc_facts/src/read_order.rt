@@ -22,7 +22,7 @@ pub struct VariableFile<'i> {
 pub enum Mark {
     /// The use of a variable, by its number among those in the file.
     Use(usize),
-    /// The `source` line of a number, which puts a file in place the time of a number.
+    /// The `source` line of a number, which begins the inclusion of a number.
     Source { line: usize, run: usize },
 }
 
@@ -44,7 +44,7 @@ fn place_at(places: &[usize], number: usize) -> usize
     }
 }
 
-/// With how many putting in place lists begin that begin before a line.
+/// With how many inclusions lists begin that begin before a line.
 fn count_before(starts: &[usize], line: usize) -> usize
     ensures count { result ≡ prefix_len (λ s. nat_lt s line) starts.now }
     ensures within { result ≤ length starts.now }
@@ -52,7 +52,7 @@ fn count_before(starts: &[usize], line: usize) -> usize
     starts.iter().take_while(|start| **start < line).count()
 }
 
-/// The first putting in place, from that of a number on, that doesn't begin before a line.
+/// The first inclusion, from that of a number on, that doesn't begin before a line.
 fn run_after(starts: &[usize], run: usize, line: usize) -> usize
     requires { run ≤ length starts.now }
     ensures after { result ≡ run_after starts.now run line }
@@ -163,7 +163,7 @@ fn push_uses(
     Ok(())
 }
 
-/// Where each putting in place of a file begins among lines, and where the lines after it begin.
+/// Where each inclusion of a file begins among lines, and where the lines after it begin.
 #[derive(Clone, Copy)]
 struct Runs<'l, 'a> {
     lines: &'l [Line<'a>],
@@ -171,7 +171,7 @@ struct Runs<'l, 'a> {
     rests: &'l [usize],
 }
 
-/// Adds what is in the file of a number, which is put in place first the time of a number.
+/// Adds what is in the file of a number, whose first inclusion has a number.
 fn push_file(
     reached: &mut Vec<Reached>,
     runs: Runs<'_, '_>,
@@ -205,7 +205,7 @@ fn push_file(
     Ok(())
 }
 
-/// Adds what is in the file of a number, if it is put in place.
+/// Adds what is in the file of a number, if it is included.
 fn push_if_read(
     reached: &mut Vec<Reached>,
     runs: Runs<'_, '_>,
@@ -254,7 +254,7 @@ fn marks_of(
 }
 
 /// What the reader of logical lines comes to in their files, in its order (this project's own): the uses of variables and the
-/// `source` lines, each before the logical line that is the next one to be read. A file that is put in place again has
+/// `source` lines, each before the logical line that is the next one to be read. A file that is included again has
 /// neither the second time.
 ///
 /// # Errors

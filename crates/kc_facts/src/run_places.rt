@@ -1,4 +1,4 @@
-//! Where the lines of each putting in place of a file begin and end, and which is the first of a file.
+//! Where the lines of each inclusion of a file begin and end, and which is the first of a file.
 
 ghost use Rattle.std.specs.Prelude.{◌≡◌, ◌≤◌, ◌+◌, ℕ, IfOk, length, map, slice_index_or};
 ghost use Rattle.std.specs.List.{range_with_len};
@@ -10,7 +10,7 @@ use crate::sourced_twice::{end_of_path, next_start};
 use kc_text::Line;
 use std::alloc::{AllocError, Global};
 
-/// Where putting in place of these numbers begin.
+/// Where inclusions of these numbers begin.
 pub(crate) fn starts_of(
     alloc: Global,
     lines: &[Line<'_>],
@@ -29,7 +29,7 @@ pub(crate) fn starts_of(
     Ok(starts)
 }
 
-/// Notes which line is after the end of a putting in place, if a line before it is that end.
+/// Notes which line is after the end of an inclusion, if a line before it is that end.
 fn note_rest(rests: &mut Vec<usize>, run: usize, is_end: bool, rest: usize)
     ensures { rests.new.items ≡ noted_rest rests.old.items run is_end rest }
 {
@@ -38,7 +38,7 @@ fn note_rest(rests: &mut Vec<usize>, run: usize, is_end: bool, rest: usize)
     }
 }
 
-/// The line after the end of each of this number of putting in place.
+/// The line after the end of each of this number of inclusions.
 pub(crate) fn rests_of(
     alloc: Global,
     lines: &[Line<'_>],
@@ -58,7 +58,7 @@ pub(crate) fn rests_of(
     Ok(rests)
 }
 
-/// The first putting in place of the file of a path, by the ends of files.
+/// The first inclusion of the file of a path, by the ends of files.
 pub(crate) fn first_run_of(ends: &[&Line<'_>], path: &str) -> Option<usize>
     ensures { result ≡ lent_run ends.now path.now }
 {

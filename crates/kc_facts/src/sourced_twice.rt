@@ -1,4 +1,4 @@
-//! Files that are put in place twice, where the first time is enough.
+//! Files that are included twice, where the first time is enough.
 
 ghost use Rattle.std.specs.Prelude.{◌≡◌, ◌≤◌, ◌<◌, ◌++◌, ◌+◌, ◌==◌, ◌&&◌, ℕ, None, false, true, IfOk, OnOk, drop, length, nat_lt, option_and_then, option_to_list, position, slice_index_or};
 ghost use Rattle.std.specs.List.{list_any, prefix_len};
@@ -15,7 +15,7 @@ use kc_text::Line;
 use kc_tree::Tree;
 use std::alloc::{AllocError, Global};
 
-/// A putting in place of a file, by its number, that another one has made superfluous, which is the first of that file.
+/// An inclusion of a file, by its number, that another one has made superfluous, which is the first of that file.
 #[derive(Clone, Copy, Debug, PartialEq, Eq)]
 pub struct RepeatedFile {
     pub run: usize,
@@ -32,7 +32,7 @@ fn is_statement(line: &Line<'_>) -> bool
     }
 }
 
-/// Notes that a putting in place has a statement, if it has one.
+/// Notes that an inclusion has a statement, if it has one.
 pub(crate) fn note_run(noted: &mut Vec<bool>, run: usize, has_statement: bool)
     ensures { noted.new.items ≡ noted_run noted.old.items run has_statement }
 {
@@ -41,7 +41,7 @@ pub(crate) fn note_run(noted: &mut Vec<bool>, run: usize, has_statement: bool)
     }
 }
 
-/// For each of this number of putting in place of files whether it has a statement.
+/// For each of this number of inclusions of files whether it has a statement.
 fn runs_with_statements(
     alloc: Global,
     lines: &[Line<'_>],
@@ -57,7 +57,7 @@ fn runs_with_statements(
     Ok(noted)
 }
 
-/// The place, among the ends of files, of that of the putting in place of a number.
+/// The place, among the ends of files, of that of the inclusion of a number.
 fn place_of_run(ends: &[&Line<'_>], run: usize) -> Option<usize>
     ensures { result ≡ position (λ e. e.now.run == run) ends.now }
 {
@@ -71,7 +71,7 @@ fn place_of_path(ends: &[&Line<'_>], path: &str) -> Option<usize>
     ends.iter().position(|end| end.path() == path)
 }
 
-/// The end of the putting in place of a number.
+/// The end of the inclusion of a number.
 fn end_of_run<'l, 'a>(ends: &[&'l Line<'a>], run: usize) -> Option<&'l Line<'a>>
     ensures { result ≡ first_with (λ e. e.now.run == run) ends.now }
 {
@@ -97,7 +97,7 @@ fn if_earlier(run: usize, first: usize) -> Option<usize>
     None
 }
 
-/// The first putting in place of the file of a path, by the ends of files, if it is before that of a number.
+/// The first inclusion of the file of a path, by the ends of files, if it is before that of a number.
 fn first_of_path(ends: &[&Line<'_>], run: usize, path: &str) -> Option<usize>
     ensures { result ≡ lent_first run ends.now path.now }
 {
@@ -107,7 +107,7 @@ fn first_of_path(ends: &[&Line<'_>], run: usize, path: &str) -> Option<usize>
     }
 }
 
-/// The first putting in place of the file that is put in place, by the ends of files, if that is an earlier one.
+/// The first inclusion of the file that is included, by the ends of files, if that is an earlier one.
 fn first_before(ends: &[&Line<'_>], run: usize) -> Option<usize>
     ensures { result ≡ lent_first_before ends.now run }
 {
@@ -117,7 +117,7 @@ fn first_before(ends: &[&Line<'_>], run: usize) -> Option<usize>
     }
 }
 
-/// Whether the putting in place of a number has a statement, of those that are noted.
+/// Whether the inclusion of a number has a statement, of those that are noted.
 pub(crate) fn is_noted(noted: &[bool], run: usize) -> bool
     ensures { result ≡ slice_index_or noted.now run false }
 {
@@ -137,7 +137,7 @@ fn is_around(around: &OpenNumbers, block: Option<usize>) -> bool
     }
 }
 
-/// The putting in place of a number, if the lines of an earlier one of the same file count here: it has a statement, and
+/// The inclusion of a number, if the lines of an earlier one of the same file count here: it has a statement, and
 /// the innermost block with a condition around it is open.
 fn repeated(
     run: usize,
@@ -156,7 +156,7 @@ fn repeated(
     None
 }
 
-/// Adds a putting in place, if there is one.
+/// Adds an inclusion, if there is one.
 fn add_file(found: &mut Vec<RepeatedFile>, file: Option<RepeatedFile>) -> Result<(), AllocError>
     ensures { OnOk result (found.new.items ≡ found.old.items ++ option_to_list file) }
 {
@@ -166,7 +166,7 @@ fn add_file(found: &mut Vec<RepeatedFile>, file: Option<RepeatedFile>) -> Result
     Ok(())
 }
 
-/// With how many lines of putting in place of smaller numbers lines begin.
+/// With how many lines of inclusions of smaller numbers lines begin.
 fn count_below(lines: &[Line<'_>], run: usize) -> usize
     ensures count { result ≡ prefix_len (λ line. nat_lt line.run run) lines.now }
     ensures within { result ≤ length lines.now }
@@ -174,7 +174,7 @@ fn count_below(lines: &[Line<'_>], run: usize) -> usize
     lines.iter().take_while(|line| line.run() < run).count()
 }
 
-/// Where the putting in place of a number begins, after that of a smaller number, which begins at a line.
+/// Where the inclusion of a number begins, after that of a smaller number, which begins at a line.
 pub(crate) fn next_start(lines: &[Line<'_>], from: usize, run: usize) -> usize
     requires { from ≤ length lines.now }
     ensures start { result ≡ from + prefix_len (λ line. nat_lt line.run run) (drop from lines.now) }
@@ -184,7 +184,7 @@ pub(crate) fn next_start(lines: &[Line<'_>], from: usize, run: usize) -> usize
     from + count_below(&lines[from..], run)
 }
 
-/// The putting in place of files, in their order, that an earlier one of the same file has made superfluous: it has a
+/// The inclusions of files, in their order, that an earlier one of the same file has made superfluous: it has a
 /// statement, and all blocks with a condition around it are around this one, too, so that its lines count already (this
 /// project's own). Attributes alone may be meant for one statement after the other.
 ///

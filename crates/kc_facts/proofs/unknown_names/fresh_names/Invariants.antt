@@ -1,17 +1,9 @@
-use Rattle.std.proofs.Common.{◌≡◌, ◌||◌, ℕ, List, true, false, take}
-use Rattle.std.specs.BTreeMap.{get_by}
-use Rattle.std.specs.Cmp.Lexicographic.{slice_cmp}
+use Rattle.std.proofs.Common.{◌≡◌}
 use Rattle.std.specs.List.{filter, range_with_len}
-use Rattle.std.specs.Option.{option_map_or}
-use Rattle.std.specs.Ordering.{nat_cmp}
 use Rattle.kc_text.specs.LineReferences.{lent_names}
-use Rattle.kc_facts.specs.FreshNames.{is_among, is_fresh}
+use Rattle.kc_facts.specs.FreshNames.{is_fresh}
 use Rattle.kc_facts.proofs.unknown_names.fresh_names.Given as goal
 
--- the names so far are noted, and those that are known
+-- the places so far
 abbrev pub invariant-loop-place : goal.invariant-loop-place
-invariant-loop-place l = record {
-  noted_is : (q : List ℕ) → option_map_or (λ _. true) (get_by (λ k. slice_cmp nat_cmp q k.now) l.noted) false
-      ≡ (is_among (lent_names l.fn.known) q || is_among (take l.place (lent_names l.names)) q);
-  fresh_is : l.fresh.items ≡ filter (is_fresh (lent_names l.names) (lent_names l.fn.known)) (range_with_len 0 l.place);
-}
+invariant-loop-place l = l.fresh.items ≡ filter (is_fresh (lent_names l.fn.names) (lent_names l.fn.known)) (range_with_len 0 l.place)

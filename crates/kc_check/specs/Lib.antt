@@ -1,0 +1,5 @@
+pub mod CheckReport
+pub mod FindingPlaces
+pub mod ReportLines
+pub mod TreeReport
+pub mod UnusedVariables
