@@ -5,11 +5,11 @@ use Rattle.std.specs.List.{AllZip}
 use Rattle.kc_text.specs.LineValue.{LineValue}
 use Rattle.kc_outline.specs.TreeValue.{TreeValue}
 use Rattle.kc_value.specs.Assignment.{Assignment}
-use Rattle.kc_facts.specs.declared.earlier_faults.EarlierFinding.{EarlierFinding}
-use Rattle.kc_facts.specs.declared.listed_names.Extent.{Extent}
-use Rattle.kc_facts.specs.declared.read_order.VariableFile.{VariableFile}
+use Rattle.kc_line_facts.specs.declared.earlier_faults.EarlierFinding.{EarlierFinding}
+use Rattle.kc_line_facts.specs.declared.listed_names.Extent.{Extent}
+use Rattle.kc_line_facts.specs.declared.read_order.VariableFile.{VariableFile}
 use Rattle.kc_facts.specs.declared.tree_findings.FoundInTree.{FoundInTree}
-use Rattle.kc_facts.specs.EarlierFindings.{AreEarlier}
+use Rattle.kc_line_facts.specs.EarlierFindings.{AreEarlier}
 use Rattle.kc_facts.specs.TreeFindings.{AreByLine, found_by_kind}
 use Rattle.kc_check.specs.declared.finding.Finding.{Finding}
 use Rattle.kc_check.specs.declared.inputs.SourceText.{SourceText}

@@ -3,8 +3,8 @@ use Rattle.std.proofs.Common.{◌≡◌, ℕ, ◌<◌, ◌+◌, Bool, true, fals
 use Rattle.std.specs.List.{filter, filter_map, range_with_len}
 use Rattle.std.proofs.lemmas.List.Elements.{filter_map-append}
 use Rattle.std.proofs.lemmas.List.FromFn.{get_or-map-range_with_len}
-use Rattle.kc_facts.specs.FreshNames.{is_fresh}
-use Rattle.kc_facts.proofs.RangeLaws.{filter_next}
+use Rattle.kc_line_facts.specs.FreshNames.{is_fresh}
+use Rattle.kc_line_facts.proofs.RangeLaws.{filter_next}
 use Rattle.kc_check.specs.ReportLines.{line_text}
 use Rattle.kc_check.specs.declared.finding.Finding.{Finding}
 

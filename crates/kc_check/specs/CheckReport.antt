@@ -5,10 +5,10 @@ use Rattle.std.specs.Str.Lines.{lines}
 use Rattle.kc_text.specs.LineValue.{LineValue}
 use Rattle.kc_outline.specs.TreeValue.{TreeValue}
 use Rattle.kc_value.specs.Assignment.{Assignment}
-use Rattle.kc_facts.specs.declared.listed_names.Extent.{Extent}
-use Rattle.kc_facts.specs.declared.listed_names.Extent.TheVariants.{All, Near}
-use Rattle.kc_facts.specs.declared.read_order.VariableFile.{VariableFile}
-use Rattle.kc_facts.specs.FileVariables.{HaveVariables}
+use Rattle.kc_line_facts.specs.declared.listed_names.Extent.{Extent}
+use Rattle.kc_line_facts.specs.declared.listed_names.Extent.TheVariants.{All, Near}
+use Rattle.kc_line_facts.specs.declared.read_order.VariableFile.{VariableFile}
+use Rattle.kc_line_facts.specs.FileVariables.{HaveVariables}
 use Rattle.kc_check.specs.declared.finding.Finding.{Finding}
 use Rattle.kc_check.specs.declared.inputs.SourceText.{SourceText}
 use Rattle.kc_check.specs.TreeReport.{IsListedReport}

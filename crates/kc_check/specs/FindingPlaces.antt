@@ -2,14 +2,14 @@
 use Rattle.std.specs.Prelude.{ℕ, List, Option, Some, None, option_and_then, option_map, slice_get}
 use Rattle.std.specs.Option.{option_map_or}
 use Rattle.kc_text.specs.LineValue.{LineValue}
-use Rattle.kc_facts.specs.declared.earlier_faults.EarlierFault.{EarlierFault}
-use Rattle.kc_facts.specs.declared.earlier_faults.EarlierFault.TheVariants.{Missing, SourcedAgain}
-use Rattle.kc_facts.specs.declared.earlier_faults.EarlierFinding.{EarlierFinding}
-use Rattle.kc_facts.specs.declared.read_order.VariableFile.{VariableFile}
+use Rattle.kc_line_facts.specs.declared.earlier_faults.EarlierFault.{EarlierFault}
+use Rattle.kc_line_facts.specs.declared.earlier_faults.EarlierFault.TheVariants.{Missing, SourcedAgain}
+use Rattle.kc_line_facts.specs.declared.earlier_faults.EarlierFinding.{EarlierFinding}
+use Rattle.kc_line_facts.specs.declared.read_order.VariableFile.{VariableFile}
 use Rattle.kc_facts.specs.declared.tree_findings.FoundInTree.{FoundInTree}
 use Rattle.kc_facts.specs.declared.tree_findings.TreeFinding.{TreeFinding}
 use Rattle.kc_facts.specs.declared.tree_findings.TreeFinding.TheVariants as found
-use Rattle.kc_facts.specs.EarlierFindings.{use_in}
+use Rattle.kc_line_facts.specs.EarlierFindings.{use_in}
 use Rattle.kc_check.specs.declared.finding.FoundAt.{FoundAt}
 
 -- ---- what comes before lines

@@ -2,7 +2,7 @@
 use Rattle.std.specs.Prelude.{ℕ, List, [], ◌++◌, Option, None, Some, codes, decimal, filter_map, flat_map, if◌then◌else◌, map, slice_get}
 use Rattle.std.specs.Str.{bytes_eq}
 use Rattle.std.specs.String.{string_bytes}
-use Rattle.kc_facts.specs.FreshNames.{fresh_places}
+use Rattle.kc_line_facts.specs.FreshNames.{fresh_places}
 use Rattle.kc_check.specs.declared.finding.Finding.{Finding}
 use Rattle.kc_check.specs.declared.finding.FoundAt.{FoundAt}
 

@@ -1,10 +1,10 @@
 -- Variables that are used nowhere: this project's own, by docs/ERRORS.md, "Findings of `check`".
 use Rattle.std.specs.Prelude.{ℕ, List, Option, None, Some, filter_map, flat_map, map, option_map, option_to_list, slice_get, []}
 use denote.Ref.{Bor}
-use Rattle.kc_facts.specs.declared.named_variables.NamedVariable.{NamedVariable}
-use Rattle.kc_facts.specs.declared.read_order.VariableFile.{VariableFile}
-use Rattle.kc_facts.specs.FreshNames.{fresh_places}
-use Rattle.kc_facts.specs.VariableNames.{defined_names, used_names}
+use Rattle.kc_line_facts.specs.declared.named_variables.NamedVariable.{NamedVariable}
+use Rattle.kc_line_facts.specs.declared.read_order.VariableFile.{VariableFile}
+use Rattle.kc_line_facts.specs.FreshNames.{fresh_places}
+use Rattle.kc_line_facts.specs.VariableNames.{defined_names, used_names}
 use Rattle.kc_check.specs.declared.finding.Finding.{Finding}
 use Rattle.kc_check.specs.declared.finding.FoundAt.{FoundAt}
 use Rattle.kc_check.specs.declared.variables.Definition.{Definition}

@@ -10,8 +10,10 @@ use crate::finding::Findings;
 use crate::inputs::CheckInputs;
 use crate::kconfig_findings::kconfig_findings;
 use crate::tree_findings::TreeReport;
-use kc_facts::{Extent, LineIndex, View};
+use kc_facts::View;
 use kc_files::ReadFault;
+use kc_line_facts::Extent;
+use kc_lines::LineIndex;
 use kc_text::Text;
 use std::alloc::Global;
 

@@ -5,12 +5,9 @@ use crate::inputs::CheckInputs;
 use crate::meant_lines::{comment_words, dropped_words};
 use crate::selections::push_bracketed;
 use crate::shown_values::{has_no_value, push_asked, push_value};
-use kc_facts::{Attribute, Family, LineIndex, Part, View, push_shortfall, shown_line};
-use kc_files::{
-    Assign, ConfigFinding, DroppedBackslash, FoundInLine, FragmentLine, Input, LineFact,
-    MeantComment, NamedLine, ReadFault, assign_at, findings_of_config, outcomes_of, read_fragments,
-    text_lines,
-};
+use kc_facts::{View, push_shortfall};
+use kc_files::{Assign, ConfigFinding, DroppedBackslash, FoundInLine, FragmentLine, Input, LineFact, MeantComment, NamedLine, ReadFault, assign_at, findings_of_config, outcomes_of, read_fragments, text_lines};
+use kc_lines::{Attribute, Family, LineIndex, Part, shown_line};
 use kc_tree::{ChoiceId, Node, SymId, Tree};
 use kc_value::{Reason, active_range, changed_value, reason_over, spelled};
 use std::alloc::{AllocError, Global};

@@ -1,7 +1,7 @@
 //! Variables that are missing and files that are included twice, in words.
 
 use crate::said::Said;
-use kc_facts::{EarlierFault, EarlierFinding, VariableFile, use_in};
+use kc_line_facts::{EarlierFault, EarlierFinding, VariableFile, use_in};
 use kc_text::{Line, LineKind};
 use std::alloc::{AllocError, Global};
 use std::collections::BTreeMap;

@@ -4,7 +4,8 @@ ghost use Rattle.std.specs.Prelude.{◌≡◌, IfOk};
 ghost use Rattle.kc_check.specs.FindingPlaces.{earlier_number, earlier_place, fault_line, line_place, nth_earlier_place, place_of, use_line};
 
 use crate::finding::FoundAt;
-use kc_facts::{EarlierFault, EarlierFinding, FoundInTree, TreeFinding, VariableFile, use_in};
+use kc_facts::{FoundInTree, TreeFinding};
+use kc_line_facts::{EarlierFault, EarlierFinding, VariableFile, use_in};
 use kc_text::Line;
 use std::alloc::{AllocError, Global};
 

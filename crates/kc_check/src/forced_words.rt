@@ -3,9 +3,8 @@
 use crate::said::Said;
 use crate::said_lines::SaidLines;
 use crate::selections::push_bracketed;
-use kc_facts::{
-    Attribute, Family, Forced, LineIndex, Part, View, is_if, part_of_factor, push_expr, shown_line,
-};
+use kc_facts::{Forced, View, part_of_factor, push_expr};
+use kc_lines::{Attribute, Family, LineIndex, Part, is_if, shown_line};
 use kc_outline::MOST_OPEN_BLOCKS;
 use kc_tree::{BlockId, Definition, Expr, Reverse, Tree, Tri};
 use kc_value::{Factor, FactorPart, Origin, tri};

@@ -10,7 +10,9 @@ use crate::finding::Finding;
 use crate::inputs::CheckInputs;
 use crate::tree_findings::{TreeReport, tree_findings};
 use crate::variables::Variables;
-use kc_facts::{Extent, LineIndex, View};
+use kc_facts::View;
+use kc_line_facts::Extent;
+use kc_lines::LineIndex;
 use kc_tree::Tree;
 use std::alloc::{AllocError, Global};
 

@@ -2,9 +2,10 @@
 
 use crate::shown_values::push_asked;
 use kc_bounds::{Bounds, TriSet};
-use kc_facts::{View, push_expr, type_words};
+use kc_facts::{View, push_expr};
 use kc_files::Assign;
 use kc_how::{Cause, LackingCondition, LackingSymbol, Obstacle, obstacle_to};
+use kc_lines::type_words;
 use kc_tree::{ExprNode, SymbolType, Term, Tree, Tri};
 use std::alloc::AllocError;
 

@@ -4,11 +4,11 @@ ghost use Rattle.std.specs.Prelude.{◌≡◌, ◌++◌, ◌∷◌, [], Bool, If
 ghost use Rattle.std.specs.List.{range_with_len};
 ghost use Rattle.std.specs.String.{string_bytes};
 ghost use Rattle.kc_text.specs.LineReferences.{lent_names};
-ghost use Rattle.kc_facts.specs.FreshNames.{is_fresh};
+ghost use Rattle.kc_line_facts.specs.FreshNames.{is_fresh};
 ghost use Rattle.kc_check.specs.ReportLines.{line_text, said_once};
 
 use crate::finding::Finding;
-use kc_facts::fresh_flags;
+use kc_line_facts::fresh_flags;
 use std::alloc::{AllocError, Global};
 
 /// A finding as a line.

@@ -1,6 +1,6 @@
 //! The lines that say an attribute of definitions.
 
-use kc_facts::{Attribute, Family, LineIndex};
+use kc_lines::{Attribute, Family, LineIndex};
 use kc_text::Line;
 use std::alloc::{AllocError, Global};
 use std::collections::BTreeMap;

@@ -1,7 +1,8 @@
 //! Selects that have no effect.
 
 use crate::said::Said;
-use kc_facts::{push_place, token_word};
+use kc_line_facts::token_word;
+use kc_lines::push_place;
 use kc_statement::{Keyword, read_keyword};
 use kc_text::Line;
 use kc_tree::Tree;

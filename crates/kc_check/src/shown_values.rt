@@ -1,6 +1,7 @@
 //! Values as messages write them.
 
-use kc_facts::{View, push_quoted, shown_line, shown_text};
+use kc_facts::{View, push_quoted};
+use kc_lines::{shown_line, shown_text};
 use kc_tree::{Node, SymId, SymbolType, UserVal};
 use std::alloc::{AllocError, Global};
 

@@ -19,10 +19,9 @@ use crate::unset_symbols::{said_of_never_modules, said_of_unset};
 use crate::unused_defaults::{said_of_hidden, said_of_unused};
 use crate::values::{said_of_default, said_of_range};
 use crate::variables::Variables;
-use kc_facts::{
-    Attribute, EarlierFinding, Extent, FoundInTree, FoundLines, LineIndex, ListedName, TreeFinding,
-    View, earlier_findings, findings_by_line, list_names,
-};
+use kc_facts::{FoundInTree, FoundLines, TreeFinding, View, findings_by_line};
+use kc_line_facts::{EarlierFinding, Extent, ListedName, earlier_findings, list_names};
+use kc_lines::{Attribute, LineIndex};
 use kc_text::Line;
 use std::alloc::{AllocError, Global};
 

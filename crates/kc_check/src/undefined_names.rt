@@ -1,7 +1,9 @@
 //! What is said of names in expressions, and after `select` and `imply`, that no line defines.
 
 use crate::said::Said;
-use kc_facts::{ListedName, NameReading, name_of, push_meant, type_words};
+use kc_line_facts::{ListedName, NameReading, name_of};
+use kc_lines::type_words;
+use kc_names::push_meant;
 use kc_text::Line;
 use kc_tree::Tree;
 use std::alloc::{AllocError, Global};

@@ -2,7 +2,9 @@
 
 use crate::said::Said;
 use crate::said_lines::SaidLines;
-use kc_facts::{LineIndex, UnusedDefault, push_expr, push_place, shown_line, token_word};
+use kc_facts::push_expr;
+use kc_line_facts::{UnusedDefault, token_word};
+use kc_lines::{LineIndex, push_place, shown_line};
 use kc_statement::DefaultValue;
 use kc_text::Line;
 use kc_tree::Tree;

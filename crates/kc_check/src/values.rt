@@ -1,9 +1,9 @@
 //! Findings about defaults and ranges.
 
 use crate::said::Said;
-use kc_facts::{
-    DefaultFault, FaultyDefault, meant_tri, push_expr, push_term, range_of, shown_line,
-};
+use kc_facts::{push_expr, push_term};
+use kc_line_facts::{DefaultFault, FaultyDefault, range_of};
+use kc_lines::{meant_tri, shown_line};
 use kc_statement::{DefaultValue, Range, SymbolType, Term, lone_term};
 use kc_tree::{Definition, Tree};
 use kc_value::RangePlace;

@@ -1,8 +1,8 @@
 -- Steps: what the pieces of a message are once they are filled, and which slots a message has a text for: this project's own.
 use Rattle.std.specs.Prelude.{Bool, true, false, ◌||◌, ℕ, nat_eq, List, [], ◌∷◌, decimal}
 use Rattle.kc_tree.specs.declared.node.Node.{Node}
-use Rattle.kc_facts.specs.declared.loop_step.Way.{Way}
-use Rattle.kc_facts.specs.declared.loop_step.Way.TheVariants as way
+use Rattle.kc_lines.specs.declared.loop_step.Way.{Way}
+use Rattle.kc_lines.specs.declared.loop_step.Way.TheVariants as way
 use Rattle.kc_explain.specs.declared.messages.ConfigMessage.{ConfigMessage}
 use Rattle.kc_explain.specs.declared.messages.ConfigMessage.TheVariants as config
 use Rattle.kc_explain.specs.declared.messages.FormMessage.{FormMessage}

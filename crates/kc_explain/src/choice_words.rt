@@ -1,14 +1,14 @@
 //! What is said of a fault of a choice.
 
 ghost use Rattle.std.specs.Prelude.{IfOk};
-ghost use Rattle.kc_facts.specs.declared.shown.Fault.TheVariants.{Choice};
-ghost use Rattle.kc_facts.specs.Named.{AreRemarksOf};
+ghost use Rattle.kc_lines.specs.declared.shown.Fault.TheVariants.{Choice};
+ghost use Rattle.kc_lines.specs.Named.{AreRemarksOf};
 
 use crate::messages::ChoiceMessage;
 use crate::outlines::{name_of, outline_of, owner_of, second_word};
 use crate::piece::{texts, words_of};
 use crate::said::{Unsaid, Words, worded, words_or_meaning};
-use kc_facts::{
+use kc_lines::{
     Explanation, Family, Fault, LineIndex, Part, choice_culprits, explain_parts, type_words,
 };
 use kc_outline::{ChoiceId, Outline};

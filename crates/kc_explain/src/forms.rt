@@ -7,7 +7,7 @@ use crate::messages::FormMessage;
 use crate::piece::{texts, words_of};
 use crate::said::{Said, Unsaid};
 use crate::spelling::{begins_comment, first_word, tokens_text, written_text};
-use kc_facts::Finding;
+use kc_lines::Finding;
 use kc_outline::form_mistake;
 use kc_statement::{Keyword, Mistake, Wanted, is_word, read_keyword};
 use kc_text::Token;

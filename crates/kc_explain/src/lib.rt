@@ -39,7 +39,7 @@ mod warnings;
 
 pub use choice_words::explain_choice;
 pub use indentation::line_of;
-pub use kc_facts::{Explanation, Place, Remark};
+pub use kc_lines::{Explanation, Place, Remark};
 pub use lines::explain_line;
 pub use loops::explain_loop;
 pub use meanings::{fault_meaning, refusal_meaning, warning_meaning};

@@ -1,8 +1,8 @@
 //! What is said of a fault of a line.
 
 ghost use Rattle.std.specs.Prelude.{IfOk};
-ghost use Rattle.kc_facts.specs.declared.shown.Fault.TheVariants.{Line as OfLine};
-ghost use Rattle.kc_facts.specs.Named.{AreRemarksOf};
+ghost use Rattle.kc_lines.specs.declared.shown.Fault.TheVariants.{Line as OfLine};
+ghost use Rattle.kc_lines.specs.Named.{AreRemarksOf};
 
 use crate::blocks::explain_block;
 use crate::forms::explain_form;
@@ -14,7 +14,7 @@ use crate::statements::Statements;
 use crate::strays::explain_stray;
 use crate::unknown::explain_unknown;
 use crate::unsupported::explain_unsupported;
-use kc_facts::{Explanation, Fault};
+use kc_lines::{Explanation, Fault};
 use kc_outline::LineProblem;
 use kc_statement::Keyword;
 use kc_text::Line;

@@ -1,15 +1,15 @@
 //! What is said of a dependency loop.
 
 ghost use Rattle.std.specs.Prelude.{IfOk};
-ghost use Rattle.kc_facts.specs.declared.shown.Fault.TheVariants.{Loop};
-ghost use Rattle.kc_facts.specs.Named.{AreRemarksOf};
+ghost use Rattle.kc_lines.specs.declared.shown.Fault.TheVariants.{Loop};
+ghost use Rattle.kc_lines.specs.Named.{AreRemarksOf};
 
 use crate::meanings::fault_meaning;
 use crate::messages::{node_pieces, way_pieces};
 use crate::outlines::{name_of, outline_of, owner_of};
 use crate::piece::{texts, words_of};
 use crate::spelling::repeated;
-use kc_facts::{
+use kc_lines::{
     Explanation, Family, Fault, LineIndex, Part, Step, Way, WordedPart, explain_worded_parts,
     step_between,
 };

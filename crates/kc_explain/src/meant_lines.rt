@@ -3,8 +3,8 @@
 use crate::dollars::is_escaped;
 use crate::messages::ConfigMessage;
 use crate::piece::{texts, words_of};
-use kc_facts::meant_tri;
 use kc_files::push_quoted;
+use kc_lines::meant_tri;
 use kc_statement::{SymbolType, Tri, numeral};
 use std::alloc::{AllocError, Global};
 

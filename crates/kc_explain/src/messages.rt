@@ -6,7 +6,7 @@ ghost use Rattle.std.specs.List.{list_all};
 ghost use Rattle.kc_explain.specs.Messages.{choice_slots, config_slots, fills, form_slots, line_slots, node_slots, refusal_slots, symbol_slots, text_slots, way_slots};
 
 use crate::piece::{Piece, Slot};
-use kc_facts::Way;
+use kc_lines::Way;
 use kc_tree::Node;
 
 /// A row of pieces.

@@ -2,7 +2,7 @@
 
 use crate::said::Unsaid;
 use crate::statements::second_word_of;
-use kc_facts::{LineIndex, Part};
+use kc_lines::{LineIndex, Part};
 use kc_outline::{LineFault, Outline, read_outline};
 use kc_statement::{Seed, SymId};
 use kc_text::{Line, MOST_LINES};

@@ -3,7 +3,8 @@
 use crate::messages::{ConfigMessage, RefusalMessage};
 use crate::piece::{texts, words_of};
 use crate::warnings::values_of;
-use kc_facts::{MeantNames, is_alike, is_near, push_meant, type_words};
+use kc_lines::type_words;
+use kc_names::{MeantNames, is_alike, is_near, push_meant};
 use kc_statement::SymbolType;
 use kc_tree::{SymId, Tree};
 use std::alloc::{AllocError, Global};

@@ -2,7 +2,7 @@
 
 use crate::meanings::fault_meaning;
 use crate::piece::{Piece, Texts, words_of};
-use kc_facts::Finding;
+use kc_lines::Finding;
 use std::alloc::{AllocError, AllocFailed, Global};
 
 /// Why nothing is said.

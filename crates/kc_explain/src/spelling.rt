@@ -2,7 +2,7 @@
 
 ghost use Rattle.std.specs.Prelude.{◌≤◌, length};
 
-use kc_facts::shown_line;
+use kc_lines::shown_line;
 use kc_text::{Line, Operator, Token};
 use std::alloc::{AllocError, Global};
 

@@ -4,7 +4,7 @@ ghost use Rattle.std.specs.Prelude.{◌≡◌, option_map};
 ghost use Rattle.kc_statement.specs.Names.{token_word};
 
 use crate::said::Unsaid;
-use kc_facts::{Family, LineIndex, is_attribute};
+use kc_lines::{Family, LineIndex, is_attribute};
 use kc_statement::{Keyword, SymbolType, read_keyword};
 use kc_text::{Line, LineKind, Token};
 use std::alloc::{AllocError, Global};

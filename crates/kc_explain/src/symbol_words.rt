@@ -1,15 +1,15 @@
 //! What is said of a fault of a symbol.
 
 ghost use Rattle.std.specs.Prelude.{IfOk};
-ghost use Rattle.kc_facts.specs.declared.shown.Fault.TheVariants.{Symbol as OfSymbol};
-ghost use Rattle.kc_facts.specs.Named.{AreRemarksOf};
+ghost use Rattle.kc_lines.specs.declared.shown.Fault.TheVariants.{Symbol as OfSymbol};
+ghost use Rattle.kc_lines.specs.Named.{AreRemarksOf};
 
 use crate::messages::SymbolMessage;
 use crate::outlines::{name_of, outline_of, owner_of, second_word};
 use crate::piece::texts;
 use crate::said::{Unsaid, Words, worded, words_or_meaning};
 use crate::spelling::repeated;
-use kc_facts::{
+use kc_lines::{
     Attribute, Explanation, Fault, LineIndex, Part, explain_parts, symbol_culprits, type_name,
     type_words,
 };

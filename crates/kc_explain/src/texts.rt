@@ -9,7 +9,7 @@ use crate::meanings::fault_meaning;
 use crate::messages::TextMessage;
 use crate::piece::{Texts, texts, words_of};
 use crate::variables::explain_ring;
-use kc_facts::Explanation;
+use kc_lines::Explanation;
 use kc_text::{StopKind, TextProblem};
 use std::alloc::{AllocError, Global};
 

@@ -4,7 +4,7 @@ use crate::items::{Definitions, Found};
 use crate::messages::TextMessage;
 use crate::piece::{texts, words_of};
 use crate::texts::TextLine;
-use kc_facts::Explanation;
+use kc_lines::Explanation;
 use kc_text::value_references_in;
 use std::alloc::{AllocError, Global};
 

@@ -12,7 +12,8 @@ use Rattle.kc_outline.specs.declared.entry.Entry.{Entry}
 use Rattle.kc_outline.specs.declared.limits.TheConstants.{MOST_OPEN_BLOCKS}
 use Rattle.kc_outline.specs.TreeValue.{TreeValue, BlockValue}
 use Rattle.kc_facts.specs.declared.row.Row.{Row}
-use Rattle.kc_facts.specs.MenuTree.{AreRowsBack, IsRowAfter, block_around, blocks_outwards, has_row, is_definition, opened, opens, row_that_opens}
+use Rattle.kc_facts.specs.MenuTree.{AreRowsBack, IsRowAfter, block_around, has_row, is_definition, opened, opens, row_that_opens}
+use Rattle.kc_lines.specs.BlocksOutwards.{blocks_outwards}
 use Rattle.kc_facts.specs.RowSteps.{AreRowsSoFar, first_found, found_after, found_in}
 
 -- ---- the blocks around, one by one

@@ -46,8 +46,3 @@ shown_more_by {A} f g xs x ys all i d inside is at before =
     ∙ append_assoc (map f xs) (f x ∷ []) (map g (drop (i + 1) all))
     ∙ ap (λ zs. map f xs ++ zs) (ap (λ y. y ∷ map g (drop (i + 1) all)) at ∙ sym (ap (map g) (drop_more all i d inside)))
     ∙ before
-
--- what holds of all holds of one more, if there is one
-pub All_more : {A : Type 0} (P : A → Type 0) (xs : List A) (o : Option A) → All P xs → IfSome o P → All P (xs ++ option_to_list o)
-All_more P xs None h p = subst (All P) (sym (append-nil xs)) h
-All_more P xs (Some x) h p = All-push P xs x h p

@@ -7,6 +7,7 @@ use Rattle.kc_outline.specs.declared.entry.Entry.{Entry}
 use Rattle.kc_outline.specs.declared.entry.Entry.TheVariants.{Symbol, Again, Menu, EndMenu, Choice, Comment}
 use Rattle.kc_outline.specs.declared.limits.TheConstants.{MOST_OPEN_BLOCKS}
 use Rattle.kc_outline.specs.TreeValue.{TreeValue, BlockValue}
+use Rattle.kc_lines.specs.BlocksOutwards.{blocks_outwards}
 use Rattle.kc_facts.specs.declared.row.Row.{Row}
 
 -- ---- entries
@@ -53,13 +54,6 @@ block_around t None (Menu b) = parent_block t b
 block_around t None (EndMenu b) = None
 block_around t None (Choice c) = option_and_then (λ x. parent_block t x.block) (slice_get t.choices c.0)
 block_around t None (Comment c) = option_and_then (λ x. x.block) (slice_get t.comments c.0)
-
--- a block and all blocks around it, from the innermost outwards, as many as may be nested
-abbrev pub blocks_outwards : List BlockValue → ℕ → Option BlockId → List BlockId
-blocks_outwards blocks zero id = []
-blocks_outwards blocks (suc n) None = []
-blocks_outwards blocks (suc n) (Some id) =
-    option_map_or (λ b. id ∷ blocks_outwards blocks n b.parent) (slice_get blocks id.0) []
 
 -- ---- rows
 -- the number of a definition: how many come before it

@@ -8,10 +8,10 @@ use Rattle.kc_statement.specs.declared.symbol_type.SymbolType.{SymbolType}
 use Rattle.kc_statement.specs.declared.symbol_type.SymbolType.TheVariants as kind
 use Rattle.kc_outline.specs.TreeValue.{TreeValue, modules_symbol}
 use Rattle.kc_tree.specs.Fits.{type_of}
-use Rattle.kc_facts.specs.declared.parts.Attribute.TheVariants as attribute
-use Rattle.kc_facts.specs.declared.parts.Family.TheVariants as family
-use Rattle.kc_facts.specs.declared.parts.Part.TheVariants.{Said}
-use Rattle.kc_facts.specs.LineIndex.{line_of}
+use Rattle.kc_lines.specs.declared.parts.Attribute.TheVariants as attribute
+use Rattle.kc_lines.specs.declared.parts.Family.TheVariants as family
+use Rattle.kc_lines.specs.declared.parts.Part.TheVariants.{Said}
+use Rattle.kc_lines.specs.LineIndex.{line_of}
 
 abbrev pub is_tristate : SymbolType → Bool
 is_tristate kind.Bool = false

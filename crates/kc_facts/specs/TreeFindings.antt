@@ -8,24 +8,24 @@ use Rattle.kc_text.specs.LineValue.{LineValue}
 use Rattle.kc_outline.specs.TreeValue.{TreeValue}
 use Rattle.kc_value.specs.Assignment.{Assignment}
 use Rattle.kc_value.specs.declared.places.RangePlace.{RangePlace}
-use Rattle.kc_facts.specs.FaultyDefaults.{faulty_defaults}
+use Rattle.kc_line_facts.specs.FaultyDefaults.{faulty_defaults}
 use Rattle.kc_facts.specs.Forced.{forced_symbols}
 use Rattle.kc_facts.specs.HiddenChoices.{hidden_choices}
-use Rattle.kc_facts.specs.LineIndex.{attribute_number, number_of, numbers_saying}
+use Rattle.kc_lines.specs.LineIndex.{attribute_number, number_of, numbers_saying}
 use Rattle.kc_facts.specs.NeverModules.{never_modules}
-use Rattle.kc_facts.specs.Ranges.{exchanged_ranges}
-use Rattle.kc_facts.specs.SelectedMembers.{selected_members}
+use Rattle.kc_facts.specs.ExchangedRanges.{exchanged_ranges}
+use Rattle.kc_line_facts.specs.SelectedMembers.{selected_members}
 use Rattle.kc_facts.specs.Unset.{unset_definitions}
-use Rattle.kc_facts.specs.UnusedDefaults.{unused_defaults}
-use Rattle.kc_facts.specs.declared.default_faults.FaultyDefault.{FaultyDefault}
-use Rattle.kc_facts.specs.declared.defaults_after.UnusedDefault.{UnusedDefault}
+use Rattle.kc_line_facts.specs.UnusedDefaults.{unused_defaults}
+use Rattle.kc_line_facts.specs.declared.default_faults.FaultyDefault.{FaultyDefault}
+use Rattle.kc_line_facts.specs.declared.defaults_after.UnusedDefault.{UnusedDefault}
 use Rattle.kc_facts.specs.declared.forced_definitions.Forced.{Forced}
-use Rattle.kc_facts.specs.declared.listed_names.Extent.{Extent}
-use Rattle.kc_facts.specs.declared.listed_names.Extent.TheVariants.{All, Near}
-use Rattle.kc_facts.specs.declared.member_selections.AttributePlace.{AttributePlace}
-use Rattle.kc_facts.specs.declared.parts.Attribute.TheVariants as attribute
-use Rattle.kc_facts.specs.declared.parts.Family.TheVariants as family
-use Rattle.kc_facts.specs.declared.parts.Part.TheVariants.{Owner, Said}
+use Rattle.kc_line_facts.specs.declared.listed_names.Extent.{Extent}
+use Rattle.kc_line_facts.specs.declared.listed_names.Extent.TheVariants.{All, Near}
+use Rattle.kc_line_facts.specs.declared.member_selections.AttributePlace.{AttributePlace}
+use Rattle.kc_lines.specs.declared.parts.Attribute.TheVariants as attribute
+use Rattle.kc_lines.specs.declared.parts.Family.TheVariants as family
+use Rattle.kc_lines.specs.declared.parts.Part.TheVariants.{Owner, Said}
 use Rattle.kc_facts.specs.declared.tree_findings.FoundInTree.{FoundInTree}
 use Rattle.kc_facts.specs.declared.tree_findings.TreeFinding.{TreeFinding}
 use Rattle.kc_facts.specs.declared.tree_findings.TreeFinding.TheVariants as found

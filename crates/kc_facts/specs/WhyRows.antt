@@ -23,11 +23,11 @@ use Rattle.kc_value.specs.Rule.{reverse_value}
 use Rattle.kc_facts.specs.declared.listed_definitions.DefinitionRow.{DefinitionRow}
 use Rattle.kc_facts.specs.declared.listed_definitions.FactorRow.{FactorRow}
 use Rattle.kc_facts.specs.declared.listed_definitions.LinedFactor.{LinedFactor}
-use Rattle.kc_facts.specs.declared.parts.Attribute.{Attribute}
-use Rattle.kc_facts.specs.declared.parts.Attribute.TheVariants as attribute
-use Rattle.kc_facts.specs.declared.parts.Family.TheVariants as family
-use Rattle.kc_facts.specs.declared.parts.Part.{Part}
-use Rattle.kc_facts.specs.declared.parts.Part.TheVariants.{Owner, Said}
+use Rattle.kc_lines.specs.declared.parts.Attribute.{Attribute}
+use Rattle.kc_lines.specs.declared.parts.Attribute.TheVariants as attribute
+use Rattle.kc_lines.specs.declared.parts.Family.TheVariants as family
+use Rattle.kc_lines.specs.declared.parts.Part.{Part}
+use Rattle.kc_lines.specs.declared.parts.Part.TheVariants.{Owner, Said}
 use Rattle.kc_facts.specs.declared.listed_reasons.ReasonRow.{ReasonRow}
 use Rattle.kc_facts.specs.declared.listed_reasons.ReasonSource.{ReasonSource}
 use Rattle.kc_facts.specs.declared.listed_reasons.ReasonSource.TheVariants as source
@@ -35,7 +35,7 @@ use Rattle.kc_facts.specs.declared.reverse_row.ReverseKind.{ReverseKind}
 use Rattle.kc_facts.specs.declared.reverse_row.ReverseKind.TheVariants as reverse_kind
 use Rattle.kc_facts.specs.declared.listed_reverses.ReverseLine.{ReverseLine}
 use Rattle.kc_facts.specs.FactorPlaces.{part_of_factor}
-use Rattle.kc_facts.specs.LineIndex.{line_of}
+use Rattle.kc_lines.specs.LineIndex.{line_of}
 
 -- ---- what a definition depends on
 -- the condition of its prompt; without a prompt its dependencies

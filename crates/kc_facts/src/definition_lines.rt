@@ -1,12 +1,11 @@
 //! The numbers of the lines that say one attribute, definition after definition.
 
 ghost use Rattle.std.specs.Prelude.{◌≡◌, IfOk};
-ghost use Rattle.kc_facts.specs.declared.parts.Family.TheVariants.{Definition};
-ghost use Rattle.kc_facts.specs.declared.parts.Part.TheVariants.{Said};
-ghost use Rattle.kc_facts.specs.LineIndex.{number_of};
+ghost use Rattle.kc_lines.specs.declared.parts.Family.TheVariants.{Definition};
+ghost use Rattle.kc_lines.specs.declared.parts.Part.TheVariants.{Said};
+ghost use Rattle.kc_lines.specs.LineIndex.{number_of};
 
-use crate::line_index::LineIndex;
-use crate::parts::{Attribute, Family};
+use kc_lines::{Attribute, Family, LineIndex};
 use std::alloc::{AllocError, Global};
 use std::marker::Model;
 
@@ -22,8 +21,8 @@ pub(crate) struct DefinitionLines<'i, 'l, 'a> {
 
 impl<'i, 'l, 'a> Model for DefinitionLines<'i, 'l, 'a> {
     ghost use Rattle.std.specs.Prelude.{◌≡◌};
-    ghost use Rattle.kc_facts.specs.declared.parts.Family.TheVariants.{Definition};
-    ghost use Rattle.kc_facts.specs.LineIndex.{LinesSaying, numbers_saying};
+    ghost use Rattle.kc_lines.specs.declared.parts.Family.TheVariants.{Definition};
+    ghost use Rattle.kc_lines.specs.LineIndex.{LinesSaying, numbers_saying};
 
     ghost Value = { LinesSaying };
 

@@ -2,49 +2,18 @@
 
 ghost use Rattle.std.specs.Prelude.{◌≡◌, IfOk, Some, filter, map, option_and_then, true};
 ghost use Rattle.std.specs.Option.{option_copied};
-ghost use Rattle.kc_facts.specs.declared.parts.Part.TheVariants.{Said};
-ghost use Rattle.kc_facts.specs.Attributes.{says};
-ghost use Rattle.kc_facts.specs.FactorPlaces.{block_part, is_if, is_if_kind, mode_part, part_of_factor};
-ghost use Rattle.kc_facts.specs.LineIndex.{attributes_of, begins, line_of};
+ghost use Rattle.kc_lines.specs.declared.parts.Part.TheVariants.{Said};
+ghost use Rattle.kc_lines.specs.Attributes.{says};
+ghost use Rattle.kc_lines.specs.BlockParts.{block_part, is_if, is_if_kind};
+ghost use Rattle.kc_facts.specs.FactorPlaces.{mode_part, part_of_factor};
+ghost use Rattle.kc_lines.specs.LineIndex.{attributes_of, begins, line_of};
 
-use crate::line_index::LineIndex;
-use crate::parts::{Attribute, Family, Part, says};
+use kc_lines::{Attribute, Family, LineIndex, Part, block_part, is_if, says};
 use kc_text::Line;
-use kc_tree::{BlockId, BlockKind, Tree};
+use kc_tree::Tree;
 use kc_value::{Factor, FactorPart, Origin};
 use std::alloc::{AllocError, Global};
 use std::marker::Model;
-
-/// Whether a block of a kind is an `if`.
-pub(crate) fn is_if_kind(kind: &BlockKind) -> bool
-    ensures { result ≡ is_if_kind kind.now }
-{
-    match kind {
-        BlockKind::If => true,
-        BlockKind::Menu(_) | BlockKind::Choice => false,
-    }
-}
-
-/// Whether a block is an `if`, whose expression is on its own line.
-pub fn is_if(tree: &Tree, block: BlockId) -> bool
-    ensures { result ≡ is_if tree.now block }
-{
-    match tree.blocks().get(block.0) {
-        Some(block) => is_if_kind(block.kind()),
-        None => false,
-    }
-}
-
-/// The part that says what all inside a block depends on, by the place of an expression among those of the block.
-pub(crate) fn block_part(is_if: bool, block: BlockId, place: usize) -> Part
-    ensures { result ≡ block_part is_if block place }
-{
-    if is_if {
-        Part::Owner(Family::Block, block.0)
-    } else {
-        Part::Said(Family::Block, block.0, Attribute::Depends, place)
-    }
-}
 
 /// The choice whose mode a factor is.
 fn mode_part(factor: &Factor<'_>) -> Option<Part>
@@ -78,6 +47,35 @@ pub(crate) struct Saying {
     pub attribute: Attribute,
 }
 
+/// Whether two families are the same.
+fn is_same_family(one: Family, other: Family) -> bool
+    ensures { result ≡ true → one ≡ other }
+{
+    match one {
+        Family::Definition => matches!(other, Family::Definition),
+        Family::Choice => matches!(other, Family::Choice),
+        Family::Block => matches!(other, Family::Block),
+        Family::Comment => matches!(other, Family::Comment),
+    }
+}
+
+/// Whether two attributes are the same.
+fn is_same_attribute(one: Attribute, other: Attribute) -> bool
+    ensures { result ≡ true → one ≡ other }
+{
+    match one {
+        Attribute::Type => matches!(other, Attribute::Type),
+        Attribute::Prompt => matches!(other, Attribute::Prompt),
+        Attribute::Depends => matches!(other, Attribute::Depends),
+        Attribute::Visible => matches!(other, Attribute::Visible),
+        Attribute::Default => matches!(other, Attribute::Default),
+        Attribute::Range => matches!(other, Attribute::Range),
+        Attribute::Select => matches!(other, Attribute::Select),
+        Attribute::Imply => matches!(other, Attribute::Imply),
+        Attribute::Modules => matches!(other, Attribute::Modules),
+    }
+}
+
 /// Whether an attribute of an owner, if there is one, is another.
 fn is_saying(kept: Option<Saying>, saying: Saying) -> bool
     ensures { result ≡ true → kept ≡ Some saying }
@@ -85,7 +83,9 @@ fn is_saying(kept: Option<Saying>, saying: Saying) -> bool
     let Some(kept) = kept else {
         return false;
     };
-    if !kept.family.is_same(saying.family) || !kept.attribute.is_same(saying.attribute) {
+    if !is_same_family(kept.family, saying.family)
+        || !is_same_attribute(kept.attribute, saying.attribute)
+    {
         return false;
     }
     kept.number == saying.number

@@ -6,10 +6,9 @@ ghost use Rattle.kc_value.specs.Factors.{judged, prompt_condition};
 ghost use Rattle.kc_facts.specs.WhyRows.{AreDefinitionRows, AreListedFactors, IsDefinitionRow, IsFactorRow, after_part, lined};
 
 use crate::factor_lines::FactorLines;
-use crate::line_index::LineIndex;
 use crate::low_parts::choice_condition;
-use crate::parts::{Attribute, Family, Part};
 use crate::view::View;
+use kc_lines::{Attribute, Family, LineIndex, Part};
 use kc_text::Line;
 use kc_tree::{Symbol, Tree};
 use kc_value::{Factor, FactorPart, dependency_factors, prompt_factors};

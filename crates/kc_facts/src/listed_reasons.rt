@@ -3,10 +3,9 @@
 ghost use Rattle.std.specs.Prelude.{◌≡◌, ◌∷◌, [], All, IfOk, map};
 ghost use Rattle.kc_facts.specs.WhyRows.{AreReasonRows, IsReasonRow, range_sources, source_part, sources_of};
 
-use crate::line_index::LineIndex;
 use crate::listed_reverses::reverse_part;
-use crate::parts::{Attribute, Family, Part};
 use crate::reverse_row::ReverseKind;
+use kc_lines::{Attribute, Family, LineIndex, Part};
 use kc_text::Line;
 use kc_tree::{SymId, Tree};
 use kc_value::{DefaultPlace, RangePlace, Reason};

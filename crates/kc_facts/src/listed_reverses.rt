@@ -5,10 +5,9 @@ ghost use Rattle.kc_value.specs.Assignment.{assignment_of};
 ghost use Rattle.kc_facts.specs.WhyRows.{AreReverseLines, IsReverseLine, reverse_attribute, reverse_part, reverses_of};
 
 use crate::factor_lines::FactorLines;
-use crate::line_index::LineIndex;
-use crate::parts::{Attribute, Family, Part};
 use crate::reverse_row::ReverseKind;
 use crate::view::View;
+use kc_lines::{Attribute, Family, LineIndex, Part};
 use kc_text::Line;
 use kc_tree::{Reverse, Symbol, Tri};
 use kc_value::reverse_value;

@@ -1,11 +1,10 @@
 //! Parts of conditions in words, with what makes them less than was asked for.
 
 use crate::expressions::{is_number, push_expr};
-use crate::leaves::leaves_of;
 use crate::modules::{modules_value, push_modules_name};
-use crate::showing::shown_line;
 use crate::word_list::WordList;
-use crate::words::{push_value, type_words, value_text};
+use crate::words::{push_value, value_text};
+use kc_lines::{leaves_of, shown_line, type_words};
 use kc_statement::{ExprNode, Term};
 use kc_tree::{Expr, SymId, SymbolType};
 use kc_value::{Known, tri};

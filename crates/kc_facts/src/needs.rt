@@ -3,9 +3,9 @@
 use crate::expressions::push_valued_expr;
 use crate::low_parts::{is_below, parts_below};
 use crate::low_values::LowPart;
-use crate::showing::shown_line;
 use crate::view::View;
 use crate::word_list::WordList;
+use kc_lines::shown_line;
 use kc_statement::ExprNode;
 use kc_tree::{Expr, Symbol, Tri};
 use kc_value::{Factor, prompt_factors, tri};

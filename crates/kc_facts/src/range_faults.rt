@@ -1,9 +1,9 @@
 //! Ranges whose low bound is above their high bound.
 
 ghost use Rattle.std.specs.Prelude.{◌≡◌, ◌++◌, IfOk, OnOk};
-ghost use Rattle.kc_facts.specs.Ranges.{exchanged_at, exchanged_of, exchanged_ranges};
+ghost use Rattle.kc_facts.specs.ExchangedRanges.{exchanged_at, exchanged_of, exchanged_ranges};
 
-use crate::ranges::has_exchanged_sides;
+use kc_line_facts::has_exchanged_sides;
 use kc_tree::{Definition, Tree};
 use kc_value::RangePlace;
 use std::alloc::{AllocError, Global};

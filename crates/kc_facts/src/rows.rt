@@ -2,7 +2,8 @@
 
 ghost use Rattle.std.specs.Prelude.{◌≡◌, ◌<◌, ◌+◌, ◌^◌, [], ◌∷◌, ◌++◌, None, if◌then◌else◌, IfOk, OnOk, filter, map, replicate, reverse, slice_get, slice_index_or};
 ghost use Rattle.std.specs.Option.{option_copied};
-ghost use Rattle.kc_facts.specs.MenuTree.{AreRowsOf, IsRowAfter, block_around, blocks_outwards, has_row, is_definition, opened, parent_block};
+ghost use Rattle.kc_facts.specs.MenuTree.{AreRowsOf, IsRowAfter, block_around, has_row, is_definition, opened, parent_block};
+ghost use Rattle.kc_lines.specs.BlocksOutwards.{blocks_outwards};
 ghost use Rattle.kc_facts.specs.RowSteps.{AreRowsSoFar, first_found, found_after, found_in};
 
 use crate::row::Row;

@@ -7,19 +7,18 @@ ghost use Rattle.kc_facts.specs.HiddenChoices.{hidden_choices};
 ghost use Rattle.kc_facts.specs.Unset.{unset_definitions};
 ghost use Rattle.kc_facts.specs.TreeFindings.{AreByLine, earlier_found, faulty_found, forced_found, found_at, found_by_kind, found_in, hidden_found, if_all, member_found, name_found, never_found, range_found, unset_found, unused_found};
 
-use crate::default_faults::{FaultyDefault, faulty_defaults};
-use crate::defaults_after::{UnusedDefault, unused_defaults};
 use crate::definition_lines::DefinitionLines;
 use crate::forced_definitions::{Forced, forced_symbols};
-use crate::line_index::LineIndex;
-use crate::listed_names::Extent;
-use crate::member_selections::{AttributePlace, selected_members};
-use crate::parts::{Attribute, Family};
 use crate::range_faults::exchanged_ranges;
 use crate::tristates_without_modules::never_modules;
 use crate::unseen_choices::hidden_choices;
 use crate::unset_symbols::unset_definitions;
 use crate::view::View;
+use kc_line_facts::{
+    AttributePlace, Extent, FaultyDefault, UnusedDefault, faulty_defaults, selected_members,
+    unused_defaults,
+};
+use kc_lines::{Attribute, Family, LineIndex};
 use kc_value::RangePlace;
 use std::alloc::{AllocError, Global};
 

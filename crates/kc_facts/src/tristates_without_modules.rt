@@ -4,9 +4,8 @@ ghost use Rattle.std.specs.Prelude.{◌≡◌, IfOk, filter, length};
 ghost use Rattle.std.specs.List.{range_with_len};
 ghost use Rattle.kc_facts.specs.NeverModules.{is_of_tristate, is_tristate, never_modules, says_tristate};
 
-use crate::line_index::LineIndex;
-use crate::parts::{Attribute, Family, Part};
 use crate::unset_symbols::add_number;
+use kc_lines::{Attribute, Family, LineIndex, Part};
 use kc_statement::SymbolType;
 use kc_tree::Tree;
 use std::alloc::{AllocError, Global};

@@ -1,8 +1,8 @@
 //! Factors of conditions with the values of their symbols.
 
 use crate::expressions::{push_quoted, push_valued_expr};
-use crate::showing::shown_line;
 use crate::view::View;
+use kc_lines::shown_line;
 use kc_statement::ExprNode;
 use kc_tree::{ChoiceId, Tree};
 use kc_value::{Factor, FactorPart};

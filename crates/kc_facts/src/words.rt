@@ -1,32 +1,10 @@
 //! Values, types and lists in words.
 
 use crate::expressions::push_quoted;
-use crate::showing::{shown_line, shown_text};
+use kc_lines::{shown_line, shown_text};
 use kc_tree::{Node, SymId, SymbolType, Tri, UserVal};
 use kc_value::Known;
 use std::alloc::{AllocError, Global};
-
-/// The name of a type.
-pub fn type_name(kind: SymbolType) -> &'static str {
-    match kind {
-        SymbolType::Bool => "bool",
-        SymbolType::Tristate => "tristate",
-        SymbolType::String => "string",
-        SymbolType::Int => "int",
-        SymbolType::Hex => "hex",
-    }
-}
-
-/// The name of a type after its article.
-pub fn type_words(kind: SymbolType) -> &'static str {
-    match kind {
-        SymbolType::Bool => "a bool",
-        SymbolType::Tristate => "a tristate",
-        SymbolType::String => "a string",
-        SymbolType::Int => "an int",
-        SymbolType::Hex => "a hex",
-    }
-}
 
 /// Adds a text as a value of a type is written: a string in quotes, at most 160 bytes of it.
 pub(crate) fn push_text_value(

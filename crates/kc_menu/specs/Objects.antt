@@ -13,9 +13,9 @@ use Rattle.kc_tree.specs.declared.user_value.UserVal.{UserVal}
 use Rattle.kc_tree.specs.declared.user_value.UserVal.TheVariants as user
 use Rattle.kc_value.specs.ChoiceRule.{is_symbol}
 use Rattle.kc_value.specs.UserValues.{UserValues, chosen_in, user_value}
-use Rattle.kc_facts.specs.Attributes.{last_help}
-use Rattle.kc_facts.specs.declared.parts.Family.TheVariants as family
-use Rattle.kc_facts.specs.LineIndex.{attributes_of, begins}
+use Rattle.kc_lines.specs.Attributes.{last_help}
+use Rattle.kc_lines.specs.declared.parts.Family.TheVariants as family
+use Rattle.kc_lines.specs.LineIndex.{attributes_of, begins}
 use Rattle.kc_menu.specs.declared.help.Help.{Help}
 use Rattle.kc_menu.specs.declared.help.Help.TheVariants.{With, Without}
 

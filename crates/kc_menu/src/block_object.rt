@@ -12,7 +12,8 @@ ghost use Rattle.kc_menu.specs.Objects.{choice_help};
 use crate::conditions_as_text::{FactorsOf, factors_text, least_value};
 use crate::menu_inputs::MenuInputs;
 use crate::places_as_text::{help_text, place_text};
-use kc_facts::{Family, Part, Row};
+use kc_facts::Row;
+use kc_lines::{Family, Part};
 use kc_tree::{BlockId, BlockKind, Choice, ChoiceId, CommentId, Node, SymId, Tree, Tri};
 use kc_value::{
     Factor, Known, choice_factors, comment_condition, comment_factors, menu_condition, menu_factors,

@@ -3,7 +3,8 @@
 ghost use Rattle.std.specs.Prelude.{◌≡◌};
 
 use crate::help::Help;
-use kc_facts::{LineIndex, View};
+use kc_facts::View;
+use kc_lines::LineIndex;
 use std::marker::Model;
 
 /// What the objects of the menu tree are made from: a tree with its values, which line each part comes from,

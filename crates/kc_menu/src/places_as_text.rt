@@ -2,11 +2,11 @@
 
 ghost use Rattle.std.specs.Prelude.{◌≡◌, IfOk, option_map};
 ghost use Rattle.std.specs.String.{string_bytes};
-ghost use Rattle.kc_facts.specs.Attributes.{last_help};
+ghost use Rattle.kc_lines.specs.Attributes.{last_help};
 ghost use Rattle.kc_menu.specs.Objects.{wanted};
 
 use crate::help::Help;
-use kc_facts::{help_of, push_place};
+use kc_lines::{help_of, push_place};
 use kc_statement::{Keyword, read_keyword};
 use kc_text::{Line, Token};
 use std::alloc::{AllocError, Global};

@@ -2,7 +2,7 @@
 
 use crate::files::Files;
 use kc_explain::{Explanation, Place, Remark};
-use kc_facts::shown_line;
+use kc_lines::shown_line;
 use memchr::memchr_iter;
 use std::alloc::{AllocError, Global};
 use std::collections::BTreeMap;

@@ -6,9 +6,12 @@ use crate::paths_read::paths_read;
 use crate::reports::{Outcome, ReportInputs};
 use kc_check::{CheckInputs, Judged, SourceText, check, effects_before, merge_report};
 use kc_explain::{Naming, WarnedFile, explain_warnings};
-use kc_facts::{LineIndex, MeantNames, View, push_meant, symbol_names};
+use kc_facts::View;
 use kc_files::{ConfigLine, Input, LineSays, ReadFault, Warning, WarningKind, read_config_lines};
+use kc_line_facts::symbol_names;
+use kc_lines::LineIndex;
 use kc_menu::{Help, menu_text};
+use kc_names::{MeantNames, push_meant};
 use kc_report::{Extent, why_text};
 use kc_session::{Body, MergeFault, Session, merged};
 use kc_tree::{SymId, Tree};
@@ -124,9 +127,9 @@ pub(crate) fn check_outcome(
         sources: sources.as_slice(),
     };
     let extent = if inputs.arguments.is_all {
-        kc_facts::Extent::All
+        kc_line_facts::Extent::All
     } else {
-        kc_facts::Extent::Near
+        kc_line_facts::Extent::Near
     };
     let findings = read_again(check(alloc, &view, &index, &checked, extent))?;
     let output = findings.to_text(alloc)?;

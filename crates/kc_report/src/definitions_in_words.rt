@@ -6,9 +6,9 @@ ghost use Rattle.kc_report.specs.declared.extent.Extent.TheVariants.{Short, All}
 use crate::extent::Extent;
 use crate::factors_in_words::push_factor;
 use kc_facts::{
-    DefinitionRow, LineIndex, LinedFactor, View, definition_rows, push_place, push_quoted,
-    push_why_no, shown_line, symbol_below,
+    DefinitionRow, LinedFactor, View, definition_rows, push_quoted, push_why_no, symbol_below,
 };
+use kc_lines::{LineIndex, push_place, shown_line};
 use kc_text::{Line, Token};
 use kc_tree::{SymId, Symbol};
 use kc_value::FactorPart;

@@ -1,9 +1,9 @@
 //! The factors of conditions as lines of text.
 
 use kc_facts::{
-    LinedFactor, View, is_if, is_unchosen, push_choice, push_expr, push_low_values, push_place,
-    push_valued_factor, shown_line,
+    LinedFactor, View, is_unchosen, push_choice, push_expr, push_low_values, push_valued_factor,
 };
+use kc_lines::{is_if, push_place, shown_line};
 use kc_tree::{Tree, Tri};
 use kc_value::{Factor, FactorPart, Origin};
 use std::alloc::{AllocError, Global};

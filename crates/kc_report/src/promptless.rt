@@ -1,9 +1,9 @@
 //! The symbols without prompt that a definition depends on, and who would select them.
 
 use kc_facts::{
-    ReverseKind, View, choice_condition, definition_factors, has_prompt, leaves_of,
-    push_reverse_row,
+    ReverseKind, View, choice_condition, definition_factors, has_prompt, push_reverse_row,
 };
+use kc_lines::leaves_of;
 use kc_statement::{ExprNode, Operands, Term};
 use kc_tree::{Expr, Node, SymId, Symbol};
 use kc_value::{Factor, FactorPart};

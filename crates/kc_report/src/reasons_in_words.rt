@@ -2,9 +2,10 @@
 
 use crate::reverses::push_reverse;
 use kc_facts::{
-    Family, LineIndex, Part, ReasonRow, ReasonSource, View, default_at, push_choice, push_line,
-    push_module_words, push_place, push_reason_words, push_term, push_valued_expr, reason_rows,
+    ReasonRow, ReasonSource, View, default_at, push_choice, push_line, push_module_words,
+    push_reason_words, push_term, push_valued_expr, reason_rows,
 };
+use kc_lines::{Family, LineIndex, Part, push_place};
 use kc_statement::Range;
 use kc_text::Line;
 use kc_tree::{Expr, SymId, Tree};

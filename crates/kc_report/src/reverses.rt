@@ -3,9 +3,10 @@
 use crate::extent::Extent;
 use crate::reasons_in_words::push_said;
 use kc_facts::{
-    LineIndex, ReverseKind, ReverseLine, View, push_reverse_names, push_valued,
-    push_valued_factors, reverse_lines,
+    ReverseKind, ReverseLine, View, push_reverse_names, push_valued, push_valued_factors,
+    reverse_lines,
 };
+use kc_lines::LineIndex;
 use kc_text::Line;
 use kc_tree::{Reverse, SymId, Tri};
 use kc_value::reverse_factors;

@@ -2,7 +2,7 @@ use Rattle.std.proofs.Common.{◌≡◌, ◌∙◌, ◌++◌, ◌∷◌, ◌<◌
 use Rattle.std.specs.List.{filter, filter_map, range_with_len}
 use Rattle.std.specs.Vec.Iter.{into_iter_items}
 use Rattle.std.proofs.lemmas.List.{length-map}
-use Rattle.kc_facts.specs.FreshNames.{is_fresh}
+use Rattle.kc_line_facts.specs.FreshNames.{is_fresh}
 use Rattle.kc_check.specs.ReportLines.{line_text}
 use Rattle.kc_check.proofs.SaidLaws.{flag_at, said_more, seam}
 use Rattle.kc_check.proofs.said_findings.said_once.Goals as goal

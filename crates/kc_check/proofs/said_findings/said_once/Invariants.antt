@@ -1,7 +1,7 @@
 use Rattle.std.proofs.Common.{◌≡◌, ◌++◌, ◌+◌, [], length, map, slice_get}
 use Rattle.std.specs.List.{filter, filter_map, range_with_len}
 use Rattle.std.specs.Vec.Iter.{into_iter_items, into_iter_len}
-use Rattle.kc_facts.specs.FreshNames.{is_fresh}
+use Rattle.kc_line_facts.specs.FreshNames.{is_fresh}
 use Rattle.kc_check.specs.ReportLines.{line_text}
 use Rattle.kc_check.proofs.said_findings.said_once.Given as goal
 

@@ -1,7 +1,7 @@
 use Rattle.std.proofs.Common.{◌∙◌, ap, subst}
 use Rattle.kc_text.specs.LineReferences.{lent_names}
 use Rattle.kc_value.specs.Assignment.{assignment_of}
-use Rattle.kc_facts.specs.ListedNames.{IsListing}
+use Rattle.kc_line_facts.specs.ListedNames.{IsListing}
 use Rattle.kc_check.specs.TreeReport.{IsTreeReport, befores}
 use Rattle.kc_check.proofs.ReportLaws.{tree_report}
 use Rattle.kc_check.proofs.tree_findings.tree_findings.Goals as goal

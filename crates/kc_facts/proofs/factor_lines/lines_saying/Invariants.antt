@@ -1,5 +1,5 @@
 use Rattle.std.proofs.Common.{◌≡◌, ◌++◌, drop, filter, map}
-use Rattle.kc_facts.specs.Attributes.{says}
+use Rattle.kc_lines.specs.Attributes.{says}
 use Rattle.kc_facts.proofs.factor_lines.lines_saying.Given as goal
 
 -- the lines so far are those of the lines before

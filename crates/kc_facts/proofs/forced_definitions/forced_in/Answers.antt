@@ -2,7 +2,7 @@ use Rattle.std.proofs.Common.{◌∙◌, ◌++◌, ap}
 use Rattle.std.specs.Option.{option_to_list}
 use Rattle.kc_value.specs.Known.{given}
 use Rattle.kc_facts.specs.Forced.{forced_at}
-use Rattle.kc_facts.proofs.RangeLaws.{filter_map_next}
+use Rattle.kc_line_facts.proofs.RangeLaws.{filter_map_next}
 use Rattle.kc_facts.proofs.forced_definitions.forced_in.Goals as goal
 
 pub loop-number-preserved : goal.loop-number-preserved

@@ -1,8 +1,9 @@
 use Rattle.std.proofs.Common.{◌∙◌, ◌++◌, false, ap, sym}
 use Rattle.std.specs.Option.{option_map_or}
 use Rattle.kc_tree.specs.Fits.{type_of}
-use Rattle.kc_facts.specs.Ranges.{exchanged_at, exchanged_in, has_exchanged_sides}
-use Rattle.kc_facts.proofs.RangeLaws.{flat_map_after, item_there}
+use Rattle.kc_facts.specs.ExchangedRanges.{exchanged_at, exchanged_in}
+use Rattle.kc_line_facts.specs.Ranges.{has_exchanged_sides}
+use Rattle.kc_line_facts.proofs.RangeLaws.{flat_map_after, item_there}
 use Rattle.kc_facts.proofs.range_faults.add_exchanged.Goals as goal
 
 pub loop-place-preserved : goal.loop-place-preserved

@@ -1,6 +1,6 @@
 use Rattle.std.proofs.Common.{◌≡◌, ◌++◌}
 use Rattle.std.specs.List.{flat_map, range_with_len}
-use Rattle.kc_facts.specs.Ranges.{exchanged_in}
+use Rattle.kc_facts.specs.ExchangedRanges.{exchanged_in}
 use Rattle.kc_facts.proofs.range_faults.add_exchanged.Given as goal
 
 -- the exchanged ranges so far

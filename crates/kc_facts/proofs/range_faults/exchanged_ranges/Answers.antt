@@ -1,7 +1,7 @@
 use Rattle.std.proofs.Common.{◌∙◌, ◌++◌, [], ap, sym}
 use Rattle.std.specs.Option.{option_map_or}
-use Rattle.kc_facts.specs.Ranges.{exchanged_by_number, exchanged_of}
-use Rattle.kc_facts.proofs.RangeLaws.{flat_map_next, item_there}
+use Rattle.kc_facts.specs.ExchangedRanges.{exchanged_by_number, exchanged_of}
+use Rattle.kc_line_facts.proofs.RangeLaws.{flat_map_next, item_there}
 use Rattle.kc_facts.proofs.range_faults.exchanged_ranges.Goals as goal
 
 pub loop-number-preserved : goal.loop-number-preserved

@@ -1,6 +1,6 @@
 use Rattle.std.proofs.Common.{◌≡◌}
 use Rattle.std.specs.List.{flat_map, range_with_len}
-use Rattle.kc_facts.specs.Ranges.{exchanged_by_number}
+use Rattle.kc_facts.specs.ExchangedRanges.{exchanged_by_number}
 use Rattle.kc_facts.proofs.range_faults.exchanged_ranges.Given as goal
 
 -- those of the definitions so far

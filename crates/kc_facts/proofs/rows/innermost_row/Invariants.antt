@@ -1,6 +1,6 @@
 use Rattle.std.proofs.Common.{◌≡◌, ◌-◌}
 use Rattle.kc_outline.specs.declared.limits.TheConstants.{MOST_OPEN_BLOCKS}
-use Rattle.kc_facts.specs.MenuTree.{blocks_outwards}
+use Rattle.kc_lines.specs.BlocksOutwards.{blocks_outwards}
 use Rattle.kc_facts.specs.RowSteps.{first_found, found_in}
 use Rattle.kc_facts.proofs.rows.innermost_row.Given as goal
 

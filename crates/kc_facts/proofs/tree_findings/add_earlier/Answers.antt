@@ -1,7 +1,7 @@
 use Rattle.std.proofs.Common.{◌∙◌, ◌++◌, ap}
 use Rattle.kc_facts.specs.TreeFindings.{earlier_found, found_at}
 use Rattle.kc_facts.specs.declared.tree_findings.TreeFinding.TheVariants.{Earlier}
-use Rattle.kc_facts.proofs.RangeLaws.{flat_map_after}
+use Rattle.kc_line_facts.proofs.RangeLaws.{flat_map_after}
 use Rattle.kc_facts.proofs.tree_findings.add_earlier.Goals as goal
 
 pub loop-number-preserved : goal.loop-number-preserved

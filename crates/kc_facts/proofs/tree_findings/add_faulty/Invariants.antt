@@ -1,6 +1,6 @@
 use Rattle.std.proofs.Common.{◌≡◌, ◌++◌, drop}
 use Rattle.std.specs.List.{flat_map}
-use Rattle.kc_facts.specs.declared.parts.Attribute.TheVariants.{Default}
+use Rattle.kc_lines.specs.declared.parts.Attribute.TheVariants.{Default}
 use Rattle.kc_facts.specs.TreeFindings.{faulty_found}
 use Rattle.kc_facts.proofs.tree_findings.add_faulty.Given as goal
 

@@ -1,7 +1,7 @@
 use Rattle.std.proofs.Common.{◌∙◌, ◌++◌, ap}
 use Rattle.kc_facts.specs.NeverModules.{says_tristate}
 use Rattle.kc_facts.specs.Unset.{number_if}
-use Rattle.kc_facts.proofs.RangeLaws.{filter_next}
+use Rattle.kc_line_facts.proofs.RangeLaws.{filter_next}
 use Rattle.kc_facts.proofs.tristates_without_modules.tristate_definitions.Goals as goal
 
 pub loop-number-preserved : goal.loop-number-preserved

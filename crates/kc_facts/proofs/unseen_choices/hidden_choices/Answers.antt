@@ -1,7 +1,7 @@
 use Rattle.std.proofs.Common.{◌∙◌, ◌++◌, ap}
 use Rattle.kc_facts.specs.HiddenChoices.{is_hidden, is_hidden_number}
 use Rattle.kc_facts.specs.Unset.{number_if}
-use Rattle.kc_facts.proofs.RangeLaws.{filter_next}
+use Rattle.kc_line_facts.proofs.RangeLaws.{filter_next}
 use Rattle.kc_facts.proofs.unseen_choices.hidden_choices.Goals as goal
 
 pub loop-number-preserved : goal.loop-number-preserved

@@ -1,6 +1,6 @@
 use Rattle.std.proofs.Common.{◌∙◌, ◌++◌, ap}
 use Rattle.kc_facts.specs.Unset.{is_unset_at, number_if}
-use Rattle.kc_facts.proofs.RangeLaws.{filter_next}
+use Rattle.kc_line_facts.proofs.RangeLaws.{filter_next}
 use Rattle.kc_facts.proofs.unset_symbols.unset_definitions.Goals as goal
 
 pub loop-number-preserved : goal.loop-number-preserved

@@ -1,8 +1,8 @@
 use Rattle.std.proofs.Common.{◌≡◌, ◌∙◌, ◌++◌, OnOk, ap, map, subst}
 use Rattle.std.specs.List.{filter_map}
 use Rattle.kc_text.specs.LineReferences.{lent_names}
-use Rattle.kc_facts.specs.FreshNames.{fresh_places}
-use Rattle.kc_facts.specs.VariableNames.{used_names}
+use Rattle.kc_line_facts.specs.FreshNames.{fresh_places}
+use Rattle.kc_line_facts.specs.VariableNames.{used_names}
 use Rattle.kc_check.specs.UnusedVariables.{about, about_given}
 use Rattle.kc_check.proofs.UnusedLaws.{given_same}
 use Rattle.kc_check.proofs.variables.Variables.add_unused.Goals as goal

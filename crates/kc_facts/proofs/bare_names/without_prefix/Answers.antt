@@ -1,5 +1,0 @@
-use Rattle.kc_facts.proofs.BareLaws.{stripped}
-use Rattle.kc_facts.proofs.bare_names.without_prefix.Goals as goal
-
-pub returns : goal.returns
-returns c = stripped c.args.prefix.now c.args.name.now c.strip_prefix.result c.strip_prefix.ensures.cases

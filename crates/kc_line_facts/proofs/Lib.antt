@@ -1,0 +1,12 @@
+pub mod BlockLaws
+pub mod EarlierLaws
+pub mod FreshLaws
+pub mod NumberLaws
+pub mod OrderLaws
+pub mod RangeLaws
+pub mod SourcedLaws
+pub mod DoubtfulLaws
+pub mod UnusedLaws
+pub mod VariableLaws
+pub mod ListedLaws
+pub mod MeantLaws

@@ -1,0 +1,15 @@
+use Rattle.std.proofs.Common.{◌∙◌, ◌++◌, [], ap, sym}
+use Rattle.std.specs.Option.{option_map_or}
+use Rattle.kc_line_facts.specs.FaultyDefaults.{faulty_by_number, faulty_of}
+use Rattle.kc_line_facts.proofs.RangeLaws.{flat_map_next, item_there}
+use Rattle.kc_line_facts.proofs.default_faults.faulty_defaults.Goals as goal
+
+pub loop-number-preserved : goal.loop-number-preserved
+loop-number-preserved c =
+    let t = c.args.tree.now in
+    let n = c.loop-number.number in
+    let now = c.loop-number.found.items in
+    let item = c.definition-item.result in
+    let there = item_there t.definitions c.definitions-definition-items.result.now n item c.definitions-definition-items.ensures c.loop-number-test.true c.definition-item.is in
+    flat_map_next (faulty_by_number t) n now c.add_faulty.new.found.items c.loop-number.invariant
+    (c.in_ok-add_faulty.ensures ∙ ap (λ o. now ++ option_map_or (faulty_of t n) o []) (sym there))

@@ -1,0 +1,17 @@
+pub mod DoubtfulNames
+pub mod DoubtfulUses
+pub mod EarlierFindings
+pub mod FaultyDefaults
+pub mod FileVariables
+pub mod FreshNames
+pub mod ListedNames
+pub mod MeantSymbols
+pub mod NameReadings
+pub mod Numbers
+pub mod Ranges
+pub mod ReadingOrder
+pub mod SelectedMembers
+pub mod SourcedFiles
+pub mod SymbolNames
+pub mod UnusedDefaults
+pub mod VariableNames

@@ -1,0 +1,9 @@
+pub mod Attributes
+pub mod BlockParts
+pub mod BlocksOutwards
+pub mod Culprits
+pub mod Defaults
+pub mod LineIndex
+pub mod LoopSteps
+pub mod Named
+pub mod Shown
