@@ -4,9 +4,12 @@ use crate::finding::Finding;
 use crate::inputs::CheckInputs;
 use crate::meant_lines::{comment_words, dropped_words};
 use crate::selections::push_bracketed;
-use crate::shown_values::{has_no_value, push_asked, push_value};
-use kc_facts::{View, push_shortfall};
-use kc_files::{Assign, ConfigFinding, DroppedBackslash, FoundInLine, FragmentLine, Input, LineFact, MeantComment, NamedLine, ReadFault, assign_at, findings_of_config, outcomes_of, read_fragments, text_lines};
+use kc_facts::{View, has_no_value, push_asked, push_shortfall, push_value_or_nothing};
+use kc_files::{
+    Assign, ConfigFinding, DroppedBackslash, FoundInLine, FragmentLine, Input, LineFact,
+    MeantComment, NamedLine, ReadFault, assign_at, findings_of_config, outcomes_of, read_fragments,
+    text_lines,
+};
 use kc_lines::{Attribute, Family, LineIndex, Part, shown_line};
 use kc_tree::{ChoiceId, Node, SymId, Tree};
 use kc_value::{Reason, active_range, changed_value, reason_over, spelled};
@@ -219,7 +222,7 @@ impl Report<'_, '_, '_, '_, '_> {
         }
         if is_changed(alloc, view, assign.symbol)? {
             words.push_str(" gives ")?;
-            push_value(&mut words, view, assign.symbol)?;
+            push_value_or_nothing(&mut words, view, assign.symbol)?;
             words.push_str(": ")?;
         } else {
             words.push_str(" has no effect: ")?;
@@ -252,7 +255,7 @@ impl Report<'_, '_, '_, '_, '_> {
         );
         push_bracketed(words, self.line_index.line(part))?;
         words.push_str("; its value is ")?;
-        push_value(words, self.view, assign.symbol)
+        push_value_or_nothing(words, self.view, assign.symbol)
     }
 }
 

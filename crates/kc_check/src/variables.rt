@@ -8,7 +8,9 @@ ghost use Rattle.kc_check.specs.UnusedVariables.{about, about_definition, about_
 
 use crate::finding::Finding;
 use crate::inputs::SourceText;
-use kc_line_facts::{NamedVariable, VariableFile, defined_names, file_variables, fresh_names, used_names};
+use kc_line_facts::{
+    NamedVariable, VariableFile, defined_names, file_variables, fresh_names, used_names,
+};
 use std::alloc::{AllocError, Global};
 
 /// A definition of a variable, by the path of its file.

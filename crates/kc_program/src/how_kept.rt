@@ -2,7 +2,7 @@
 
 use crate::how::{Before, Found, WantedAnswer, WantedTexts, answer_in_session};
 use crate::reports::ReportInputs;
-use kc_check::LostLine;
+use kc_merge_report::LostLine;
 use kc_session::{Body, Command, Reply, Session};
 use kc_tree::{SymId, Tree};
 use kc_value::Resolver;

@@ -2,8 +2,7 @@
 
 use crate::earlier_effects::EffectsBefore;
 use crate::merge_lines::push_lost;
-use crate::shown_values::{push_asked, push_value};
-use kc_facts::{View, push_shortfall};
+use kc_facts::{View, push_asked, push_shortfall, push_value_or_nothing};
 use kc_files::{
     Assign, FragmentLine, FragmentLines, Input, LineSays, Prefix, ReadFault, read_fragments,
 };
@@ -51,7 +50,7 @@ pub fn push_needed_line(
 ) -> Result<(), AllocError> {
     text.push_str(view.tree().name(line.symbol))?;
     text.push_str(": ")?;
-    push_value(text, view, line.symbol)?;
+    push_value_or_nothing(text, view, line.symbol)?;
     text.push_str(" to ")?;
     push_asked(text, view, line.symbol, &line.value)?;
     if let Some(need) = need {
@@ -97,7 +96,7 @@ pub fn push_not_found(
     text.push_str(": wanted ")?;
     push_asked(text, view, wanted.symbol, &wanted.value)?;
     text.push_str(", is ")?;
-    push_value(text, view, wanted.symbol)?;
+    push_value_or_nothing(text, view, wanted.symbol)?;
     text.push_str(": ")?;
     push_shortfall(alloc, text, view, wanted.symbol, &wanted.value)?;
     text.push('\n')?;

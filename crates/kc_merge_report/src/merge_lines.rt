@@ -1,8 +1,7 @@
 //! The lines of a report on fragments that were merged.
 
 use crate::earlier_effects::{EffectsBefore, UsableLine};
-use crate::shown_values::{push_asked, push_value};
-use kc_facts::{View, push_shortfall};
+use kc_facts::{View, push_asked, push_shortfall, push_value_or_nothing};
 use kc_files::{Assign, FoundInLine, FragmentLines, Input, LineFact, MergeCounts, assign_at};
 use std::alloc::{AllocError, Global};
 
@@ -152,7 +151,7 @@ impl MergeText<'_, '_, '_> {
         text.push_str("asked ")?;
         push_asked(text, self.view, assign.symbol, &assign.value)?;
         text.push_str(", got ")?;
-        push_value(text, self.view, assign.symbol)?;
+        push_value_or_nothing(text, self.view, assign.symbol)?;
         text.push_str(": ")?;
         match self.giving.get(assign.symbol.0 as usize).copied().flatten() {
             Some(chooser) => {
@@ -200,7 +199,7 @@ fn push_lost_line(
     write!(text, "{path}:{number}: {name}: was ")?;
     push_asked(text, view, symbol, &line.assign.value)?;
     text.push_str(", is ")?;
-    push_value(text, view, symbol)?;
+    push_value_or_nothing(text, view, symbol)?;
     text.push_str(": ")?;
     push_shortfall(alloc, text, view, symbol, &line.assign.value)?;
     text.push('\n')?;

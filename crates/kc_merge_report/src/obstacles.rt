@@ -1,8 +1,7 @@
 //! What is in the way of a value that no user values give.
 
-use crate::shown_values::push_asked;
 use kc_bounds::{Bounds, TriSet};
-use kc_facts::{View, push_expr};
+use kc_facts::{View, push_asked, push_expr};
 use kc_files::Assign;
 use kc_how::{Cause, LackingCondition, LackingSymbol, Obstacle, obstacle_to};
 use kc_lines::type_words;
