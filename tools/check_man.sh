@@ -7,11 +7,11 @@
 # printed, and the status is 1,
 #
 # - for what groff warns of;
-# - for each target and each option of crates/kc_program/src that the page or a completion lacks;
-# - where the page, or the newest version in CHANGELOG.md, is another one than crates/kc_program/src/version.rt.
+# - for each target and each option of crates/kc_command_line/src that the page or a completion lacks;
+# - where the page, or the newest version in CHANGELOG.md, is another one than crates/kc_command_line/src/version.rt.
 set -eu
 root=$(dirname "$0")/..
-sources=$root/crates/kc_program/src
+sources=$root/crates/kc_command_line/src
 page=$root/docs/kconf.1
 status=0
 

@@ -11,8 +11,8 @@ the status is 1 where there is one. With --each the definitions of other files t
 which is no mistake.
 
 A public contract is what users of a crate see: the clauses of the functions that src/lib.rt exports, and those of the
-methods and traits, the fields and the `ghost` items of the types that it exports. Of kc_program, which nothing calls
-but kconf, every contract counts. Names are found by imports, so a bound variable that is called like an imported
+methods and traits, the fields and the `ghost` items of the types that it exports. Of kc_program and the two crates that
+it alone uses every contract counts, as no other program calls them. Names are found by imports, so a bound variable that is called like an imported
 definition counts as that definition: what is said not to be reached is not. A name that a file of specs/ passes on by
 `pub use` counts as the definition that it passes on.
 """
@@ -25,8 +25,8 @@ from typing import Dict, Iterable, Iterator, List, Set, Tuple
 
 from check_rules import CRATES, DOCS, cells_of, text_of
 
-# The crate of the program: what is promised of it is in the contracts of private functions.
-PROGRAM = "kc_program"
+# The crates of the program: what is promised of it is in the contracts of private functions.
+PROGRAM = ("kc_program", "kc_command_line", "kc_folder")
 
 # The heading of docs/PROOFS.md above the table.
 HEADING = "## Definitions that no public contract reaches"
@@ -181,7 +181,7 @@ def named_by_contracts(crate: Path) -> Iterator[Definition]:
         lines = without_comments(text_of(path), "//")
         imports = Imports().with_those_of([line for line in lines if line.startswith("ghost use ")])
         for item in items_of(lines):
-            part = without_bodies(item, True) if crate.name == PROGRAM else public_part(item, exported)
+            part = without_bodies(item, True) if crate.name in PROGRAM else public_part(item, exported)
             own = [line for line in part if line.strip().startswith("ghost use ")]
             text = "\n".join(line for line in part if line not in own)
             yield from imports.with_those_of(own).named_in(text)

@@ -60,8 +60,8 @@ copy_files() {
     cp --parents tools/install.sh tools/install.list "$1"
 }
 
-version=$(sed -n 's/^pub(crate) const VERSION: &str = "\(.*\)";$/\1/p' "$root/crates/kc_program/src/version.rt")
-[ -n "$version" ] || fail 'no version in crates/kc_program/src/version.rt'
+version=$(sed -n 's/^pub(crate) const VERSION: &str = "\(.*\)";$/\1/p' "$root/crates/kc_command_line/src/version.rt")
+[ -n "$version" ] || fail 'no version in crates/kc_command_line/src/version.rt'
 check_program "$version"
 epoch=${SOURCE_DATE_EPOCH:-$(git -C "$root" log -1 --format=%ct)}
 name=kconf-$version-x86_64$suffix

@@ -1,13 +1,4 @@
-pub mod Cuts
 pub mod Endings
 pub mod FaultNumbers
-pub mod FolderFaults
-pub mod Hints
-pub mod MakeText
-pub mod PathsFrom
-pub mod PathsRead
 pub mod SearchEndings
-pub mod Targets
 pub mod UnreadWords
-pub mod VariableLines
-pub mod Variables

@@ -1,10 +1,10 @@
 //! A `.config` that is passed as KCONFIG. Each of its lines defines a variable, so it is a Kconfig without a symbol, and no
 //! error.
 
-use crate::explanations::Wording;
 use crate::files::Files;
-use crate::folder::Folder;
 use crate::opening::Kconfig;
+use kc_command_line::Wording;
+use kc_folder::Folder;
 use std::io::Write;
 
 /// Asks whether a Kconfig is a `.config`, where its files define variables and no symbol, and words are wanted. What can't

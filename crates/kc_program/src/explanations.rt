@@ -1,46 +1,36 @@
 //! What is said of a fault in words: these, and the lines that show it.
 
 use crate::files::Files;
-use crate::folder::Folder;
 use crate::messages::{Fault, Report};
 use crate::notes::Note;
 use crate::opening::{ConfigFile, Kconfig};
 use crate::sourcing::{
     explain_recursion, explain_unread, explain_untrue, why_unread, words_of_bytes,
 };
+use kc_command_line::Wording;
 use kc_explain::{
     Explanation, Naming, WarnedFile, explain_choice, explain_line, explain_loop, explain_symbol,
     explain_text, explain_warnings, fault_meaning, warning_meaning,
 };
 use kc_files::Warning;
+use kc_folder::Folder;
 use kc_text::{Text, TextFault, TextProblem};
 use kc_tree::TreeFault;
 use std::alloc::{AllocError, Global};
 
-/// Whether words are written after the numbers of faults and warnings.
-#[derive(Clone, Copy, PartialEq, Eq)]
-pub enum Wording {
-    /// The number alone.
-    Number,
-    /// The number and what it means.
-    Explained,
+/// What is written after the number of a fault where no more is known.
+pub fn after_fault(wording: Wording, number: u8) -> Option<&'static str> {
+    match wording {
+        Wording::Number => None,
+        Wording::Explained => fault_meaning(number),
+    }
 }
 
-impl Wording {
-    /// What is written after the number of a fault where no more is known.
-    pub fn after_fault(self, number: u8) -> Option<&'static str> {
-        match self {
-            Wording::Number => None,
-            Wording::Explained => fault_meaning(number),
-        }
-    }
-
-    /// What is written after the number of a warning where no more is known.
-    pub fn after_warning(self, number: u8) -> Option<&'static str> {
-        match self {
-            Wording::Number => None,
-            Wording::Explained => warning_meaning(number),
-        }
+/// What is written after the number of a warning where no more is known.
+pub fn after_warning(wording: Wording, number: u8) -> Option<&'static str> {
+    match wording {
+        Wording::Number => None,
+        Wording::Explained => warning_meaning(number),
     }
 }
 

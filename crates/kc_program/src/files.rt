@@ -3,14 +3,12 @@
 ghost use Rattle.std.specs.Prelude.{◌≤◌, length};
 ghost use Rattle.kc_text.specs.declared.reading.TheConstants.{MOST_LINES};
 
-use crate::asked_folder::{AskedFolder, Unread};
-use crate::defined_names::add_defined_names;
-use crate::folder::Folder;
 use crate::messages::Fault;
 use crate::opening::Kconfig;
 use crate::wants::SourceLine;
 use bumpalo::Bump;
 use kc_check::without_strays;
+use kc_folder::{AskedFolder, Folder, Unread, add_defined_names};
 use kc_text::{
     FileFault, Library, Line, LinesFault, ReadFiles, TextFault, TextProblem, Texts, lines_from,
 };

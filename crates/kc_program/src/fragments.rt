@@ -1,11 +1,10 @@
 //! The fragments of `merge` and `how`.
 
-use crate::arguments::Arguments;
 use crate::explanations::{Input, report_of_inputs, report_of_long_config};
-use crate::folder::Folder;
 use crate::messages::{Fault, Report};
 use crate::opening::{ConfigFile, read_config_file};
-use crate::targets::Target;
+use kc_command_line::{Arguments, Target};
+use kc_folder::Folder;
 use std::alloc::Global;
 
 /// The fragments of a command line. Each has to be short enough for a `.config`.

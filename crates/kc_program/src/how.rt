@@ -10,12 +10,20 @@ use crate::messages::Status;
 use crate::report_texts::{input_of, read_again, status_of, unusable_words_of_files};
 use crate::reports::{Outcome, ReportInputs};
 use kc_bounds::bounds;
-use kc_merge_report::{EffectsBefore, HowCounts, LostLine, Need, effects_before, how_costs, push_how_counts, push_impossible, push_needed_line, push_not_found, push_unusable_lines};
 use kc_facts::View;
-use kc_files::{Assign, Input, Prefix, ReadFault, Warning, WarningKind, has_effect, read_config, read_fragments};
-use kc_how::{Changes, answer, first_impossible, fragment_text, named_symbols, needed_for, other_changes, plain_candidates, value_lines};
+use kc_files::{
+    Assign, Input, Prefix, ReadFault, Warning, WarningKind, has_effect, read_config, read_fragments,
+};
+use kc_how::{
+    Changes, answer, first_impossible, fragment_text, named_symbols, needed_for, other_changes,
+    plain_candidates, value_lines,
+};
 use kc_how_search::{Search, candidates};
 use kc_lines::LineIndex;
+use kc_merge_report::{
+    EffectsBefore, HowCounts, LostLine, Need, effects_before, how_costs, push_how_counts,
+    push_impossible, push_needed_line, push_not_found, push_unusable_lines,
+};
 use kc_report::push_definitions_of;
 use kc_session::{Body, Command, Reply, Session};
 use kc_tree::{SymId, Tree};

@@ -1,13 +1,13 @@
 //! The target `files`: the paths of the files that a Kconfig is read from.
 
 use crate::exchanged::ask_of_exchange;
-use crate::explanations::{Wording, report_of};
+use crate::explanations::report_of;
 use crate::files::Files;
-use crate::folder::Folder;
 use crate::messages::{Fault, Report, Status};
 use crate::opening::{Kconfig, open_kconfig};
-use crate::paths_read::paths_read;
 use bumpalo::Bump;
+use kc_command_line::Wording;
+use kc_folder::{Folder, paths_read};
 use kc_session::IoFault;
 use kc_value::Resolver;
 use std::alloc::Global;

@@ -3,8 +3,9 @@ ghost use Rattle.std.specs.Prelude.{◌≡◌};
 ghost use Rattle.kc_program.specs.Endings.{code_of};
 ghost use Rattle.kc_program.specs.FaultNumbers.{fault_number};
 
-use crate::explanations::Wording;
+use crate::explanations::{after_fault, after_warning};
 use crate::notes::Note;
+use kc_command_line::Wording;
 use kc_files::Warning;
 use kc_session::IoFault;
 use kc_text::{Text, TextFault};
@@ -80,7 +81,7 @@ impl Report {
     fn words(&self, number: u8) -> Option<&str> {
         match &self.note {
             Some(note) => Some(note.words.as_str()),
-            None => self.wording.after_fault(number),
+            None => after_fault(self.wording, number),
         }
     }
 }
@@ -158,7 +159,7 @@ fn write_warning_lines<E: Write>(
         write!(errors, "kconf: {path}:{}: warning {number}", warning.line)?;
         match words.and_then(|words| words.get(index)) {
             Some(words) => end_line(errors, Some(words.as_str()))?,
-            None => end_line(errors, wording.after_warning(number))?,
+            None => end_line(errors, after_warning(wording, number))?,
         }
     }
     Ok(())

@@ -5,9 +5,9 @@ ghost use Rattle.std.specs.Str.{IsUtf8};
 ghost use Rattle.std.specs.String.{string_bytes};
 
 use crate::files::Files;
-use crate::folder::{Folder, FolderFault};
 use crate::messages::Fault;
 use kc_files::{Prefix, Warning};
+use kc_folder::{Folder, FolderFault};
 use kc_session::{OpenFault, Session, open_lines};
 use kc_text::{Text, Vars};
 use std::alloc::Global;

@@ -2,7 +2,7 @@
 
 ghost use Rattle.std.specs.Prelude.{◌≡◌, OnSome};
 
-use crate::commands_read::CommandLine;
+use kc_command_line::CommandLine;
 use kc_explain::{RefusalWords, refusal_meaning};
 use std::alloc::Global;
 use std::cell::Cell;

@@ -2,16 +2,16 @@
 
 use crate::messages::Status;
 use crate::opening::ConfigFile;
-use crate::paths_read::paths_read;
 use crate::reports::{Outcome, ReportInputs};
 use kc_check::{CheckInputs, Judged, SourceText, check};
-use kc_merge_report::{effects_before, merge_report};
 use kc_explain::{Naming, WarnedFile, explain_warnings};
 use kc_facts::View;
 use kc_files::{ConfigLine, Input, LineSays, ReadFault, Warning, WarningKind, read_config_lines};
+use kc_folder::paths_read;
 use kc_line_facts::symbol_names;
 use kc_lines::LineIndex;
 use kc_menu::{Help, menu_text};
+use kc_merge_report::{effects_before, merge_report};
 use kc_names::{MeantNames, push_meant};
 use kc_report::{Extent, why_text};
 use kc_session::{Body, MergeFault, Session, merged};

@@ -1,13 +1,12 @@
 //! The targets that report on a Kconfig and its values: `why`, `check`, `merge`, `how` and `menu`. Their texts are made from the
 //! lines, which show where things are, and from the values of a session.
 
-use crate::arguments::Arguments;
 use crate::files::Files;
 use crate::how::how_outcome;
 use crate::messages::Status;
 use crate::opening::{ConfigFile, Kconfig, Opening};
 use crate::report_texts::{check_outcome, menu_outcome, merge_outcome, why_outcome};
-use crate::targets::Target;
+use kc_command_line::{Arguments, Target};
 use kc_files::Warning;
 use kc_session::{OpenFault, Session, open_lines};
 use kc_text::{Line, ReadFiles};

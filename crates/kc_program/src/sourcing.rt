@@ -1,11 +1,10 @@
 //! What is said of files that are wanted and can't be read, and of a file that sources itself.
 
 use crate::files::Files;
-use crate::folder::{Folder, FolderFault};
-use crate::known::{Known, path_of_source};
 use crate::opening::Kconfig;
 use crate::wants::source_lines_to;
 use kc_explain::{Explanation, line_of};
+use kc_folder::{Folder, FolderFault, Known, path_of_source};
 use kc_text::references_in;
 use std::alloc::{AllocError, Global};
 use std::str::from_utf8;

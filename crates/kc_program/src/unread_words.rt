@@ -3,8 +3,8 @@ ghost use Rattle.std.specs.Prelude.{◌≡◌};
 ghost use Rattle.std.specs.IoError.{error_kind};
 ghost use Rattle.kc_program.specs.UnreadWords.{ending_without_words};
 
-use crate::explanations::Wording;
 use crate::messages::{Fault, Report, Status, write_report};
+use kc_command_line::Wording;
 use std::io::{self, ErrorKind, Write};
 
 /// How the program ends where its words cannot be read: one that is not UTF-8 is a mistake of usage.

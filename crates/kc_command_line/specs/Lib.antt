@@ -1,0 +1,5 @@
+pub mod Hints
+pub mod MakeText
+pub mod Targets
+pub mod VariableLines
+pub mod Variables

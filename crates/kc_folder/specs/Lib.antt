@@ -1,0 +1,4 @@
+pub mod Cuts
+pub mod FolderFaults
+pub mod PathsFrom
+pub mod PathsRead

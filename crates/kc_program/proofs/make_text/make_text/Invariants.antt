@@ -1,7 +1,0 @@
-use Rattle.std.proofs.Common.{◌≡◌, map}
-use Rattle.std.specs.List.{flat_map}
-use Rattle.kc_program.specs.MakeText.{make_line}
-use Rattle.kc_program.proofs.make_text.make_text.Given as goal
-
-abbrev pub invariant-loop-line : goal.invariant-loop-line
-invariant-loop-line l = l.text.items ≡ flat_map make_line (map (λ line. line.now) l.yielded)

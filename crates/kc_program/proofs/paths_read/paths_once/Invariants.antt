@@ -1,6 +1,0 @@
-use Rattle.std.proofs.Common.{◌≡◌, ◌++◌, [], drop}
-use Rattle.kc_program.specs.PathsRead.{once}
-use Rattle.kc_program.proofs.paths_read.paths_once.Given as goal
-
-abbrev pub invariant-loop-end : goal.invariant-loop-end
-invariant-loop-end l = l.paths.items ++ once l.paths.items (drop l.end-index l.ends) ≡ once [] l.ends

@@ -1,7 +1,0 @@
-use Rattle.std.proofs.Common.{◌≡◌, map}
-use Rattle.std.specs.List.{filter_map}
-use Rattle.kc_program.specs.VariableLines.{line_variable}
-use Rattle.kc_program.proofs.variables_file.variables_in.Given as goal
-
-abbrev pub invariant-loop-line : goal.invariant-loop-line
-invariant-loop-line l = map (λ v. (v.0.now, v.1.now)) l.variables.items ≡ filter_map line_variable (map (λ line. line.now) l.yielded)
