@@ -7,7 +7,7 @@ use bumpalo::Bump;
 use bumpalo::collections::into_bump_slice;
 use kc_tree::Seed;
 use std::alloc::{AllocError, Allocator, Global};
-use std::fs;
+use std::fs::{self, OpenFile};
 use std::io::{self, ErrorKind, Read};
 use std::random::RandomSource;
 use std::rt::Files;
@@ -125,15 +125,12 @@ impl<R: Files> SystemFolder<'_, R> {
         }
     }
 
-    /// The bytes of the file of a path, which are expected to be of a number.
-    fn read_expected<A: Allocator>(
-        &self,
-        alloc: A,
-        path: &str,
-        expected: u64,
-    ) -> Result<Vec<u8, A>, FolderFault> {
-        let mut file = fs::open(self.rt, path)?.take(MOST_READ);
-        let expected = expected.min(MOST_EXPECTED) as usize;
+    /// The bytes of the file of a path. The system is asked for their number once the file is open, since a path costs more
+    /// than a file that is open.
+    fn read_whole<A: Allocator>(&self, alloc: A, path: &str) -> Result<Vec<u8, A>, FolderFault> {
+        let file = fs::open(self.rt, path)?;
+        let expected = file.metadata()?.len().min(MOST_EXPECTED) as usize;
+        let mut file = file.take(MOST_READ);
         let Ok(mut bytes) = vec![in alloc; 0u8; expected + 1] else {
             return Err(FolderFault::NoMemory);
         };
@@ -186,8 +183,7 @@ fn reason_of(kind: ErrorKind) -> &'static str
 
 impl<R: Files + RandomSource> Folder for SystemFolder<'_, R> {
     fn read_bytes(&self, alloc: Global, path: &str) -> Result<Vec<u8>, FolderFault> {
-        let metadata = fs::metadata(self.rt, path)?;
-        self.read_expected(alloc, path, metadata.len())
+        self.read_whole(alloc, path)
     }
 
     fn read_kept<'a>(
@@ -196,8 +192,7 @@ impl<R: Files + RandomSource> Folder for SystemFolder<'_, R> {
         arena: &'a Bump,
         path: &str,
     ) -> Result<&'a [u8], FolderFault> {
-        let metadata = fs::metadata(self.rt, path)?;
-        let bytes = self.read_expected(arena, path, metadata.len())?;
+        let bytes = self.read_whole(arena, path)?;
         Ok(into_bump_slice(bytes))
     }
 
@@ -211,7 +206,7 @@ impl<R: Files + RandomSource> Folder for SystemFolder<'_, R> {
     fn read_plain(&self, alloc: Global, path: &str) -> Result<Vec<u8>, FolderFault> {
         let metadata = fs::metadata(self.rt, path)?;
         if metadata.is_file() && metadata.len() <= MOST_EXPECTED {
-            self.read_expected(alloc, path, metadata.len())
+            self.read_whole(alloc, path)
         } else {
             Err(FolderFault::CannotRead)
         }
