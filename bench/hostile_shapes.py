@@ -99,7 +99,7 @@ SHAPES += [
     ("chain of dependencies, how", "how", "symbol", 6_000, 60_000, 1),
     ("fan, how", "how", "symbol", 6_000, 60_000, 0),
     ("any of many, how", "how", "name", 600, 6_000, 0),
-    ("all of many, how", "how", "name", 600, 6_000, 1),
+    ("all of many, how", "how", "name", 1_500, 6_000, 1),
 ]
 LINES = ("empty lines", "blanks", "`#`", "`config A`", "`default y`", '`comment "c"`', "menus", "`if A`", "`A&&A`", "variables")
 SHAPES += [(f"all {what}", "olddefconfig", "byte", MIB16 // 10, MIB16, 0) for what in LINES]
